@@ -1,0 +1,5 @@
+pub mod Word
+pub mod Instruction
+pub mod Form
+pub mod Arithmetic
+pub mod Outcome
