@@ -1,0 +1,115 @@
+ghost use Rattle.std.specs.Prelude.{◌≡◌, ◌↔◌, ◌<◌, ◌^◌, Option, Some, None};
+ghost use Rattle.instruction_model.specs.Form.{HasFields};
+ghost use Rattle.instruction_model.specs.Instruction.{spelled, Spells};
+ghost use Rattle.instruction_model.specs.declared.Instruction.{Instruction};
+
+use crate::decoding::instruction_of;
+use crate::encoding::word_of;
+use instruction_model::Instruction;
+use std::marker::Model;
+
+/// An instruction that some word spells.
+#[derive(Clone, Copy, Debug, PartialEq, Eq)]
+pub struct Instr {
+    instruction: Instruction,
+}
+
+impl Model for Instr {
+    ghost use Rattle.instruction_model.specs.declared.Instruction.{Instruction};
+    ghost use Rattle.instruction_model.specs.Instruction.{IsSpelled};
+
+    ghost Value = { Instruction };
+
+    ghost view = { λ i. i.instruction };
+
+    ghost invariant = { λ i. IsSpelled i.instruction };
+
+    ghost inverse = { λ i. record { instruction = i } };
+}
+
+impl Instr {
+    /// An instruction whose registers and immediate fit its format.
+    pub fn new(instruction: Instruction) -> Instr
+        requires { HasFields instruction }
+        ensures { result ≡ instruction }
+    {
+        // the word that spells it, which the type's invariant asks for
+        let _word = word_of(instruction);
+        Instr { instruction }
+    }
+
+    /// The instruction, whose registers and immediate fit its format.
+    #[inline(always)]
+    #[tactic(auto, using(instruction_model::proofs::Fields::has_fields))]
+    pub fn instruction(self) -> Instruction
+        ensures value { result ≡ self }
+        ensures fields { HasFields result }
+    {
+        self.instruction
+    }
+}
+
+/// The instruction that a word spells, None exactly where it spells none (RISC-V Unprivileged ISA, RV32I instruction set
+/// listing).
+#[inline(always)]
+#[tactic(auto, using(instruction_model::proofs::Listing::spells_is_spelled))]
+pub fn decode(word: u32) -> Option<Instr>
+    ensures value { result ≡ spelled word }
+    ensures row { (i : Instruction) → Spells word i ↔ (result ≡ Some i) }
+{
+    match instruction_of(word) {
+        Some(instruction) => Some(Instr { instruction }),
+        None => None,
+    }
+}
+
+/// The word that spells an instruction; of those that spell FENCE, 0x0FF0000F.
+pub fn encode(instr: Instr) -> u32
+    ensures word { spelled result ≡ Some instr }
+    ensures fence { instr ≡ Instruction.Fence → result ≡ 0x0FF0000F }
+{
+    word_of(instr.instruction())
+}
+
+/// Decodes what it encodes: the same instruction comes out.
+pub fn decode_encoded(instr: Instr) -> Option<Instr>
+    ensures { result ≡ Some instr }
+{
+    decode(encode(instr))
+}
+
+#[cfg(test)]
+mod tests {
+    use super::*;
+    use instruction_model::{Comparison, LoadKind, Operation, Width};
+    use std::test::Fail;
+
+    #[test]
+    fn words_of_the_manual(rt: HostRuntime) -> Result<(), Fail> {
+        let zero = Instruction::OperateImmediate {
+            operation: Operation::Add,
+            rd: 0,
+            rs1: 0,
+            immediate: 0,
+        };
+        let shift = Instruction::OperateImmediate {
+            operation: Operation::Sra,
+            rd: 0,
+            rs1: 0,
+            immediate: 0,
+        };
+        let table = [
+            (0x0000_0013, Some(zero)),
+            (0x4000_5013, Some(shift)),
+            (0x0ff0_000f, Some(Instruction::Fence)),
+            (0x4000_1013, None),
+            (0x0000_100f, None),
+            (0x0200_0033, None),
+            (0xffff_ffff, None),
+        ];
+        for (word, want) in table {
+            assert_eq!(rt; decode(word).map(Instr::instruction), want, "at {word}");
+        }
+        Ok(())
+    }
+}

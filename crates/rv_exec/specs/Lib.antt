@@ -1,0 +1,4 @@
+pub mod Access
+pub mod Steps
+pub mod Window
+pub mod WindowLaws

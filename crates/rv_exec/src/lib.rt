@@ -1,0 +1,14 @@
+//! One instruction of RV32I over any bus (RISC-V Unprivileged ISA, RV32I base integer instruction set).
+#![tactic(auto)]
+
+mod arithmetic;
+mod bus;
+mod regs;
+mod stepping;
+#[cfg(test)]
+mod tests;
+
+pub use bus::{Bus, Fault, StoreFault};
+pub use regs::Regs;
+pub use rv_decode::Width;
+pub use stepping::{Stepped, step};
