@@ -1,0 +1,25 @@
+-- A page of 4,096 bytes, as the list of its bytes.
+use Rattle.std.specs.Prelude.{◌≡◌, ℕ, ◌+◌, ◌/◌, ◌%◌, ◌<◌, List, ◌++◌, take, drop, length, slice_index, slice_set}
+use Rattle.memory_model.specs.declared.Width.{Width}
+use Rattle.memory_model.specs.declared.Width.TheVariants.{One, Two, Four}
+use Rattle.page_store.specs.declared.PageRef.{PageRef}
+use Rattle.page_store.specs.declared.PageRef.TheVariants.{Own}
+
+-- the bytes that a reference to a page leads to
+abbrev pub bytes_of : PageRef → List ℕ
+bytes_of (Own page) = page.value.bytes
+
+-- 4,096 numbers below 256
+pub record IsPage (bytes : List ℕ) : Type 0 where
+  pub sized : length bytes ≡ 4096
+  pub small : (k : ℕ) → slice_index bytes k < 256
+
+-- a number's lowest bytes at a place of a page, the least first
+abbrev pub with_number_in : List ℕ → ℕ → Width → ℕ → List ℕ
+with_number_in bytes at One v = slice_set bytes at (v % 256)
+with_number_in bytes at Two v = slice_set (slice_set bytes at (v % 256)) (at + 1) (v / 256 % 256)
+with_number_in bytes at Four v = slice_set (slice_set (slice_set (slice_set bytes at (v % 256)) (at + 1) (v / 256 % 256)) (at + 2) (v / 65536 % 256)) (at + 3) (v / 16777216 % 256)
+
+-- these bytes from a place of a page on, between what stands before and after them
+abbrev pub overwritten : List ℕ → ℕ → List ℕ → List ℕ
+overwritten page at bytes = take at page ++ (bytes ++ drop (at + length bytes) page)

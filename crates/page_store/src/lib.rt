@@ -1,0 +1,225 @@
+//! Pages of 4,096 bytes.
+#![tactic(auto)]
+
+ghost use Rattle.std.specs.Prelude.{◌≡◌, ◌↔◌, ℕ, ◌<◌, ◌+◌, ◌%◌, ◌≤◌, IfOk, IsOk, IsTrue, OnOk, OnErr, length, slice_index, slice_set};
+ghost use Rattle.page_store.specs.Bytes.{bytes_of, IsPage, with_number_in, overwritten};
+ghost use Rattle.memory_model.specs.Memory.{number_from, width_bytes};
+
+use memory_model::Width;
+use std::alloc::{AllocError, Global};
+
+/// 4,096 bytes.
+#[derive(Drop)]
+pub struct Page {
+    pub bytes: [u8; 4096],
+}
+
+/// A page that is held. Contracts see it by its bytes, `bytes_of`.
+#[derive(Drop)]
+pub enum PageRef {
+    /// A page of its holder's own.
+    Own(Box<Page, Global>),
+}
+
+impl PageRef {
+    /// A page of zeros. Its one error is want of memory.
+    pub fn zeroed(alloc: Global) -> Result<PageRef, AllocError>
+        ensures zeros { IfOk result (λ page. (k : ℕ) → slice_index (bytes_of page) k ≡ 0) }
+        ensures whole { IfOk result (λ page. IsPage (bytes_of page)) }
+    {
+        let page = Box::new(alloc, Page { bytes: [0; 4096] })?;
+        let page = PageRef::Own(page);
+        let _bytes = page.bytes();
+        Ok(page)
+    }
+
+    /// A page of the same bytes. Its one error is want of memory.
+    pub fn copied(&self, alloc: Global) -> Result<PageRef, AllocError>
+        ensures { IfOk result (λ page. bytes_of page ≡ bytes_of self.now) }
+    {
+        match self {
+            PageRef::Own(page) => {
+                let copy = Box::new(alloc, Page { bytes: page.bytes })?;
+                Ok(PageRef::Own(copy))
+            }
+        }
+    }
+
+    /// The page's bytes.
+    #[inline(always)]
+    pub fn bytes(&self) -> &[u8; 4096]
+        ensures bytes { result.now ≡ bytes_of self.now }
+        ensures whole { IsPage (bytes_of self.now) }
+    {
+        match self {
+            PageRef::Own(page) => whole(&page.bytes),
+        }
+    }
+
+    /// Makes the byte at `at`, below 4,096, `value`. An own page takes no memory.
+    #[inline(always)]
+    pub fn write_byte(&mut self, at: u16, value: u8) -> Result<(), AllocError>
+        requires { at < 4096 }
+        ensures ok { OnOk result (bytes_of self.new ≡ slice_set (bytes_of self.old) at value) }
+        ensures own { IsOk result }
+    {
+        match self {
+            PageRef::Own(page) => page.bytes[at as usize] = value,
+        }
+        Ok(())
+    }
+
+    /// The number of `width` bytes at `at`, which lies below 4,096 and is a multiple of the width. The least byte comes first.
+    #[inline(always)]
+    pub fn number(&self, at: u16, width: Width) -> u32
+        requires within { at < 4096 }
+        requires aligned { at % width_bytes width ≡ 0 }
+        ensures { result ≡ number_from (λ k. slice_index (bytes_of self.now) k) width at }
+    {
+        number_in(self.bytes(), at as usize, width)
+    }
+
+    /// Writes the lowest `width` bytes of `value` at `at`, which lies below 4,096 and is a multiple of the width, the least
+    /// first. An own page takes no memory.
+    #[inline(always)]
+    pub fn write_number(&mut self, at: u16, width: Width, value: u32) -> Result<(), AllocError>
+        requires within { at < 4096 }
+        requires aligned { at % width_bytes width ≡ 0 }
+        ensures ok { OnOk result (bytes_of self.new ≡ with_number_in (bytes_of self.old) at width value) }
+        ensures own { IsOk result }
+    {
+        match self {
+            PageRef::Own(page) => write_number_in(&mut page.bytes, at as usize, width, value),
+        }
+        Ok(())
+    }
+
+    /// Writes `bytes` from `at` on; they end within the page. An own page takes no memory.
+    pub fn write_bytes(&mut self, at: u16, bytes: &[u8]) -> Result<(), AllocError>
+        requires { at + length bytes.now ≤ 4096 }
+        ensures ok { OnOk result (bytes_of self.new ≡ overwritten (bytes_of self.old) at bytes.now) }
+        ensures own { IsOk result }
+    {
+        match self {
+            PageRef::Own(page) => overwrite(&mut page.bytes, at as usize, bytes),
+        }
+        Ok(())
+    }
+
+    /// Whether every byte is 0.
+    pub fn is_zero(&self) -> bool
+        ensures { IsTrue result ↔ ((k : ℕ) → slice_index (bytes_of self.now) k ≡ 0) }
+    {
+        all_zero(self.bytes())
+    }
+
+    /// Whether two pages have the same bytes.
+    pub fn has_bytes_of(&self, other: &PageRef) -> bool
+        ensures { IsTrue result ↔ (bytes_of self.now ≡ bytes_of other.now) }
+    {
+        self.bytes() == other.bytes()
+    }
+}
+
+// The same bytes, whose type keeps how many they are and that each is below 256.
+#[inline(always)]
+fn whole(bytes: &[u8; 4096]) -> &[u8; 4096]
+    ensures bytes { result.now ≡ bytes.now }
+    ensures whole { IsPage bytes.now }
+{
+    let _bytes = small(bytes);
+    bytes
+}
+
+// The same bytes, each below 256.
+#[inline(always)]
+fn small(bytes: &[u8]) -> &[u8]
+    ensures bytes { result.now ≡ bytes.now }
+    ensures small { (k : ℕ) → slice_index bytes.now k < 256 }
+{
+    bytes
+}
+
+// The number of `width` bytes at `at`.
+#[inline(always)]
+fn number_in(bytes: &[u8; 4096], at: usize, width: Width) -> u32
+    requires within { at < 4096 }
+    requires aligned { at % width_bytes width ≡ 0 }
+    ensures { result ≡ number_from (λ k. slice_index bytes.now k) width at }
+{
+    match width {
+        Width::One => u32::from(bytes[at]),
+        Width::Two => u32::from(bytes[at]) + 256 * u32::from(bytes[at + 1]),
+        Width::Four => {
+            u32::from(bytes[at])
+                + 256 * u32::from(bytes[at + 1])
+                + 65536 * u32::from(bytes[at + 2])
+                + 16777216 * u32::from(bytes[at + 3])
+        }
+    }
+}
+
+// The lowest `width` bytes of the value, at `at`.
+#[inline(always)]
+fn write_number_in(bytes: &mut [u8; 4096], at: usize, width: Width, value: u32)
+    requires within { at < 4096 }
+    requires aligned { at % width_bytes width ≡ 0 }
+    ensures { bytes.new ≡ with_number_in bytes.old at width value }
+{
+    match width {
+        Width::One => bytes[at] = (value % 256) as u8,
+        Width::Two => {
+            bytes[at] = (value % 256) as u8;
+            bytes[at + 1] = (value / 256 % 256) as u8;
+        }
+        Width::Four => {
+            bytes[at] = (value % 256) as u8;
+            bytes[at + 1] = (value / 256 % 256) as u8;
+            bytes[at + 2] = (value / 65536 % 256) as u8;
+            bytes[at + 3] = (value / 16777216 % 256) as u8;
+        }
+    }
+}
+
+// These bytes from `at` on.
+fn overwrite(page: &mut [u8; 4096], at: usize, bytes: &[u8])
+    requires { at + length bytes.now ≤ 4096 }
+    ensures { page.new ≡ overwritten page.old at bytes.now }
+{
+    page[at..at + bytes.len()].copy_from_slice(bytes);
+}
+
+// Whether every byte is 0: all are joined, with no branch between them.
+fn all_zero(bytes: &[u8; 4096]) -> bool
+    ensures { IsTrue result ↔ ((k : ℕ) → slice_index bytes.now k ≡ 0) }
+{
+    let mut joined = 0;
+    for byte in bytes {
+        joined |= *byte;
+    }
+    joined == 0
+}
+
+#[cfg(test)]
+mod tests {
+    use super::*;
+    use std::test::Fail;
+
+    #[test]
+    fn pages(rt: HostRuntime) -> Result<(), Fail> {
+        let alloc = rt.alloc();
+        let mut page = PageRef::zeroed(alloc)?;
+        assert!(rt; page.is_zero());
+        let other = page.copied(alloc)?;
+        page.write_byte(4095, 1)?;
+        page.write_number(8, Width::Four, 0x0403_0201)?;
+        page.write_bytes(100, b"page")?;
+        assert!(rt; !page.is_zero());
+        assert!(rt; other.is_zero());
+        assert!(rt; !page.has_bytes_of(&other));
+        assert_eq!(rt; page.number(10, Width::Two), 0x0403);
+        assert_eq!(rt; page.number(4095, Width::One), 1);
+        assert_eq!(rt; page.bytes()[103], b'e');
+        Ok(())
+    }
+}

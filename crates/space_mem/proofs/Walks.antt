@@ -1,0 +1,94 @@
+-- What a walk over the runs gives.
+use Rattle.std.specs.Prelude.{◌≡◌, ℕ, ◌+◌, ◌*◌, ◌<◌, ◌≤◌, List, [], ◌∷◌, ◌++◌, take, length, slice_index, Option, Some, None, IfSome}
+use Rattle.std.proofs.Common.{refl, sym, ◌∙◌, ap, arith, get_or, subst, inl, inr}
+use Rattle.std.proofs.lemmas.Bool.{cases_lt}
+use Rattle.std.proofs.lemmas.List.{take_more, take_all}
+use Rattle.memory_model.specs.Ranges.{with_page, IsPageOf}
+use Rattle.memory_model.proofs.Rows.{value_at-row, value_at-row_before, value_at-row_after}
+use Rattle.page_store.specs.declared.PageRef.{PageRef}
+use Rattle.page_store.specs.Bytes.{bytes_of, IsPage}
+use Rattle.space_mem.specs.declared.layout.Run.{Run}
+use Rattle.space_mem.specs.Runs.{end_of, run_of, permission_of, byte_in, byte_of, IsKept, memory_of, Ordered, SamePages, SetsPage, IsCopy, AreCopies, IsFound}
+use Rattle.space_mem.proofs.Places.{read_at}
+use Rattle.space_mem.proofs.Lookups.{run_of-here, run_of-before, run_of-after, cases_run}
+use Rattle.space_mem.proofs.Memories.{memory_same, edited_is, byte_at-page}
+use Rattle.space_mem.proofs.Readings.{found_run}
+
+-- a page that was put
+pub put : (page : ℕ) (bytes : List ℕ) (rs ss ts : List Run) → Ordered 0 1048576 ss → Ordered 0 1048576 ts → SamePages ss rs → SetsPage page bytes ss ts → memory_of ts ≡ with_page (memory_of rs) page bytes
+put page bytes rs ss ts o q same sets =
+    edited_is page bytes ss ts (with_page (memory_of ss) page bytes) o q sets (record {
+      here = λ k below. value_at-row (memory_of ss).bytes (4096 * page) (slice_index bytes) 4096 k below;
+      other = λ a other. elim (cases_lt a (4096 * page)) [
+        | inl before ↦ value_at-row_before (memory_of ss).bytes (4096 * page) (slice_index bytes) 4096 a before
+        | inr from ↦ value_at-row_after (memory_of ss).bytes (4096 * page) (slice_index bytes) 4096 a (elim (cases_lt a (4096 * page + 4096)) [ inl in_page ↦ absurd (other (omega arith)) | inr past ↦ past ])
+      ];
+      permission = λ p. refl;
+    })
+    ∙ ap (λ m. with_page m page bytes) (memory_same ss rs same)
+
+-- the bytes that a page's run keeps
+kept_page : (o : Option PageRef) (n : ℕ) (p : PageRef) → IsKept o n → o ≡ Some p → IsPage (bytes_of p)
+kept_page None n p kept is = cc
+kept_page (Some q) n p kept is =
+    let same : q ≡ p = cc in subst (λ x. IsPage (bytes_of x)) same kept.1
+
+pub page_of : (page : ℕ) (rs : List Run) (i : ℕ) (r : Run) (p : PageRef) → Ordered 0 1048576 rs → IsFound page rs i → r ≡ get_or rs i r → r.page ≡ Some p → IsPageOf (memory_of rs) page (bytes_of p)
+page_of page rs i r p o found is kept = record {
+  sized = (kept_page r.page r.count p (read_at 0 1048576 rs i r o found.in_range is).run.kept kept).sized;
+  byte = λ k below. byte_at-page rs o page k below ∙ ap (λ x. byte_of x k) (found_run page rs i r o found is) ∙ ap (λ x. byte_in x k) kept;
+}
+
+-- copies
+pub copies_push : (rs ss : List Run) (r s : Run) → AreCopies rs ss → IsCopy r s → AreCopies (rs ++ r ∷ []) (ss ++ s ∷ [])
+copies_push [] [] r s all one = (one, tt)
+copies_push [] (y ∷ ss) r s all one = absurd all
+copies_push (x ∷ rs) [] r s all one = absurd all
+copies_push (x ∷ rs) (y ∷ ss) r s all one = (all.0, copies_push rs ss r s all.1 one)
+
+pub copies_ordered : (low high : ℕ) (rs ss : List Run) → AreCopies rs ss → Ordered low high rs → Ordered low high ss
+copies_ordered low high [] [] all o = o
+copies_ordered low high [] (s ∷ ss) all o = absurd all
+copies_ordered low high (r ∷ rs) [] all o = absurd all
+copies_ordered low high (r ∷ rs) (s ∷ ss) all o =
+    let to : end_of r ≡ end_of s = omega (arith, all.0.first, all.0.count) in
+    (all.0.run, (omega (arith, o.1.0, all.0.first), copies_ordered (end_of s) high rs ss all.1 (subst (λ n. Ordered n high rs) to o.1.1)))
+
+copied_page : (rs ss : List Run) → AreCopies rs ss → (p : ℕ) → (permission_of (run_of ss p) ≡ permission_of (run_of rs p)) × ((k : ℕ) → byte_of (run_of ss p) k ≡ byte_of (run_of rs p) k)
+copied_page [] [] all p = (refl, λ k. refl)
+copied_page [] (s ∷ ss) all p = absurd all
+copied_page (r ∷ rs) [] all p = absurd all
+copied_page (r ∷ rs) (s ∷ ss) all p =
+    let rest = copied_page rs ss all.1 p in
+    elim (cases_run r p) [
+      | inl before ↦
+          let e = run_of-before s ss p (omega (arith, all.0.first)) in
+          let f = run_of-before r rs p before in
+          (ap permission_of e ∙ rest.0 ∙ sym (ap permission_of f), λ k. ap (λ o. byte_of o k) e ∙ rest.1 k ∙ sym (ap (λ o. byte_of o k) f))
+      | inr later ↦ elim later [
+        | inl within ↦
+            let e = run_of-here s ss p (omega (arith, within.0, all.0.first)) (omega (arith, within.1, all.0.first, all.0.count)) in
+            let f = run_of-here r rs p within.0 within.1 in
+            (ap permission_of e ∙ all.0.permission ∙ sym (ap permission_of f), λ k. ap (λ o. byte_of o k) e ∙ all.0.byte k ∙ sym (ap (λ o. byte_of o k) f))
+        | inr after ↦
+            let e = run_of-after s ss p (omega (arith, after, all.0.first, all.0.count)) in
+            let f = run_of-after r rs p after in
+            (ap permission_of e ∙ rest.0 ∙ sym (ap permission_of f), λ k. ap (λ o. byte_of o k) e ∙ rest.1 k ∙ sym (ap (λ o. byte_of o k) f))
+      ]
+    ]
+
+pub copies_same : (rs ss : List Run) → AreCopies rs ss → SamePages ss rs
+copies_same rs ss all = record { permission = λ p. (copied_page rs ss all p).0; byte = λ p. (copied_page rs ss all p).1 }
+
+pub if_some : {T : Type 0} (o : Option T) (P Q : T → Type 0) → IfSome o P → ((x : T) → P x → Q x) → IfSome o Q
+if_some None P Q h f = tt
+if_some (Some x) P Q h f = f x h
+
+-- a turn of the loop that copies
+pub copied_turn : (rs ss ts : List Run) (i : ℕ) (r s : Run) → i < length rs → r ≡ get_or rs i r → AreCopies (take i rs) ss → IsCopy r s → ts ≡ ss ++ s ∷ [] → AreCopies (take (i + 1) rs) ts
+copied_turn rs ss ts i r s within is all one more =
+    let e : take (i + 1) rs ≡ take i rs ++ r ∷ [] = take_more rs i r within ∙ ap (λ x. take i rs ++ x ∷ []) (sym is) in
+    subst (λ l. AreCopies l ts) (sym e) (subst (AreCopies (take i rs ++ r ∷ [])) (sym more) (copies_push (take i rs) ss r s all one))
+
+pub copied_all : (rs ss : List Run) (i : ℕ) → length rs ≤ i → AreCopies (take i rs) ss → AreCopies rs ss
+copied_all rs ss i past all = subst (λ l. AreCopies l ss) (take_all i rs past) all

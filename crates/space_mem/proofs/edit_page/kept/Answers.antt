@@ -1,0 +1,19 @@
+use Rattle.std.proofs.Common.{sym, refl, subst, ◌≤◌, ◌<◌, Some, None}
+use Rattle.space_mem.specs.Runs.{end_of}
+use Rattle.space_mem.proofs.Readings.{found_run}
+use Rattle.space_mem.proofs.Writes.{keeps_entry, zero_page, no_bytes}
+use Rattle.space_mem.proofs.edit_page.kept.Goals as goal
+
+pub returns-in_err-place-clause-none : goal.returns-in_err-place-clause-none
+returns-in_err-place-clause-none c none = zero_page c.args.page _ None c.requires.ordered (c.in_err-place.ensures.none refl) (λ k. refl)
+
+pub returns-then-is_some-clause-some : goal.returns-then-is_some-clause-some
+returns-then-is_some-clause-some c =
+    let found = c.in_ok-place.ensures.some in
+    let r = c.index-runs-place.result in
+    keeps_entry c.args.page _ c.in_ok-place.place r c.requires.ordered found.in_range c.index-runs-place.is
+    (subst (λ x. x.first ≤ c.args.page) (sym c.index-runs-place.is) (found.from r)) (subst (λ x. c.args.page < end_of x) (sym c.index-runs-place.is) (found.to r)) (sym c.if-is_some.ensures)
+
+pub returns-clause-none : goal.returns-clause-none
+returns-clause-none c none =
+    zero_page c.args.page _ (Some c.index-runs-place.result) c.requires.ordered (found_run c.args.page _ _ _ c.requires.ordered c.in_ok-place.ensures.some c.index-runs-place.is) (no_bytes _ (sym c.if-is_some.ensures))

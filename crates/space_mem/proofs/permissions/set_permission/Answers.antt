@@ -1,0 +1,16 @@
+use Rattle.std.proofs.Common.{◌∙◌, ◌-◌, ap}
+use Rattle.memory_model.specs.Memory.{with_permissions}
+use Rattle.space_mem.proofs.Memories.{memory_same}
+use Rattle.space_mem.proofs.Ranges.{refilled}
+use Rattle.space_mem.proofs.permissions.set_permission.Goals as goal
+
+pub returns-clause-ordered : goal.returns-clause-ordered
+returns-clause-ordered c =
+    let span = c.in_ok-span.ensures in
+    (refilled c.args.first c.args.end c.args.permission _ _ _ _ span.span c.in_ok-refill.ensures.ok span.ordered c.requires.rise).0
+
+pub returns-clause-ok : goal.returns-clause-ok
+returns-clause-ok c =
+    let span = c.in_ok-span.ensures in
+    (refilled c.args.first c.args.end c.args.permission _ _ _ _ span.span c.in_ok-refill.ensures.ok span.ordered c.requires.rise).1
+    ∙ ap (λ m. with_permissions m c.args.first (c.args.end - c.args.first) c.args.permission) (memory_same _ _ span.same)

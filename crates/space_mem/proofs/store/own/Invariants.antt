@@ -1,0 +1,5 @@
+use Rattle.space_mem.specs.Runs.{Ordered, SamePages}
+use Rattle.space_mem.proofs.store.own.Given as goal
+
+abbrev pub invariant-loop-page : goal.invariant-loop-page
+invariant-loop-page l = record { ordered : Ordered 0 1048576 l.runs.items; same : SamePages l.runs.items l.fn.runs.items }

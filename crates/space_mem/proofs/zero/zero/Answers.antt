@@ -1,0 +1,14 @@
+use Rattle.std.proofs.Common.{◌∙◌, ◌-◌, ap}
+use Rattle.memory_model.specs.Ranges.{with_zeros}
+use Rattle.space_mem.proofs.Memories.{memory_same}
+use Rattle.space_mem.proofs.Zeros.{zeroed}
+use Rattle.space_mem.proofs.zero.zero.Goals as goal
+
+pub returns-clause-ordered : goal.returns-clause-ordered
+returns-clause-ordered c = let span = c.in_ok-span.ensures in (zeroed c.args.first c.args.end _ _ _ _ span.span c.clear.ensures span.ordered c.requires.rise).0
+
+pub returns-clause-ok : goal.returns-clause-ok
+returns-clause-ok c =
+    let span = c.in_ok-span.ensures in
+    (zeroed c.args.first c.args.end _ _ _ _ span.span c.clear.ensures span.ordered c.requires.rise).1
+    ∙ ap (λ m. with_zeros m c.args.first (c.args.end - c.args.first)) (memory_same _ _ span.same)

@@ -1,0 +1,149 @@
+ghost use Rattle.std.specs.Prelude.{◌≡◌, ℕ, ◌+◌, ◌/◌, ◌%◌, ◌<◌, ◌≤◌, ◌==◌, length, IfSome, IsNone, if◌then◌else◌, slice_index_or};
+ghost use Rattle.memory_model.specs.Memory.{number_from, width_bytes, byte_at, permission_at, may_read, may_write};
+ghost use Rattle.memory_model.specs.Ranges.{IsBounded};
+ghost use Rattle.space_mem.specs.Runs.{Ordered, memory_of, run_of, byte_in, IsFound};
+
+use crate::layout::Run;
+use crate::search::place;
+use memory_model::Width;
+use std::cell::Cell;
+
+// The index of the run that has a page.
+pub fn found(runs: &[Run], page: u32) -> Option<usize>
+    requires { Ordered 0 1048576 runs.now }
+    ensures some { IfSome result (IsFound page runs.now) }
+    ensures none { IsNone result → run_of runs.now page ≡ None }
+{
+    let at = place(runs, page);
+    if at < runs.len() && runs[at].first <= page {
+        return Some(at);
+    }
+    None
+}
+
+// The number of `width` bytes at an aligned address, if it may be read. The run that was asked last is tried first.
+#[inline(always)]
+pub fn load(runs: &[Run], last: &Cell<usize>, at: u32, width: Width) -> Option<u32>
+    requires ordered { Ordered 0 1048576 runs.now }
+    requires aligned { at % width_bytes width ≡ 0 }
+    ensures { let m = memory_of runs.now in result ≡ (if may_read m at then Some (number_from (byte_at m) width at) else None) }
+{
+    let asked = last.get();
+    if asked < runs.len() {
+        let run = &runs[asked];
+        if run.first == at / 4096 {
+            return load_in(run, (at % 4096) as u16, width);
+        }
+    }
+    load_slow(runs, last, at, width)
+}
+
+#[inline(never)]
+fn load_slow(runs: &[Run], last: &Cell<usize>, at: u32, width: Width) -> Option<u32>
+    requires ordered { Ordered 0 1048576 runs.now }
+    requires aligned { at % width_bytes width ≡ 0 }
+    ensures { let m = memory_of runs.now in result ≡ (if may_read m at then Some (number_from (byte_at m) width at) else None) }
+{
+    match found(runs, at / 4096) {
+        Some(place) => {
+            last.set(place);
+            load_in(&runs[place], (at % 4096) as u16, width)
+        }
+        None => None,
+    }
+}
+
+// The number at a place of a run's page, if the run may be read.
+#[inline(always)]
+fn load_in(run: &Run, at: u16, width: Width) -> Option<u32>
+    requires within { at < 4096 }
+    requires aligned { at % width_bytes width ≡ 0 }
+    ensures { result ≡ (if run.now.permission % 2 == 1 then Some (number_from (byte_in run.now.page) width at) else None) }
+{
+    if run.permission % 2 != 1 {
+        return None;
+    }
+    match &run.page {
+        Some(page) => Some(page.number(at, width)),
+        None => Some(0),
+    }
+}
+
+// Whether the page of an address may be written. The run that was asked last is tried first.
+#[inline(always)]
+pub fn can_store(runs: &[Run], last: &Cell<usize>, at: u32) -> bool
+    requires { Ordered 0 1048576 runs.now }
+    ensures { result ≡ may_write (memory_of runs.now) at }
+{
+    let asked = last.get();
+    if asked < runs.len() {
+        let run = &runs[asked];
+        if run.first == at / 4096 {
+            return run.permission / 2 % 2 == 1;
+        }
+    }
+    can_store_slow(runs, last, at)
+}
+
+#[inline(never)]
+fn can_store_slow(runs: &[Run], last: &Cell<usize>, at: u32) -> bool
+    requires { Ordered 0 1048576 runs.now }
+    ensures { result ≡ may_write (memory_of runs.now) at }
+{
+    match found(runs, at / 4096) {
+        Some(place) => {
+            last.set(place);
+            let run = &runs[place];
+            run.permission / 2 % 2 == 1
+        }
+        None => false,
+    }
+}
+
+// The permission of a page.
+pub fn permission(runs: &[Run], page: u32) -> u8
+    requires { Ordered 0 1048576 runs.now }
+    ensures { result ≡ permission_at (memory_of runs.now) page }
+{
+    match found(runs, page) {
+        Some(place) => {
+            let run = &runs[place];
+            run.permission
+        }
+        None => 0,
+    }
+}
+
+// The byte at an address.
+pub fn byte(runs: &[Run], at: u32) -> u8
+    requires { Ordered 0 1048576 runs.now }
+    ensures { result ≡ byte_at (memory_of runs.now) at }
+{
+    match found(runs, at / 4096) {
+        Some(place) => {
+            let run = &runs[place];
+            byte_in(run, (at % 4096) as u16)
+        }
+        None => 0,
+    }
+}
+
+// The byte at a place of a run's page.
+fn byte_in(run: &Run, at: u16) -> u8
+    requires { at < 4096 }
+    ensures { result ≡ byte_in run.now.page at }
+{
+    match &run.page {
+        Some(page) => page.bytes()[at as usize],
+        None => 0,
+    }
+}
+
+// What every memory keeps.
+#[inline(always)]
+pub fn bounds(runs: &[Run])
+    requires { Ordered 0 1048576 runs.now }
+    ensures { IsBounded (memory_of runs.now) }
+{
+    let _runs = runs;
+}

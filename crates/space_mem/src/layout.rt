@@ -1,0 +1,20 @@
+ghost use Rattle.std.specs.Prelude.{◌+◌, ◌≤◌};
+
+use page_store::PageRef;
+
+/// Pages in a row of one permission. Where the run keeps bytes it is one page; otherwise all its bytes are 0.
+#[derive(Drop)]
+pub struct Run {
+    pub first: u32,
+    pub count: u32,
+    pub permission: u8,
+    pub page: Option<PageRef>,
+}
+
+/// Pages in a row: `first` and `count` of them, up to the end of memory.
+#[derive(Clone, Copy, Debug, PartialEq, Eq)]
+pub struct Pages {
+    pub first: u32,
+    pub count: u32,
+    pub ghost within: { first + count ≤ 1048576 },
+}

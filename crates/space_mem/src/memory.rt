@@ -1,0 +1,238 @@
+ghost use Rattle.std.specs.Prelude.{◌≡◌, ℕ, ◌+◌, ◌*◌, ◌/◌, ◌%◌, ◌<◌, ◌≤◌, ◌^◌, length, take, IfOk, IfSome, IsNone, OnOk, OnErr, IsOk, IsTrue, if◌then◌else◌};
+ghost use Rattle.memory_model.specs.Memory.{Memory, no_memory, byte_at, permission_at, may_read, may_fetch, may_write, width_bytes, number_from, with_byte, with_bytes, with_number, with_permissions, first_without, bytes_from};
+ghost use Rattle.memory_model.specs.Ranges.{IsZeroPage, IsPageOf, IsBounded, IsNextPage, NoneUsed, with_copies, with_page, with_zeros};
+ghost use Rattle.page_store.specs.Bytes.{bytes_of};
+
+use crate::layout::{Pages, Run};
+use crate::{access, byte_string, copy, permissions, rights, store, walk, zero};
+use memory_model::Width;
+use page_store::PageRef;
+use std::alloc::{AllocError, Global};
+use std::cell::Cell;
+use std::marker::Model;
+
+/// A memory: a byte at each of 2^32 addresses, and a permission, 0 to 3, of each of 2^20 pages of 4,096 bytes (1 reads and
+/// fetches, 2 writes). Contracts see it as its bytes and permissions.
+///
+/// It is kept by runs of pages in the order of their numbers; a page that was never written has no bytes of its own. Fetches,
+/// loads and stores each remember the run that they asked last.
+#[derive(Drop)]
+pub struct Mem {
+    runs: Vec<Run>,
+    fetched: Cell<usize>,
+    loaded: Cell<usize>,
+    stored: Cell<usize>,
+}
+
+impl Model for Mem {
+    ghost use Rattle.memory_model.specs.Memory.{Memory, coded_memory};
+    ghost use Rattle.space_mem.specs.Runs.{Ordered, memory_of};
+
+    ghost Value = { Memory };
+
+    ghost coded = { coded_memory };
+
+    ghost view = { λ m. memory_of m.runs.items };
+
+    ghost invariant = { λ m. Ordered 0 1048576 m.runs.items };
+}
+
+impl Mem {
+    /// A memory whose bytes and permissions are all 0.
+    pub fn new(alloc: Global) -> Mem
+        ensures { result ≡ no_memory }
+    {
+        Mem {
+            runs: Vec::new(alloc),
+            fetched: Cell::new(0),
+            loaded: Cell::new(0),
+            stored: Cell::new(0),
+        }
+    }
+
+    /// The byte at an address.
+    pub fn byte(&self, at: u32) -> u8
+        ensures { result ≡ byte_at self.now at }
+    {
+        access::byte(&self.runs, at)
+    }
+
+    /// The permission of a page.
+    pub fn perm(&self, page: u32) -> u8
+        ensures { result ≡ permission_at self.now page }
+    {
+        access::permission(&self.runs, page)
+    }
+
+    /// The number at an aligned address, the least byte first; none exactly where its page may not be read.
+    #[inline(always)]
+    pub fn load(&self, at: u32, width: Width) -> Option<u32>
+        requires { at % width_bytes width ≡ 0 }
+        ensures { result ≡ (if may_read self.now at then Some (number_from (byte_at self.now) width at) else None) }
+    {
+        access::load(&self.runs, &self.loaded, at, width)
+    }
+
+    /// The word at an address that is a multiple of 4; none exactly where its page may not be fetched from.
+    #[inline(always)]
+    pub fn fetch(&self, at: u32) -> Option<u32>
+        requires { at % 4 ≡ 0 }
+        ensures { result ≡ (if may_fetch self.now at then Some (number_from (byte_at self.now) Width.Four at) else None) }
+    {
+        access::load(&self.runs, &self.fetched, at, Width::Four)
+    }
+
+    /// Whether the page of an address may be written.
+    #[inline(always)]
+    pub fn can_store(&self, at: u32) -> bool
+        ensures { result ≡ may_write self.now at }
+    {
+        access::can_store(&self.runs, &self.stored, at)
+    }
+
+    /// Writes the lowest bytes of a number at an aligned address that may be written. Its one error is want of memory, which
+    /// does not come where the page has a byte other than 0.
+    #[inline(always)]
+    pub fn store(&mut self, at: u32, width: Width, value: u32) -> Result<(), AllocError>
+        requires aligned { at % width_bytes width ≡ 0 }
+        requires allowed { IsTrue (may_write self.old at) }
+        ensures ok { OnOk result (self.new ≡ with_number self.old at width value) }
+        ensures err { OnErr result (self.new ≡ self.old) }
+        ensures kept { (IsZeroPage self.old (at / 4096) → ⊥) → IsOk result }
+    {
+        store::store(&mut self.runs, &self.stored, at, width, value)
+    }
+
+    /// Writes a byte, whatever the page's permission. Its one error is want of memory, which does not come where the page has
+    /// a byte other than 0.
+    pub fn write(&mut self, at: u32, byte: u8) -> Result<(), AllocError>
+        ensures ok { OnOk result (self.new ≡ with_byte self.old at byte) }
+        ensures err { OnErr result (self.new ≡ self.old) }
+        ensures kept { (IsZeroPage self.old (at / 4096) → ⊥) → IsOk result }
+    {
+        store::write(&mut self.runs, at, byte)
+    }
+
+    /// Gives each page of a range the permission, 0 to 3; bytes stay. Its one error is want of memory.
+    pub fn set_perm(&mut self, range: Pages, perm: u8) -> Result<(), AllocError>
+        requires { perm < 4 }
+        ensures ok { OnOk result (self.new ≡ with_permissions self.old range.first range.count perm) }
+        ensures err { OnErr result (self.new ≡ self.old) }
+    {
+        permissions::set_permission(&mut self.runs, range.first, range.first + range.count, perm)
+    }
+
+    /// Makes the bytes of each page of a range 0; permissions stay. Its one error is want of memory.
+    pub fn zero(&mut self, range: Pages) -> Result<(), AllocError>
+        ensures ok { OnOk result (self.new ≡ with_zeros self.old range.first range.count) }
+        ensures err { OnErr result (self.new ≡ self.old) }
+    {
+        zero::zero(&mut self.runs, range.first, range.first + range.count)
+    }
+
+    /// Gives the pages of a range the bytes and permissions of a source's pages from `from` on, which end within the memory.
+    /// Its one error is want of memory.
+    pub fn copy_from(&mut self, source: &Mem, from: u32, to: Pages) -> Result<(), AllocError>
+        requires { from + to.count ≤ 1048576 }
+        ensures ok { OnOk result (self.new ≡ with_copies self.old source.now from to.first to.count) }
+        ensures err { OnErr result (self.new ≡ self.old) }
+    {
+        copy::copy(
+            &mut self.runs,
+            &source.runs,
+            from,
+            to.first,
+            to.first + to.count,
+        )
+    }
+
+    /// The least page from `n` on that has a permission or a byte other than 0; none exactly where there is none.
+    pub fn next_page(&self, n: u32) -> Option<u32>
+        ensures some { IfSome result (IsNextPage self.now n) }
+        ensures none { IsNone result → NoneUsed self.now n 1048576 }
+    {
+        walk::next_page(&self.runs, n)
+    }
+
+    /// The bytes at `count` addresses from `at` on, whatever the permissions; they end within the memory. Its one error is want
+    /// of memory.
+    pub fn bytes(&self, alloc: Global, at: u32, count: u32) -> Result<Vec<u8>, AllocError>
+        requires { at + count ≤ 2 ^ 32 }
+        ensures { IfOk result (λ bytes. bytes.items ≡ bytes_from self.now at count) }
+    {
+        byte_string::bytes(alloc, &self.runs, at, count)
+    }
+
+    /// The least of `count` addresses from `at` on that may not be read; they end within the memory.
+    pub fn first_unreadable(&self, at: u32, count: u32) -> Option<u32>
+        requires { at + count ≤ 2 ^ 32 }
+        ensures { result ≡ first_without (may_read self.now) at count }
+    {
+        rights::first_unreadable(&self.runs, at, count)
+    }
+
+    /// The least of `count` addresses from `at` on that may not be written; they end within the memory.
+    pub fn first_unwritable(&self, at: u32, count: u32) -> Option<u32>
+        requires { at + count ≤ 2 ^ 32 }
+        ensures { result ≡ first_without (may_write self.now) at count }
+    {
+        rights::first_unwritable(&self.runs, at, count)
+    }
+
+    /// Writes bytes from an address on, whatever the permissions; they end within the memory. Its one error is want of memory;
+    /// some of the first bytes are written then.
+    pub fn write_bytes(&mut self, at: u32, bytes: &[u8]) -> Result<(), AllocError>
+        requires { at + length bytes.now ≤ 2 ^ 32 }
+        ensures ok { OnOk result (self.new ≡ with_bytes self.old at bytes.now) }
+        ensures err { OnErr result ((k : ℕ) × (self.new ≡ with_bytes self.old at (take k bytes.now))) }
+    {
+        store::write_bytes(&mut self.runs, at, bytes)
+    }
+
+    /// Gives each page of a range bytes of its own; the memory stays equal. Its one error is want of memory.
+    pub fn own(&mut self, range: Pages) -> Result<(), AllocError>
+        ensures { self.new ≡ self.old }
+    {
+        store::own(&mut self.runs, range.first, range.first + range.count)
+    }
+
+    /// An equal memory, which no later write to this one changes. Its one error is want of memory.
+    pub fn frozen(&mut self) -> Result<Mem, AllocError>
+        ensures equal { IfOk result (λ m. m ≡ self.old) }
+        ensures same { self.new ≡ self.old }
+    {
+        let alloc = *self.runs.allocator();
+        let runs = walk::copied(alloc, &self.runs)?;
+        Ok(Mem {
+            runs,
+            fetched: Cell::new(0),
+            loaded: Cell::new(0),
+            stored: Cell::new(0),
+        })
+    }
+
+    /// The bytes of a page; none only where all are 0.
+    pub fn page(&self, n: u32) -> Option<&PageRef>
+        ensures some { IfSome result (λ page. IsPageOf self.now n (bytes_of page.now)) }
+        ensures none { IsNone result → IsZeroPage self.now n }
+    {
+        walk::page(&self.runs, n)
+    }
+
+    /// Puts a page's bytes in the place of those of page `n`, below 2^20; the permission stays. Its one error is want of memory.
+    pub fn put_page(&mut self, n: u32, page: PageRef) -> Result<(), AllocError>
+        requires { n < 1048576 }
+        ensures ok { OnOk result (self.new ≡ with_page self.old n (bytes_of page)) }
+        ensures err { OnErr result (self.new ≡ self.old) }
+    {
+        store::put_page(&mut self.runs, n, page)
+    }
+
+    /// What every memory keeps: bytes below 256 at addresses below 2^32, and permissions below 4 of pages below 2^20.
+    #[inline(always)]
+    pub fn bounds(&self)
+        ensures { IsBounded self.now }
+    {
+        access::bounds(&self.runs);
+    }
+}
