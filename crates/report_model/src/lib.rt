@@ -1,0 +1,2 @@
+//! Definitions of what a run writes, for contracts: `specs/` has them.
+#![tactic(auto)]

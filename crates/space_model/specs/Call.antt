@@ -1,0 +1,68 @@
+-- Calls that meet children, by what they see of their children and what they edit (OSDI 2010, the section on the kernel interface: a
+-- space meets only its parent and its children). No call meets a child yet.
+use Rattle.std.specs.Prelude.{ℕ, List, [], ◌∷◌, Option, Some, None, option_map}
+use Rattle.space_model.specs.Space.{Space, space, Children, none, Top, top_of, children_of, find, put_child, remove_child}
+
+-- how much of a child a call waits for: the child itself, or the child and all below it
+pub data Reach : Type 0 where
+  itself : Reach
+  whole : Reach
+
+-- a child that a call waits for
+pub record Await : Type 0 where
+  pub number : ℕ
+  pub reach : Reach
+
+-- what is seen of it: its top where it is awaited itself, all of it where it is awaited whole
+pub data Seen : Type 0 where
+  sees_top : Option Top → Seen
+  sees_whole : Option Space → Seen
+
+-- what is done to a child
+pub data Edit : Type 0 where
+  change : ℕ → Top → Edit
+  place : ℕ → Space → Edit
+  take_away : ℕ → Edit
+
+-- the caller after a call, and what the call does to its children
+pub record Meeting : Type 0 where
+  pub caller : Top
+  pub edits : List Edit
+
+pub data Call : Type 0 where
+
+-- the children that a call waits for, in this order
+abbrev pub awaits : Call → List Await
+awaits k = elim k [ ]
+
+-- what a call does, of a caller that has paid for it, by what it sees of the children that it waits for, in their order
+abbrev pub meeting : Call → Top → List Seen → Meeting
+meeting k t seen = elim k [ ]
+
+abbrev pub see : Reach → Option Space → Seen
+see itself o = sees_top (option_map top_of o)
+see whole o = sees_whole o
+
+abbrev pub seen_of : List Await → Children → List Seen
+seen_of [] cs = []
+seen_of (a ∷ others) cs = see a.reach (find a.number cs) ∷ seen_of others cs
+
+abbrev pub below : Option Space → Children
+below None = none
+below (Some s) = children_of s
+
+abbrev pub edit : Edit → Children → Children
+edit (change n t) cs = put_child n (space t (below (find n cs))) cs
+edit (place n s) cs = put_child n s cs
+edit (take_away n) cs = remove_child n cs
+
+abbrev pub edit_all : List Edit → Children → Children
+edit_all [] cs = cs
+edit_all (e ∷ es) cs = edit_all es (edit e cs)
+
+abbrev pub apply_meeting : Meeting → Children → Space
+apply_meeting m cs = space m.caller (edit_all m.edits cs)
+
+-- the space after a call, once the children that it waits for are ready
+abbrev pub meet : Call → Top → Children → Space
+meet k t cs = apply_meeting (meeting k t (seen_of (awaits k) cs)) cs

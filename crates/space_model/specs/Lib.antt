@@ -1,0 +1,5 @@
+pub mod Stop
+pub mod Space
+pub mod Sound
+pub mod Call
+pub mod Event

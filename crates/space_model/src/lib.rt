@@ -1,0 +1,44 @@
+//! Definitions of spaces and of their local events, for contracts: `specs/` has them.
+#![tactic(auto)]
+
+/// Why a space has stopped. The first eight are traps of RISC-V (Privileged ISA, "Machine Cause"), with its numbers 0 to 7.
+#[derive(Clone, Copy, Debug, PartialEq, Eq)]
+pub enum Cause {
+    /// A jump or taken branch to an address that is no multiple of 4, or a pc that is none.
+    FetchMisaligned,
+    /// The page of pc may not be fetched.
+    FetchFault,
+    /// The word at pc spells no instruction.
+    Illegal,
+    /// An EBREAK.
+    Breakpoint,
+    /// A load from an address that is no multiple of its width.
+    LoadMisaligned,
+    /// A load, or a call that reads, from a page that may not be read.
+    LoadFault,
+    /// A store to an address that is no multiple of its width.
+    StoreMisaligned,
+    /// A store, or a call that writes, to a page that may not be written.
+    StoreFault,
+    /// A call whose registers fail a test; the value is the number of the first test that fails.
+    Badcall,
+    /// A merge that met a byte which both sides had changed; the value is the least such address.
+    Conflict,
+    /// The limit that the parent gave has run out.
+    Limit,
+    /// The fuel has run out.
+    Fuel,
+    /// The call Ret; the value is its a0.
+    Ret,
+    /// The space has never run.
+    Fresh,
+}
+
+/// Whether a space runs, or why it has stopped.
+#[derive(Clone, Copy, Debug, PartialEq, Eq)]
+pub enum Status {
+    /// It has a next event.
+    Running,
+    /// It has none until it is started again.
+    Stopped { cause: Cause, value: u32 },
+}
