@@ -1,0 +1,80 @@
+-- What a loader and a sink in memory hold.
+use Rattle.std.specs.Prelude.{ℕ, ◌+◌, ◌-◌, ◌^◌, min, List, [], ◌∷◌, length, Option, Some, None, Result, Ok, Err, Bool, cond, string_bytes, nat_eq, nat_lt, if◌then◌else◌, refl}
+use Rattle.std.specs.Prelude.{String, Vec}
+use Rattle.std.specs.Global.{Global}
+use Rattle.std.specs.Coded.{Coded, coded_ℕ, coded_list, coded×, code_by}
+use Rattle.std.specs.Cmp.Lexicographic.{pointwise}
+use Rattle.std.specs.List.{list_any}
+use Rattle.det_host.specs.declared.loader.LoadError.{LoadError}
+use Rattle.det_host.specs.declared.loader.LoadError.TheVariants.{Failed, TooLarge}
+
+-- a name and its bytes
+abbrev pub Named : Type 0
+Named = List ℕ × List ℕ
+
+-- a count of 64 bits that stays at its end
+abbrev pub counted : ℕ → ℕ
+counted n = min (n + 1) (2 ^ 64 - 1)
+
+-- the numbers of the calls that fail, from 1, and how many calls and faults there were
+pub record Calls : Type 0 where
+  pub failing : List ℕ
+  pub done : ℕ
+  pub faults : ℕ
+
+abbrev pub coded_calls : Coded Calls
+coded_calls = code_by (List ℕ × (ℕ × ℕ)) (coded× (coded_list coded_ℕ) (coded× coded_ℕ coded_ℕ)) (λ c. (c.failing, (c.done, c.faults)))
+    (λ p. record { failing = p.0; done = p.1.0; faults = p.1.1 }) (λ _. refl)
+
+abbrev pub no_calls : List ℕ → Calls
+no_calls failing = record { failing = failing; done = 0; faults = 0 }
+
+-- whether the next call fails
+abbrev pub is_failing : Calls → Bool
+is_failing c = list_any (λ n. nat_eq n (counted c.done)) c.failing
+
+abbrev pub after_call : Calls → Calls
+after_call c = record c { done = counted c.done }
+
+abbrev pub with_fault : Calls → Calls
+with_fault c = record c { faults = counted c.faults }
+
+-- files by name, the names asked for, and the calls
+pub record Files : Type 0 where
+  pub files : List Named
+  pub asked : List (List ℕ)
+  pub calls : Calls
+
+abbrev pub coded_files : Coded Files
+coded_files = code_by (List Named × (List (List ℕ) × Calls))
+    (coded× (coded_list (coded× (coded_list coded_ℕ) (coded_list coded_ℕ))) (coded× (coded_list (coded_list coded_ℕ)) coded_calls))
+    (λ f. (f.files, (f.asked, f.calls)))
+    (λ p. record { files = p.0; asked = p.1.0; calls = p.1.1 })
+    (λ _. refl)
+
+abbrev pub named : String Global × Vec ℕ Global → Named
+named f = (string_bytes f.0, f.1.items)
+
+-- the bytes of the first file of a name
+abbrev pub held : List Named → List ℕ → Option (List ℕ)
+held [] name = None
+held (f ∷ fs) name = cond (pointwise nat_eq f.0 name) (Some f.1) (held fs name)
+
+-- the bytes of a file, where it is there and there is room
+abbrev pub in_room : ℕ → Option (List ℕ) → Result (List ℕ) LoadError
+in_room room None = Err Failed
+in_room room (Some bytes) = if nat_lt room (length bytes) then Err (TooLarge (room + 1)) else Ok bytes
+
+-- what the next call answers, memory aside
+abbrev pub answer : Files → List ℕ → ℕ → Result (List ℕ) LoadError
+answer f name room = if is_failing f.calls then Err Failed else in_room room (held f.files name)
+
+-- the most bytes that a sink takes in a call, what it took, and the calls
+pub record Taking : Type 0 where
+  pub most : ℕ
+  pub taken : List ℕ
+  pub calls : Calls
+
+abbrev pub coded_taking : Coded Taking
+coded_taking = code_by (ℕ × (List ℕ × Calls)) (coded× coded_ℕ (coded× (coded_list coded_ℕ) coded_calls)) (λ s. (s.most, (s.taken, s.calls)))
+    (λ p. record { most = p.0; taken = p.1.0; calls = p.1.1 }) (λ _. refl)

@@ -1,0 +1,25 @@
+//! The outside world as three traits: where files come from, where bytes go, and who is told of a worker's events.
+//! In memory they tell all that they hold; over real files and streams they tell nothing but how often they failed.
+#![tactic(auto)]
+
+mod calls;
+mod gate;
+mod loader;
+mod memory_loader;
+mod memory_sink;
+mod real_loader;
+mod real_sink;
+mod sink;
+mod sure_sink;
+
+pub use gate::{Gate, GateEvent, OpenGate};
+pub use loader::{LoadError, Loader};
+pub use memory_loader::MemLoader;
+pub use memory_sink::MemSink;
+pub use real_loader::FileLoader;
+pub use real_sink::StdSink;
+pub use sink::{Sink, SinkError};
+pub use sure_sink::SureSink;
+
+#[cfg(test)]
+mod tests;

@@ -1,0 +1,105 @@
+ghost use Rattle.std.specs.Prelude.{◌≡◌, ◌≤◌, ◌<◌, ◌^◌, List, [], ℕ, Option, Some, None, map, IfOk, IfErr, IfSome, IsNone, IsErrOf, ◌⊎◌, Ok, Err};
+ghost use Rattle.det_host.specs.Held.{held, named, answer, in_room, no_calls};
+ghost use Rattle.det_host.specs.Outside.{Rose, Loads, Asks};
+ghost use Rattle.det_host.specs.declared.loader.LoadError.{LoadError};
+
+use crate::calls::Calls;
+use crate::{LoadError, Loader};
+use std::alloc::Global;
+use std::marker::Model;
+
+/// A loader that holds its files. A name that it does not hold cannot be loaded.
+#[derive(Drop)]
+pub struct MemLoader {
+    files: Vec<(String, Vec<u8>)>,
+    asked: Vec<String>,
+    calls: Calls,
+}
+
+impl Model for MemLoader {
+    ghost use Rattle.std.specs.Prelude.{map, string_bytes};
+    ghost use Rattle.det_host.specs.Held.{Files, coded_files, named};
+
+    ghost Value = { Files };
+
+    ghost coded = { coded_files };
+
+    ghost view = { λ l. record { files = map named l.files.items; asked = map string_bytes l.asked.items; calls = l.calls } };
+}
+
+impl MemLoader {
+    /// A loader of these files, which fails at the calls of these numbers, from 1. Of files of one name the first is loaded.
+    pub fn new(alloc: Global, files: Vec<(String, Vec<u8>)>, failing: Vec<u64>) -> MemLoader
+        ensures { result ≡ record { files = map named files.items; asked = []; calls = no_calls failing.items } }
+    {
+        MemLoader {
+            files,
+            asked: Vec::new(alloc),
+            calls: Calls::new(failing),
+        }
+    }
+}
+
+// The bytes of the first file of a name.
+fn find<'a>(files: &'a [(String, Vec<u8>)], name: &str) -> Option<&'a Vec<u8>>
+    ensures none { IsNone result → held (map named files.now) name.now ≡ None }
+    ensures some { IfSome result (λ v. held (map named files.now) name.now ≡ Some v.now.items) }
+{
+    for file in files {
+        if file.0.as_str() == name {
+            return Some(&file.1);
+        }
+    }
+    None
+}
+
+// A copy of a file's bytes, where there is room.
+fn copy_in_room(bytes: &[u8], alloc: Global, room: u64) -> Result<Vec<u8>, LoadError>
+    requires { room < 2 ^ 32 }
+    ensures ok { IfOk result (λ v. in_room room (Some bytes.now) ≡ Ok v.items) }
+    ensures err { IfErr result (λ e. (e ≡ LoadError.Memory) ⊎ (in_room room (Some bytes.now) ≡ Err e)) }
+    ensures not_failed { IsErrOf result LoadError.Failed → ⊥ }
+{
+    if bytes.len() as u64 > room {
+        return Err(LoadError::TooLarge { read: room + 1 });
+    }
+    match Vec::from_slice(alloc, bytes) {
+        Ok(copy) => Ok(copy),
+        Err(_) => Err(LoadError::Memory),
+    }
+}
+
+impl Loader for MemLoader {
+    ghost told = { λ l name. held l.files name };
+
+    ghost asked = { λ l. l.asked };
+
+    ghost faults = { λ l. l.calls.faults };
+
+    fn load(&mut self, alloc: Global, name: &str, room: u64) -> Result<Vec<u8>, LoadError>
+        requires { room < 2 ^ 32 }
+        ensures loads { Loads (λ v. v.items) (held self.old.files name.now) room result }
+        ensures failed { IsErrOf result LoadError.Failed → Rose self.old.calls.faults self.new.calls.faults }
+        ensures later { self.old.calls.faults ≤ self.new.calls.faults }
+        ensures told { (other : List ℕ) → held self.new.files other ≡ held self.old.files other }
+        ensures asked { Asks self.old.asked self.new.asked name.now result }
+        ensures ok { IfOk result (λ v. answer self.old name.now room ≡ Ok v.items) }
+        ensures err { IfErr result (λ e. (e ≡ LoadError.Memory) ⊎ (answer self.old name.now room ≡ Err e)) }
+    {
+        let Ok(own) = String::from_str(alloc, name) else {
+            return Err(LoadError::Memory);
+        };
+        if self.asked.push(own).is_err() {
+            return Err(LoadError::Memory);
+        }
+        if self.calls.next_fails() {
+            self.calls.add_fault();
+            return Err(LoadError::Failed);
+        }
+        let Some(bytes) = find(&self.files, name) else {
+            self.calls.add_fault();
+            return Err(LoadError::Failed);
+        };
+        copy_in_room(bytes, alloc, room)
+    }
+}
