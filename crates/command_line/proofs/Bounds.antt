@@ -1,0 +1,62 @@
+-- A number that a line has lies in its range.
+use Rattle.std.proofs.Common.{◌≡◌, ◌≤◌, ℕ, Bool, true, false, List, Option, Some, None, refl, sym, subst, cond, codes, arith, option_map}
+use Rattle.std.specs.Prelude.{option_and_then, IfSome}
+use Rattle.std.specs.Str.{bytes_eq}
+use Rattle.std.specs.Str.Parse.{digits_value, without_leading_plus}
+use Rattle.clap.specs.Words.{Row, Text, first_of, one_of}
+use Rattle.clap.specs.ValueTests.{accepts}
+use Rattle.clap.specs.declared.builder.value_parser.ValueParser.TheVariants as vp
+use Rattle.clap.proofs.ValueTestLemmas.{accepts-Accepts}
+use Rattle.command_line.specs.declared.command.Command.{Command}
+use Rattle.command_line.specs.Line.{IsInRange, asm, asm_line, Line, command_line, line_of, number_in, number_of, run_line, run_of}
+
+pub number_bounds : (low high : ℕ) (t : List ℕ) (n : ℕ) → number_in low high t ≡ Some n → (low ≤ n) × (n ≤ high)
+unfolding number_in
+number_bounds low high t n is = go (accepts false (vp.Unsigned low high) t) refl is
+  where
+    go : (b : Bool) → accepts false (vp.Unsigned low high) t ≡ b
+        → cond b (Some (digits_value 10 (without_leading_plus t))) None ≡ Some n → (low ≤ n) × (n ≤ high)
+    go false e s = cc
+    go true e s =
+        let passed = accepts-Accepts false (vp.Unsigned low high) t e in
+        let same : digits_value 10 (without_leading_plus t) ≡ n = cc in
+        (subst (λ m. low ≤ m) same passed.2, subst (λ m. m ≤ high) same passed.3)
+
+number_of_bounds : (low high : ℕ) (o : Option Text) (n : ℕ) → option_and_then (number_in low high) o ≡ Some n → (low ≤ n) × (n ≤ high)
+number_of_bounds low high None n is = absurd cc
+number_of_bounds low high (Some t) n is = number_bounds low high t n is
+
+abbrev AllInRange : Option Line → Type 0
+AllInRange o = IfSome o IsInRange
+
+run_in_range : (limit : Option ℕ) (image script : Option Text) → ((n : ℕ) → limit ≡ Some n → (1 ≤ n) × (n ≤ 4294967295)) → AllInRange (run_of limit image script)
+run_in_range (Some n) (Some i) (Some s) h =
+    let b = h n refl in
+    (b.0, omega arith)
+run_in_range (Some n) (Some i) None h = tt
+run_in_range (Some n) None s h = tt
+run_in_range None i s h = tt
+
+line_of_run : (rows : List Row) → AllInRange (run_line rows)
+unfolding run_line
+line_of_run rows = run_in_range (number_of 1 4294967295 (codes "limit") rows) (first_of (codes "image") rows) (first_of (codes "script") rows) (number_of_bounds 1 4294967295 (one_of (codes "limit") rows))
+
+line_of_asm : (o : Option Text) → AllInRange (option_map asm o)
+line_of_asm None = tt
+line_of_asm (Some t) = tt
+
+chosen : (a b : Bool) (o p : Option Line) → AllInRange o → AllInRange p → AllInRange (cond a o (cond b p None))
+chosen true b o p h k = h
+chosen false true o p h k = k
+chosen false false o p h k = tt
+
+line_of_rows : (o : Option (Text × List Row)) → AllInRange (option_and_then command_line o)
+line_of_rows None = tt
+line_of_rows (Some p) = chosen (bytes_eq p.0 (codes "run")) (bytes_eq p.0 (codes "asm")) (run_line p.1) (asm_line p.1) (line_of_run p.1) (line_of_asm (first_of (codes "source") p.1))
+
+of_command : (c : Option Command) → AllInRange (option_map line_of c) → IfSome c (λ x. IsInRange (line_of x))
+of_command None h = tt
+of_command (Some c) h = h
+
+pub command_in_range : (o : Option (Text × List Row)) (c : Option Command) → option_map line_of c ≡ option_and_then command_line o → IfSome c (λ x. IsInRange (line_of x))
+command_in_range o c e = of_command c (subst AllInRange (sym e) (line_of_rows o))

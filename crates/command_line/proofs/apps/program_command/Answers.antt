@@ -1,0 +1,18 @@
+use Rattle.std.proofs.Common.{◌∙◌, ap, true}
+use Rattle.std.proofs.lemmas.Result.{IfOk-weaker}
+use Rattle.clap.specs.Simple.{app_of_fields, on_top}
+use Rattle.command_line.proofs.AppLemmas.{subcommand_added}
+use Rattle.command_line.specs.Line.{IsApp, asm_app, program_app, run_app, start}
+use Rattle.command_line.proofs.apps.program_command.Goals as goal
+
+pub returns : goal.returns
+unfolding program_app
+returns c =
+    let required = c.subcommand_required.ensures in
+    let no_help = c.disable_help_subcommand.ensures in
+    let start_is : IsApp c.disable_help_subcommand.result start = (
+      ap app_of_fields no_help ∙ ap (λ f. app_of_fields (record f { disable_help_subcommand = true })) required ∙ ap (on_top (λ s. record s { subcommand_required = true; disable_help_subcommand = true })) c.new.ensures.app,
+      ap (λ f. f.has_globals) no_help ∙ ap (λ f. f.has_globals) required ∙ c.new.ensures.local,
+    ) in
+    let one = subcommand_added _ _ _ start run_app c.in_ok-subcommand.ensures start_is c.in_ok-run.ensures in
+    IfOk-weaker c.subcommand-2.result _ _ (λ r adds. subcommand_added _ _ r _ asm_app adds one c.in_ok-asm.ensures) c.subcommand-2.ensures

@@ -1,0 +1,18 @@
+/// What a command line asks for. File names are the words as they are.
+#[derive(Clone, Copy, Debug, PartialEq, Eq)]
+pub enum Command<'a> {
+    /// Runs an image on a script.
+    Run {
+        /// How many instructions each space may execute: from 1 to 4,294,967,295, at first 1,000,000.
+        limit: u32,
+        /// The image's file name.
+        image: &'a str,
+        /// The script's file name.
+        script: &'a str,
+    },
+    /// Makes the image of a source text.
+    Asm {
+        /// The source's file name.
+        source: &'a str,
+    },
+}

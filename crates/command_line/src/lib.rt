@@ -1,0 +1,12 @@
+//! The words of the command line.
+#![tactic(auto)]
+
+mod apps;
+mod command;
+mod reading;
+
+pub use command::Command;
+pub use reading::read_line;
+
+#[cfg(test)]
+mod tests;

@@ -1,0 +1,96 @@
+ghost use Rattle.std.specs.Prelude.{◌≡◌, ◌↔◌, IfOk, IsNone, map, option_map, option_and_then, IfSome};
+ghost use Rattle.std.specs.String.{string_bytes};
+ghost use Rattle.clap.specs.Words.{first_of, found_of, rows_of, subcommand_rows_of};
+ghost use Rattle.command_line.specs.Line.{IsInRange, IsRefused, asm_line, command_line, line, line_of, number_of, run_line, run_of};
+
+use crate::apps::program_command;
+use crate::command::Command;
+use clap::ArgMatches;
+use clap::error::ErrorKind;
+use std::alloc::{AllocError, Global};
+
+fn number_from(matches: &ArgMatches<'_>, id: &str, low: u32, high: u32) -> Option<u32>
+    ensures { result ≡ number_of low high id.now (rows_of (found_of matches.now)) }
+{
+    match matches.get_one::<u32>(id) {
+        Some(number) => {
+            if low <= number && number <= high {
+                Some(number)
+            } else {
+                None
+            }
+        }
+        None => None,
+    }
+}
+
+fn text_from<'a>(matches: &ArgMatches<'a>, id: &str) -> Option<&'a str>
+    ensures { option_map (λ s. s.now) result ≡ first_of id.now (rows_of (found_of matches.now)) }
+{
+    matches.get_str(id)
+}
+
+fn run_with<'a>(
+    limit: Option<u32>,
+    image: Option<&'a str>,
+    script: Option<&'a str>,
+) -> Option<Command<'a>>
+    ensures { option_map line_of result ≡ run_of limit (option_map (λ s. s.now) image.entry)
+        (option_map (λ s. s.now) script.entry) }
+{
+    Some(Command::Run {
+        limit: limit?,
+        image: image?,
+        script: script?,
+    })
+}
+
+fn run_from<'a>(matches: &ArgMatches<'a>) -> Option<Command<'a>>
+    ensures { option_map line_of result ≡ run_line (rows_of (found_of matches.now)) }
+{
+    let limit = number_from(matches, "limit", 1, 4_294_967_295);
+    let image = text_from(matches, "image");
+    let script = text_from(matches, "script");
+    run_with(limit, image, script)
+}
+
+fn asm_from<'a>(matches: &ArgMatches<'a>) -> Option<Command<'a>>
+    ensures { option_map line_of result ≡ asm_line (rows_of (found_of matches.now)) }
+{
+    let source = text_from(matches, "source")?;
+    Some(Command::Asm { source })
+}
+
+fn command_from<'a>(matches: &ArgMatches<'a>) -> Option<Command<'a>>
+    ensures { option_map line_of result ≡ option_and_then command_line (subcommand_rows_of matches.now) }
+{
+    let (name, inner) = matches.subcommand()?;
+    if name == "run" {
+        run_from(inner)
+    } else if name == "asm" {
+        asm_from(inner)
+    } else {
+        None
+    }
+}
+
+/// Reads the words of a command line, of which the first is the program's name. `None` comes exactly
+/// where `clap` refuses the words for another cause than memory; calls for help and for the version
+/// are among these.
+pub fn read_line<'a>(alloc: Global, words: &'a [String]) -> Result<Option<Command<'a>>, AllocError>
+    ensures line { IfOk result (λ c. option_map line_of c ≡ line (map string_bytes words.entry.now)) }
+    ensures refused { IfOk result (λ c. IsNone c ↔ IsRefused (map string_bytes words.entry.now)) }
+    ensures range { IfOk result (λ c. IfSome c (λ x. IsInRange (line_of x))) }
+{
+    let command = program_command(alloc)?;
+    match command.try_get_matches_from(words) {
+        Ok(matches) => Ok(command_from(&matches)),
+        Err(error) => {
+            if error.kind() == ErrorKind::OutOfMemory {
+                Err(AllocError)
+            } else {
+                Ok(None)
+            }
+        }
+    }
+}
