@@ -1,0 +1,292 @@
+-- The segments of a draft are those of an image.
+use Rattle.std.proofs.Common.{◌≡◌, ℕ, ◌+◌, ◌*◌, ◌/◌, ◌<◌, ◌≤◌, ◌^◌, Bool, true, false, List, [], ◌∷◌, ◌++◌, length, Option, Some, None, Result, Ok, Err, refl, sym, ◌∙◌, ap, subst, arith, length-append}
+use Rattle.std.specs.Prelude.{cond, nat_lt, nat_le, ◌==◌, ◌&&◌, ◌||◌}
+use borrow.Author.Tests.{ltb-false, leb-false, eqb-true, eqb-false, lt-ltb}
+use Rattle.std.proofs.lemmas.List.{append-nil, length-replicate}
+use Rattle.std.proofs.lemmas.List.Concat.{flat_map-cons}
+use Rattle.std.proofs.lemmas.Grind.{flat_map-append}
+use Rattle.std.specs.List.{flat_map}
+use Rattle.image_model.specs.Image as model
+use Rattle.image_model.specs.Image.{AreSegments, IsSegment, last_page, segment_bytes, image_bytes}
+use Rattle.image_file.proofs.Loop.{page_after, AreSegments-push, page_after-push}
+use Rattle.source_model.specs.declared.error.AsmError.{AsmError}
+use Rattle.source_model.specs.declared.error.AsmErrorKind.{AsmErrorKind}
+use Rattle.source_model.specs.declared.error.AsmErrorKind.TheVariants as kinds
+use Rattle.source_model.specs.declared.statement.Statement.{Statement}
+use Rattle.source_model.specs.declared.statement.Statement.TheVariants.{Nothing, Plain, Branch, Jump, LoadImmediate, Segment, Entry, Stack, Word, Byte, Zero}
+use Rattle.source_model.specs.declared.statement.Layout.{Layout}
+use Rattle.source_model.specs.Layout.{size_of, bytes_misplaced, segment_misplaced, is_misplaced, further, address_in}
+use Rattle.source_model.specs.Source.{Draft, Labels, limit, bytes_of, blank, closed, size_with, applied, checked, completed, is_too_far, is_defined_before, in_line, with_line, with_lines, resolved, operand_of, finished}
+use Rattle.source_model.specs.Line.{label_of, statement_in}
+use Rattle.source_model.specs.Text.{◌>>=◌, is_empty}
+use Rattle.source_model.specs.Statement.{Read}
+
+-- what stands in the segment that began last, and how many are closed
+abbrev pub Reaches : Option ℕ → ℕ → ℕ → ℕ → ℕ → Type 0
+Reaches None base len closed_count begun = (len ≡ 0) × (closed_count ≤ begun)
+Reaches (Some a) base len closed_count begun = (a ≡ base + len) × (closed_count + 1 ≤ begun)
+
+pub record IsSoundAt (here : Layout) (base permission len size : ℕ) (ss : List model.Segment) : Type 0 where
+  pub segments : AreSegments 0 ss
+  pub order : page_after 0 ss ≤ base / 4096
+  pub permitted : permission ≤ 3
+  pub pages : page_after 0 ss * 4096 ≤ here.used + 4095
+  pub filled : 0 < len → (base + len ≡ here.used) × (here.used ≤ 2 ^ 32)
+  pub reached : Reaches here.reached base len (length ss) here.begun
+  pub few : here.begun ≤ 64
+  pub short : len ≤ size
+  pub room : size ≤ 16777216
+
+abbrev pub IsSound : Draft → Type 0
+IsSound d = IsSoundAt d.layout d.base d.permission (length d.content) d.size d.segments
+
+pub blank-sound : IsSound blank
+blank-sound = record { segments = tt; order = omega arith; permitted = omega arith; pages = omega arith; filled = λ lt. absurd (omega (arith, lt)); reached = (refl, omega arith); few = omega arith; short = omega arith; room = omega arith }
+
+-- ---- closing
+
+pub record IsClosed (used begun : ℕ) (ss : List model.Segment) : Type 0 where
+  pub segments : AreSegments 0 ss
+  pub pages : page_after 0 ss * 4096 ≤ used + 4095
+  pub count : length ss ≤ begun
+
+count-of : (r : Option ℕ) (base len count begun : ℕ) → Reaches r base len count begun → (count ≤ begun) × (0 < len → count + 1 ≤ begun)
+count-of None base len count begun h = (h.1, λ lt. absurd (omega (arith, lt, h.0)))
+count-of (Some a) base len count begun h = (omega (arith, h.1), λ lt. h.1)
+
+close-at : (here : Layout) (base permission size : ℕ) (content : List ℕ) (ss : List model.Segment) → IsSoundAt here base permission (length content) size ss → IsClosed here.used here.begun (closed base permission content ss)
+close-at here base permission size [] ss h = record { segments = h.segments; pages = h.pages; count = (count-of here.reached base 0 (length ss) here.begun h.reached).0 }
+close-at here base permission size (b ∷ bs) ss h =
+    let s : model.Segment = record { address = base; permission = permission; content = b ∷ bs } in
+    let some : 0 < length (b ∷ bs) = omega arith in
+    let at_end = h.filled some in
+    let short : length (b ∷ bs) ≤ size = h.short in
+    let room : size ≤ 16777216 = h.room in
+    let is : IsSegment (page_after 0 ss) s = record { order = h.order; permission = h.permitted; filled = some; short = omega (arith, short, room); range = omega (arith, at_end.0, at_end.1) } in
+    let count : length ss + 1 ≤ here.begun = (count-of here.reached base (length (b ∷ bs)) (length ss) here.begun h.reached).1 some in
+    record {
+      segments = AreSegments-push 0 ss s h.segments is;
+      pages = rw page_after-push (omega (arith, at_end.0));
+      count = omega (arith, length-append ss (s ∷ []), count);
+    }
+
+pub is-closed : (d : Draft) → IsSound d → IsClosed d.layout.used d.layout.begun (closed d.base d.permission d.content d.segments)
+is-closed d h = close-at d.layout d.base d.permission d.size d.content d.segments h
+
+pub count-closed : (d : Draft) → IsSound d → length (closed d.base d.permission d.content d.segments) ≤ 64
+count-closed d h = omega (arith, (is-closed d h).count, h.few)
+
+-- ---- bytes
+
+size-bytes : (here : ℕ) (s : Statement) (v : ℕ) → length (bytes_of here s v) ≡ size_of s
+size-bytes here Nothing v = refl
+size-bytes here (Plain i) v = refl
+size-bytes here (Branch c a b t) v = refl
+size-bytes here (Jump r t) v = refl
+size-bytes here (LoadImmediate r t) v = refl
+size-bytes here (Segment a p) v = refl
+size-bytes here (Entry t) v = refl
+size-bytes here (Stack t) v = refl
+size-bytes here (Word t) v = refl
+size-bytes here (Byte n) v = refl
+size-bytes here (Zero n) v = length-replicate n 0
+
+and-second : (x y : Bool) → (x && y) ≡ false → x ≡ true → y ≡ false
+and-second true y h t = h
+and-second false y h t = cc
+
+some-step : (a used begun base permission len size size2 n : ℕ) (ss : List model.Segment) (t : Bool) → (n == 0) ≡ t → IsSoundAt (record { reached = Some a; used = used; begun = begun }) base permission len size ss
+    → bytes_misplaced (Some a) n ≡ false → len + n ≤ size2 → size2 ≤ 16777216 → IsSoundAt (further (Some a) (record { reached = Some a; used = used; begun = begun }) n) base permission (len + n) size2 ss
+some-step a used begun base permission len size size2 n ss true e h fits short room =
+    let none : n ≡ 0 = eqb-true n 0 e in
+    let same : len + n ≡ len = omega arith in
+    let short2 : len ≤ size2 = omega arith in
+    rw (e, same) record { segments = h.segments; order = h.order; permitted = h.permitted; pages = h.pages; filled = h.filled; reached = h.reached; few = h.few; short = short2; room = room }
+some-step a used begun base permission len size size2 n ss false e h fits short room =
+    let some : n ≡ 0 → ⊥ = eqb-false n 0 e in
+    let more : 0 < n = omega (arith, some) in
+    let end : a + n ≤ 2 ^ 32 = ltb-false (2 ^ 32) (a + n) (and-second (nat_lt 0 n) (nat_lt (2 ^ 32) (a + n)) fits (lt-ltb 0 n more)) in
+    let at_end : a ≡ base + len = h.reached.0 in
+    let order : page_after 0 ss ≤ base / 4096 = h.order in
+    rw e record {
+      segments = h.segments;
+      order = h.order;
+      permitted = h.permitted;
+      pages = omega (arith, order, at_end);
+      filled = λ lt. (omega (arith, at_end), end);
+      reached = (omega (arith, at_end), h.reached.1);
+      few = h.few;
+      short = short;
+      room = room;
+    }
+
+extend-at : (r : Option ℕ) (used begun base permission len size size2 n : ℕ) (ss : List model.Segment) → IsSoundAt (record { reached = r; used = used; begun = begun }) base permission len size ss
+    → bytes_misplaced r n ≡ false → len + n ≤ size2 → size2 ≤ 16777216 → IsSoundAt (further r (record { reached = r; used = used; begun = begun }) n) base permission (len + n) size2 ss
+extend-at None used begun base permission len size size2 n ss h fits short room =
+    let none : n ≤ 0 = ltb-false 0 n fits in
+    let same : len + n ≡ len = omega arith in
+    let short2 : len ≤ size2 = omega arith in
+    rw same record { segments = h.segments; order = h.order; permitted = h.permitted; pages = h.pages; filled = h.filled; reached = h.reached; few = h.few; short = short2; room = room }
+extend-at (Some a) used begun base permission len size size2 n ss h fits short room = some-step a used begun base permission len size size2 n ss (n == 0) refl h fits short room
+
+grows : (size len n extra : ℕ) (t : Bool) → (n == 0) ≡ t → len ≤ size → len + n ≤ cond t size (size + n + extra)
+grows size len n extra true e h =
+    let none : n ≡ 0 = eqb-true n 0 e in
+    omega arith
+grows size len n extra false e h = omega arith
+
+extend : (d : Draft) (bytes : List ℕ) (n : ℕ) → IsSound d → length bytes ≡ n → bytes_misplaced d.layout.reached n ≡ false → nat_lt limit (size_with d n) ≡ false
+    → IsSoundAt (further d.layout.reached d.layout n) d.base d.permission (length (d.content ++ bytes)) (size_with d n) d.segments
+extend d bytes n h counted fits room =
+    let len : length (d.content ++ bytes) ≡ length d.content + n = length-append d.content bytes ∙ ap (λ (k : ℕ). length d.content + k) counted in
+    let short : length d.content + n ≤ size_with d n = grows d.size (length d.content) n (cond (is_empty d.content) 9 0) (n == 0) refl h.short in
+    rw len (extend-at d.layout.reached d.layout.used d.layout.begun d.base d.permission (length d.content) d.size (size_with d n) n d.segments h fits short (ltb-false limit (size_with d n) room))
+
+-- ---- a segment that begins
+
+or-three : (x y z : Bool) → (x || y || z) ≡ false → (x ≡ false) × (y ≡ false) × (z ≡ false)
+or-three true y z h = cc
+or-three false true z h = cc
+or-three false false true h = cc
+or-three false false false h = (refl, refl, refl)
+
+begin : (d : Draft) (a p v : ℕ) → IsSound d → segment_misplaced d.layout a p ≡ false → IsSound (applied d (Segment a p) v)
+begin d a p v h fits =
+    let parts = or-three (nat_lt 3 p) (nat_lt (a / 4096 * 4096) d.layout.used) (nat_le 64 d.layout.begun) fits in
+    let permitted : p ≤ 3 = ltb-false 3 p parts.0 in
+    let above : d.layout.used ≤ a / 4096 * 4096 = ltb-false (a / 4096 * 4096) d.layout.used parts.1 in
+    let few : d.layout.begun < 64 = leb-false 64 d.layout.begun parts.2 in
+    let old = is-closed d h in
+    let pages : page_after 0 (closed d.base d.permission d.content d.segments) * 4096 ≤ d.layout.used + 4095 = old.pages in
+    let count : length (closed d.base d.permission d.content d.segments) ≤ d.layout.begun = old.count in
+    let room : d.size ≤ 16777216 = h.room in
+    record {
+      segments = old.segments;
+      order = omega (arith, pages, above);
+      permitted = permitted;
+      pages = pages;
+      filled = λ lt. absurd (omega (arith, lt));
+      reached = (omega arith, omega (arith, count));
+      few = omega (arith, few);
+      short = omega arith;
+      room = room;
+    }
+
+apply : (d : Draft) (s : Statement) (v : ℕ) → IsSound d → is_misplaced d.layout s ≡ false → nat_lt limit (size_with d (size_of s)) ≡ false → IsSound (applied d s v)
+apply d Nothing v h fits room = extend d [] 0 h refl fits room
+apply d (Plain i) v h fits room = extend d (bytes_of (address_in d.layout.reached) (Plain i) v) 4 h (size-bytes (address_in d.layout.reached) (Plain i) v) fits room
+apply d (Branch c a b t) v h fits room = extend d (bytes_of (address_in d.layout.reached) (Branch c a b t) v) 4 h (size-bytes (address_in d.layout.reached) (Branch c a b t) v) fits room
+apply d (Jump r t) v h fits room = extend d (bytes_of (address_in d.layout.reached) (Jump r t) v) 4 h (size-bytes (address_in d.layout.reached) (Jump r t) v) fits room
+apply d (LoadImmediate r t) v h fits room = extend d (bytes_of (address_in d.layout.reached) (LoadImmediate r t) v) 8 h (size-bytes (address_in d.layout.reached) (LoadImmediate r t) v) fits room
+apply d (Segment a p) v h fits room = begin d a p v h fits
+apply d (Entry t) v h fits room = h
+apply d (Stack t) v h fits room = h
+apply d (Word t) v h fits room = extend d (bytes_of (address_in d.layout.reached) (Word t) v) 4 h (size-bytes (address_in d.layout.reached) (Word t) v) fits room
+apply d (Byte n) v h fits room = extend d (bytes_of (address_in d.layout.reached) (Byte n) v) 1 h (size-bytes (address_in d.layout.reached) (Byte n) v) fits room
+apply d (Zero n) v h fits room = extend d (bytes_of (address_in d.layout.reached) (Zero n) v) n h (size-bytes (address_in d.layout.reached) (Zero n) v) fits room
+
+-- ---- the size of the file
+
+-- what a segment with these bytes takes in the file
+abbrev pub cost : List ℕ → ℕ
+cost [] = 0
+cost (b ∷ bs) = 9 + length (b ∷ bs)
+
+segment-cost : (s : model.Segment) → length (flat_map segment_bytes (s ∷ [])) ≡ 9 + length s.content
+segment-cost s = ap length (flat_map-cons segment_bytes s []) ∙ (ap length (append-nil (segment_bytes s)) ∙ omega arith)
+
+closed-cost : (base permission : ℕ) (content : List ℕ) (ss : List model.Segment) → length (flat_map segment_bytes (closed base permission content ss)) ≡ length (flat_map segment_bytes ss) + cost content
+closed-cost base permission [] ss = omega arith
+closed-cost base permission (b ∷ bs) ss =
+    let s : model.Segment = record { address = base; permission = permission; content = b ∷ bs } in
+    let one : flat_map segment_bytes (ss ++ s ∷ []) ≡ flat_map segment_bytes ss ++ flat_map segment_bytes (s ∷ []) = flat_map-append segment_bytes ss (s ∷ []) in
+    let two : length (flat_map segment_bytes (s ∷ [])) ≡ 9 + length (b ∷ bs) = segment-cost s in
+    rw (one, length-append) (omega arith)
+
+add-cost : (content bytes : List ℕ) (size : ℕ) (t : Bool) → (length bytes == 0) ≡ t → (cond t size (size + length bytes + cond (is_empty content) 9 0)) + cost content ≡ size + cost (content ++ bytes)
+add-cost content [] size true e = rw append-nil refl
+add-cost content (x ∷ xs) size true e = absurd (omega (arith, eqb-true (length (x ∷ xs)) 0 e))
+add-cost content [] size false e = absurd (eqb-false 0 0 e refl)
+add-cost [] (x ∷ xs) size false e = omega arith
+add-cost (c ∷ cs) (x ∷ xs) size false e = omega (arith, length-append cs (x ∷ xs))
+
+-- the size is that of the file with every segment
+abbrev pub IsSized : Draft → Type 0
+IsSized d = d.size ≡ 14 + length (flat_map segment_bytes (closed d.base d.permission d.content d.segments))
+
+extend-size : (d : Draft) (bytes : List ℕ) (n : ℕ) → IsSized d → length bytes ≡ n → size_with d n ≡ 14 + length (flat_map segment_bytes (closed d.base d.permission (d.content ++ bytes) d.segments))
+extend-size d bytes n h counted =
+    let old : d.size ≡ 14 + (length (flat_map segment_bytes d.segments) + cost d.content) = h ∙ ap (λ (k : ℕ). 14 + k) (closed-cost d.base d.permission d.content d.segments) in
+    let new : size_with d (length bytes) + cost d.content ≡ d.size + cost (d.content ++ bytes) = add-cost d.content bytes d.size (length bytes == 0) refl in
+    let total : length (flat_map segment_bytes (closed d.base d.permission (d.content ++ bytes) d.segments)) ≡ length (flat_map segment_bytes d.segments) + cost (d.content ++ bytes) = closed-cost d.base d.permission (d.content ++ bytes) d.segments in
+    let grown : size_with d (length bytes) ≡ 14 + length (flat_map segment_bytes (closed d.base d.permission (d.content ++ bytes) d.segments)) = omega arith in
+    subst (λ (k : ℕ). size_with d k ≡ 14 + length (flat_map segment_bytes (closed d.base d.permission (d.content ++ bytes) d.segments))) counted grown
+
+apply-size : (d : Draft) (s : Statement) (v : ℕ) → IsSized d → IsSized (applied d s v)
+apply-size d Nothing v h = extend-size d [] 0 h refl
+apply-size d (Plain i) v h = extend-size d (bytes_of (address_in d.layout.reached) (Plain i) v) 4 h (size-bytes (address_in d.layout.reached) (Plain i) v)
+apply-size d (Branch c a b t) v h = extend-size d (bytes_of (address_in d.layout.reached) (Branch c a b t) v) 4 h (size-bytes (address_in d.layout.reached) (Branch c a b t) v)
+apply-size d (Jump r t) v h = extend-size d (bytes_of (address_in d.layout.reached) (Jump r t) v) 4 h (size-bytes (address_in d.layout.reached) (Jump r t) v)
+apply-size d (LoadImmediate r t) v h = extend-size d (bytes_of (address_in d.layout.reached) (LoadImmediate r t) v) 8 h (size-bytes (address_in d.layout.reached) (LoadImmediate r t) v)
+apply-size d (Word t) v h = extend-size d (bytes_of (address_in d.layout.reached) (Word t) v) 4 h (size-bytes (address_in d.layout.reached) (Word t) v)
+apply-size d (Byte n) v h = extend-size d (bytes_of (address_in d.layout.reached) (Byte n) v) 1 h (size-bytes (address_in d.layout.reached) (Byte n) v)
+apply-size d (Zero n) v h = extend-size d (bytes_of (address_in d.layout.reached) (Zero n) v) n h (size-bytes (address_in d.layout.reached) (Zero n) v)
+apply-size d (Segment a p) v h = h
+apply-size d (Entry t) v h = h
+apply-size d (Stack t) v h = h
+
+pub file-size : (d : Draft) → IsSized d → length (image_bytes (finished d)) ≡ d.size
+file-size d h = omega (arith, h)
+
+abbrev pub IsWhole : Draft → Type 0
+IsWhole d = IsSound d × IsSized d
+
+pub blank-whole : IsWhole blank
+blank-whole = (blank-sound, refl)
+
+-- ---- lines
+
+guard-ok : (b : Bool) (k : AsmErrorKind) (r : Result Draft AsmErrorKind) (e : Draft) → cond b (Err k) r ≡ Ok e → (b ≡ false) × (r ≡ Ok e)
+guard-ok true k r e h = cc
+guard-ok false k r e h = (refl, h)
+
+complete : (d e : Draft) (s : Statement) (value : Option ℕ) → IsWhole d → is_misplaced d.layout s ≡ false → nat_lt limit (size_with d (size_of s)) ≡ false → completed d s value ≡ Ok e → IsWhole e
+complete d e s None h fits room is = cc
+complete d e s (Some v) h fits room is =
+    let same : applied d s v ≡ e = cc in
+    subst IsWhole same (apply d s v h.0 fits room, apply-size d s v h.1)
+
+check : (labels : Labels) (number : ℕ) (d e : Draft) (label : Option (List ℕ)) (s : Statement) (value : Option ℕ) → IsWhole d → checked labels number d label s value ≡ Ok e → IsWhole e
+unfolding checked
+check labels number d e label s value h is =
+    let far = guard-ok (is_too_far (address_in d.layout.reached) s value) kinds.Number _ e is in
+    let twice = guard-ok (is_defined_before labels number label) kinds.Twice _ e far.1 in
+    let place = guard-ok (is_misplaced d.layout s) kinds.Place _ e twice.1 in
+    let big = guard-ok (nat_lt limit (size_with d (size_of s))) kinds.TooBig (completed d s value) e place.1 in
+    complete d e s value h place.0 big.0 big.1
+
+read : (labels : Labels) (number : ℕ) (d e : Draft) (label : Option (List ℕ)) (r : Read) → IsWhole d → (r >>= λ s. checked labels number d label s.0 (resolved labels s.1 (operand_of s.0))) ≡ Ok e → IsWhole e
+read labels number d e label (Ok s) h is = check labels number d e label s.0 (resolved labels s.1 (operand_of s.0)) h is
+read labels number d e label (Err k) h is = cc
+
+line : (labels : Labels) (number : ℕ) (d e : Draft) (text : List ℕ) → IsWhole d → with_line labels number d text ≡ Ok e → IsWhole e
+unfolding with_line
+line labels number d e text h is = read labels number d e (label_of text) (statement_in text) h is
+
+then : (number : ℕ) (r : Result Draft AsmErrorKind) (f : Draft → Result Draft AsmError) (e : Draft) → ((x : Draft) → r ≡ Ok x → IsWhole x) → ((x : Draft) → IsWhole x → f x ≡ Ok e → IsWhole e) → in_line number r f ≡ Ok e → IsWhole e
+then number (Ok x) f e sound others is = others x (sound x refl) is
+then number (Err k) f e sound others is = cc
+
+pub are-sound : (labels : Labels) (number : ℕ) (d e : Draft) (lines : List (List ℕ)) → IsWhole d → with_lines labels number d lines ≡ Ok e → IsWhole e
+unfolding with_lines
+are-sound labels number d e [] h is =
+    let same : d ≡ e = cc in
+    subst IsWhole same h
+are-sound labels number d e (l ∷ ls) h is =
+    then number (with_line labels number d l) (λ x. with_lines labels (number + 1) x ls) e (λ x at. line labels number d x l h at) (λ x sound at. are-sound labels (number + 1) x e ls sound at) is
+
+pub is-small : (d : Draft) (i : model.Image) → IsWhole d → i ≡ finished d → length (image_bytes i) ≤ 16777216
+is-small d i h is =
+    let size : length (image_bytes (finished d)) ≡ d.size = file-size d h.1 in
+    let room : d.size ≤ 16777216 = h.0.room in
+    subst (λ (j : model.Image). length (image_bytes j) ≤ 16777216) (sym is) (omega (arith, size, room))

@@ -1,0 +1,69 @@
+-- Where the bytes of lines stand, and what labels are worth.
+use Rattle.std.specs.Prelude.{ℕ, ◌+◌, ◌*◌, ◌/◌, ◌%◌, ◌^◌, Bool, ◌&&◌, ◌||◌, nat_lt, nat_le, ◌==◌, List, [], ◌∷◌, Option, Some, None, Ok, Err, if◌then◌else◌}
+use Rattle.source_model.specs.declared.statement.Statement.{Statement}
+use Rattle.source_model.specs.declared.statement.Statement.TheVariants.{Nothing, Plain, Branch, Jump, LoadImmediate, Segment, Entry, Stack, Word, Byte, Zero}
+use Rattle.source_model.specs.declared.statement.Layout.{Layout}
+use Rattle.source_model.specs.declared.statement.Definition.{Definition}
+use Rattle.source_model.specs.Text.{lines_of}
+use Rattle.source_model.specs.Statement.{Read}
+use Rattle.source_model.specs.Line.{statement_in, defines}
+
+-- how many bytes a statement has
+abbrev pub size_of : Statement → ℕ
+size_of Nothing = 0
+size_of (Plain i) = 4
+size_of (Branch c a b t) = 4
+size_of (Jump r t) = 4
+size_of (LoadImmediate r v) = 8
+size_of (Segment a p) = 0
+size_of (Entry v) = 0
+size_of (Stack v) = 0
+size_of (Word v) = 4
+size_of (Byte n) = 1
+size_of (Zero n) = n
+
+abbrev pub start : Layout
+start = record { reached = None; used = 0; begun = 0 }
+
+-- the address reached, 0 where no segment has begun
+abbrev pub address_in : Option ℕ → ℕ
+address_in None = 0
+address_in (Some a) = a % 2 ^ 32
+
+-- bytes before any segment or past the last address
+abbrev pub bytes_misplaced : Option ℕ → ℕ → Bool
+bytes_misplaced None n = nat_lt 0 n
+bytes_misplaced (Some a) n = nat_lt 0 n && nat_lt (2 ^ 32) (a + n)
+
+-- a permission above 3, a first page that is not above the last page with bytes, a segment after 64 others
+abbrev pub segment_misplaced : Layout → ℕ → ℕ → Bool
+segment_misplaced here a p = nat_lt 3 p || nat_lt (a / 4096 * 4096) here.used || nat_le 64 here.begun
+
+abbrev pub is_misplaced : Layout → Statement → Bool
+is_misplaced here (Segment a p) = segment_misplaced here a p
+is_misplaced here s = bytes_misplaced here.reached (size_of s)
+
+-- so many bytes further
+abbrev pub further : Option ℕ → Layout → ℕ → Layout
+further None here n = here
+further (Some a) here n = if n == 0 then here else record { reached = Some (a + n); used = a + n; begun = here.begun }
+
+abbrev pub after : Layout → Statement → Layout
+after here (Segment a p) = record { reached = Some a; used = here.used; begun = here.begun + 1 }
+after here s = further here.reached here (size_of s)
+
+-- a line with a fault of its own, or that is misplaced, has no bytes and begins no segment
+abbrev pub placed : Layout → Read → Layout
+placed here (Err kind) = here
+placed here (Ok s) = if is_misplaced here s.0 then here else after here s.0
+
+unfoldable pub next : Layout → List ℕ → Layout
+next here line = placed here (statement_in line)
+
+-- the first line that defines a label, and its value: the address reached before the line's statement
+unfoldable pub definition_in : ℕ → Layout → List (List ℕ) → List ℕ → Option Definition
+definition_in number here [] name = None
+definition_in number here (l ∷ ls) name = if defines name l then Some (record { line = number; value = address_in here.reached }) else definition_in (number + 1) (next here l) ls name
+
+unfoldable pub definitions : List ℕ → List ℕ → Option Definition
+definitions text name = definition_in 1 start (lines_of text) name

@@ -1,0 +1,11 @@
+pub mod Names
+pub mod Text
+pub mod Number
+pub mod Register
+pub mod Mnemonic
+pub mod Statement
+pub mod Line
+pub mod Layout
+pub mod Encoding
+pub mod Source
+pub mod Meaning

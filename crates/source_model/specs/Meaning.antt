@@ -1,0 +1,26 @@
+-- What a label is worth, in other words than those in which it is computed.
+use Rattle.std.specs.Prelude.{◌≡◌, ℕ, ◌+◌, true, false, List, [], ◌∷◌, ◌++◌, length}
+use Rattle.source_model.specs.declared.statement.Definition.{Definition}
+use Rattle.source_model.specs.declared.statement.Layout.{Layout}
+use Rattle.source_model.specs.Line.{defines}
+use Rattle.source_model.specs.Layout.{address_in, next}
+
+-- how far lines come
+abbrev pub reached_by : Layout → List (List ℕ) → Layout
+reached_by here [] = here
+reached_by here (l ∷ ls) = reached_by (next here l) ls
+
+abbrev pub NoneDefines : List ℕ → List (List ℕ) → Type 0
+NoneDefines name [] = Unit {0}
+NoneDefines name (l ∷ ls) = (defines name l ≡ false) × NoneDefines name ls
+
+-- some line defines the name, none before it does, and the value is the address that the lines before it reach
+pub record IsFirstDefinition (number : ℕ) (here : Layout) (lines : List (List ℕ)) (name : List ℕ) (d : Definition) : Type 0 where
+  pub before : List (List ℕ)
+  pub line : List ℕ
+  pub others : List (List ℕ)
+  pub split : lines ≡ before ++ line ∷ others
+  pub none : NoneDefines name before
+  pub defined : defines name line ≡ true
+  pub place : d.line ≡ number + length before
+  pub value : d.value ≡ address_in (reached_by here before).reached

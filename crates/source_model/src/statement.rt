@@ -1,0 +1,131 @@
+use instruction_model::{Comparison, Instruction, LoadKind, Operation, Width};
+
+/// A class of bytes, at the first of which a text is cut.
+#[derive(Clone, Copy, Debug, PartialEq, Eq)]
+pub enum Class {
+    /// A line feed.
+    LineFeed,
+    /// What begins a comment: `;` or `#`.
+    Comment,
+    /// A space or a tab.
+    Blank,
+    /// Any other byte than a space or a tab.
+    Solid,
+    /// Any other byte than a letter, a digit or `_`.
+    Outside,
+    /// What ends a word: a blank, a comma or a parenthesis.
+    WordEnd,
+    /// A byte that is not ASCII.
+    Foreign,
+}
+
+/// The base of a number's digits.
+#[derive(Clone, Copy, Debug, PartialEq, Eq)]
+pub enum Base {
+    Decimal,
+    Hexadecimal,
+}
+
+/// A number as it is written: a magnitude, and whether a minus stands before it.
+#[derive(Clone, Copy, Debug, PartialEq, Eq)]
+pub enum Number {
+    Plus(u64),
+    Minus(u64),
+}
+
+/// A value of 32 bits that is written as a number or as a label.
+#[derive(Clone, Copy, Debug, PartialEq, Eq)]
+pub enum Value {
+    /// The number, modulo 2^32.
+    Number(u32),
+    /// The value of the label that the statement's last word names.
+    Label,
+}
+
+/// What a statement's first word asks for.
+#[derive(Clone, Copy, Debug, PartialEq, Eq)]
+pub enum Mnemonic {
+    /// A computation over two registers.
+    Operate(Operation),
+    /// A computation over a register and a number.
+    OperateImmediate(Operation),
+    /// A shift by a number.
+    ShiftImmediate(Operation),
+    Load(LoadKind),
+    Store(Width),
+    Branch(Comparison),
+    Jalr,
+    Jal,
+    Lui,
+    Auipc,
+    /// An instruction without operands.
+    Alone(Instruction),
+    LoadImmediate,
+    Segment,
+    Entry,
+    Stack,
+    Word,
+    Byte,
+    Zero,
+}
+
+/// What a line asks for.
+#[derive(Clone, Copy, Debug, PartialEq, Eq)]
+pub enum Statement {
+    /// Nothing stands in the line.
+    Nothing,
+    /// An instruction that needs no label.
+    Plain(Instruction),
+    /// A branch to this address.
+    Branch {
+        comparison: Comparison,
+        rs1: u8,
+        rs2: u8,
+        target: Value,
+    },
+    /// A jump to this address.
+    Jump {
+        rd: u8,
+        target: Value,
+    },
+    /// Two instructions that load this value.
+    LoadImmediate {
+        rd: u8,
+        value: Value,
+    },
+    /// A segment begins at the address. A permission above 3 stands as 4.
+    Segment {
+        address: u32,
+        permission: u8,
+    },
+    /// Where the root begins.
+    Entry(Value),
+    /// The root's stack pointer.
+    Stack(Value),
+    /// Four bytes, little endian.
+    Word(Value),
+    /// A byte.
+    Byte(u8),
+    /// So many zeros. More than 2^32 stand as 2^32 + 1.
+    Zero(u64),
+}
+
+/// How far the lines of a source have come.
+#[derive(Clone, Copy, Debug, PartialEq, Eq)]
+pub struct Layout {
+    /// The address of the next byte, 0 to 2^32. None where no segment has begun.
+    pub reached: Option<u64>,
+    /// The address after the last byte, 0 where there is none.
+    pub used: u64,
+    /// How many segments have begun.
+    pub begun: u64,
+}
+
+/// Where a label is first defined.
+#[derive(Clone, Copy, Debug, PartialEq, Eq)]
+pub struct Definition {
+    /// The line, counted from 1.
+    pub line: u64,
+    /// The label's value: the address reached before the line's statement.
+    pub value: u32,
+}
