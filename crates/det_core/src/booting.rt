@@ -1,0 +1,38 @@
+ghost use Rattle.std.specs.Prelude.{◌≡◌, ◌≤◌, ◌<◌, ◌^◌, ◌+◌, ◌-◌, ◌/◌, OnOk, IfOk, length, List, map};
+ghost use Rattle.run_model.specs.Boot.{with_segment, with_segments, boot};
+ghost use Rattle.image_model.specs.Image.{IsSegment, last_page};
+ghost use Rattle.image_file.specs.View.{segment_view};
+
+use image_file::{Image, Segment};
+use space_mem::{Mem, Pages};
+use space_step::{Devices, Space, Top};
+use std::alloc::{AllocError, Global};
+
+// A segment's bytes, and its permission on each page that it touches.
+fn write_segment(memory: &mut Mem, segment: &Segment) -> Result<(), AllocError>
+    requires { IsSegment 0 (segment_view segment.now) }
+    ensures { OnOk result (memory.new ≡ with_segment memory.old (segment_view segment.now)) }
+{
+    let length = segment.bytes.len() as u64;
+    let first = segment.addr / 4096;
+    let last = ((u64::from(segment.addr) + length - 1) / 4096) as u32;
+    let pages = Pages {
+        first,
+        count: last + 1 - first,
+    };
+    memory.write_bytes(segment.addr, &segment.bytes)?;
+    memory.set_perm(pages, segment.perm)
+}
+
+/// The root of an image, with its devices and so much fuel: from 1 to 2^32 - 1 events.
+#[tactic(auto, unfolding(run_model::specs::Boot::boot))]
+pub fn boot(alloc: Global, image: &Image, devices: Devices, limit: u32) -> Result<Space, AllocError>
+    requires { 1 ≤ limit }
+    ensures { IfOk result (λ s. s ≡ boot image.now devices limit) }
+{
+    let mut memory = Mem::new(alloc);
+    for segment in image.segments() {
+        write_segment(&mut memory, segment)?;
+    }
+    Ok(Space::alone(Top::root(image.entry(), image.stack(), memory, limit, devices)))
+}
