@@ -1,0 +1,4 @@
+pub mod Stages
+pub mod Written
+pub mod Completeness
+pub mod Sources

@@ -1,0 +1,51 @@
+ghost use Rattle.std.specs.Prelude.{◌≡◌};
+ghost use Rattle.det_cli.specs.Status.{status_of};
+
+use image_file::ImageError;
+use rv_asm::AsmError;
+
+/// The first line of a script that says nothing known, counted from 1.
+#[derive(Clone, Copy, Debug, PartialEq, Eq)]
+pub struct ScriptError {
+    pub line: u64,
+}
+
+/// How a call of the program ended.
+#[derive(Clone, Copy, Debug, PartialEq, Eq)]
+pub enum End {
+    /// All was written; of a run, the root stopped by the call Ret.
+    Ret,
+    /// All was written, and the root stopped for another cause.
+    Trapped,
+    /// The words are no command.
+    Usage,
+    /// The image is within its limit, and no image; with its first fault.
+    BadImage(ImageError),
+    /// The script is within its limit, and no script; with its first fault.
+    BadScript(ScriptError),
+    /// The source is within its limit, and no source; with its first fault.
+    BadSource(AsmError),
+    /// A file has more bytes than its limit; `read` is one more than the limit.
+    TooLarge { read: u64 },
+    /// A file could not be loaded.
+    ReadFault,
+    /// The console or the report could not be written whole.
+    WriteFault,
+    /// Memory ran out.
+    NoMemory,
+}
+
+/// The status with which the program ends: 0 to 6.
+pub fn status(end: &End) -> u8
+    ensures { result ≡ status_of end.now }
+{
+    match end {
+        End::Ret => 0,
+        End::Trapped => 1,
+        End::Usage => 2,
+        End::BadImage(_) | End::BadScript(_) | End::BadSource(_) | End::TooLarge { .. } => 3,
+        End::ReadFault => 4,
+        End::WriteFault => 5,
+        End::NoMemory => 6,
+    }
+}

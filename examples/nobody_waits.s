@@ -1,0 +1,15 @@
+; A child forks a grandchild that loops; nobody waits for either.
+.segment 0x1000 1
+        addi a1, zero, 1
+        addi a7, zero, 16
+        ecall
+        bne a0, zero, kid
+        addi a7, zero, 3
+        ecall
+kid:    addi a1, zero, 2
+        addi a7, zero, 16
+        ecall
+        bne a0, zero, spin
+        addi a7, zero, 3
+        ecall
+spin:   jal zero, spin
