@@ -1,0 +1,30 @@
+//! `memory_bench ROUNDS`: measures loads, stores and fetches of words, and calls over the whole memory, of memories of
+//! 9, 1,000 and 10,000 pages. Each line has the best of so many rounds.
+#![tactic(auto)]
+
+mod accesses;
+mod measure;
+mod walks;
+mod whole;
+
+use std::{env, io};
+
+// The one argument as a number of rounds above 0.
+fn rounds(rt: &HostRuntime) -> io::Result<Option<u32>> {
+    let mut args = env::args(rt)?;
+    let _program = args.next();
+    let (Some(word), None) = (args.next(), args.next()) else {
+        return Ok(None);
+    };
+    match word.parse::<u32>() {
+        Ok(rounds) if rounds > 0 => Ok(Some(rounds)),
+        _ => Ok(None),
+    }
+}
+
+fn main(rt: HostRuntime) -> io::Result<()> {
+    match rounds(&rt)? {
+        Some(rounds) => measure::all(&rt, rt.alloc(), rounds),
+        None => println!(rt; "usage: memory_bench ROUNDS"),
+    }
+}

@@ -1,0 +1,122 @@
+ghost use Rattle.std.specs.Prelude.{◌≡◌, ◌<◌, ◌≤◌, IfOk};
+ghost use Rattle.memory_model.specs.Memory.{no_memory, with_permissions};
+
+use crate::accesses::{Access, pass};
+use crate::walks::{Order, WALK, WordAddress, walk};
+use crate::whole::{Call, time_of};
+use space_mem::{Mem, Pages};
+use std::alloc::{AllocError, Global};
+use std::io;
+use std::rt::Clock;
+use std::time::{Duration, Instant};
+
+// A memory whose first pages have bytes of their own and may be read and written.
+fn memory_of(alloc: Global, pages: u32) -> Result<Mem, AllocError>
+    requires { pages ≤ 1048576 }
+    ensures { IfOk result (λ mem. mem ≡ with_permissions no_memory 0 pages 3) }
+{
+    let mut mem = Mem::new(alloc);
+    let range = Pages {
+        first: 0,
+        count: pages,
+    };
+    mem.set_perm(range, 3)?;
+    mem.own(range)?;
+    Ok(mem)
+}
+
+// A line of what was measured. `operations` is how many a round has, and `best` its shortest time.
+fn print_line(
+    rt: &impl Print,
+    what: &str,
+    pages: u32,
+    operations: u32,
+    best: Duration,
+) -> io::Result<()> {
+    let nanoseconds = best.as_secs_f64() * 1e9 / operations as f64;
+    println!(rt; "{what:<18} {pages:>6} {operations:>10} {nanoseconds:>14.2}")
+}
+
+// The best time of a pass. The numbers that the passes gave are added to `sum`.
+fn best_pass(
+    rt: &impl Clock,
+    rounds: u32,
+    access: Access,
+    mem: &mut Mem,
+    walk: &[WordAddress],
+    sum: &mut u32,
+) -> io::Result<Duration> {
+    let mut best = Duration::MAX;
+    for _round in 0..rounds {
+        let start = Instant::now(rt)?;
+        let number = pass(access, mem, walk)?;
+        best = best.min(start.elapsed(rt)?);
+        *sum = sum.wrapping_add(number);
+    }
+    Ok(best)
+}
+
+// Measures each kind of access, in both orders. The number that it gives depends on each word that was read.
+fn passes(
+    rt: &(impl Clock + Print),
+    alloc: Global,
+    rounds: u32,
+    pages: u32,
+    mem: &mut Mem,
+) -> io::Result<u32>
+    requires some { 0 < pages }
+    requires within { pages ≤ 1048576 }
+{
+    let sequential = walk(alloc, Order::Sequential, pages)?;
+    let wandering = walk(alloc, Order::Wandering, pages)?;
+    let mut sum: u32 = 0;
+    for (what, access, walk) in [
+        ("walk, sequential", Access::Walk, &sequential),
+        ("load, sequential", Access::Load, &sequential),
+        ("fetch, sequential", Access::Fetch, &sequential),
+        ("store, sequential", Access::Store, &sequential),
+        ("walk, wandering", Access::Walk, &wandering),
+        ("load, wandering", Access::Load, &wandering),
+        ("fetch, wandering", Access::Fetch, &wandering),
+        ("store, wandering", Access::Store, &wandering),
+    ] {
+        let best = best_pass(rt, rounds, access, mem, walk, &mut sum)?;
+        print_line(rt, what, pages, WALK, best)?;
+    }
+    Ok(sum)
+}
+
+// Measures each call over the whole memory.
+fn calls(
+    rt: &(impl Clock + Print),
+    alloc: Global,
+    rounds: u32,
+    pages: u32,
+    mem: &mut Mem,
+) -> io::Result<()> {
+    for (what, call) in [
+        ("set_perm, whole", Call::SetPerm),
+        ("copy_from, whole", Call::CopyFrom),
+        ("frozen", Call::Frozen),
+    ] {
+        let mut best = Duration::MAX;
+        for _round in 0..rounds {
+            best = best.min(time_of(rt, alloc, call, mem)?);
+        }
+        print_line(rt, what, pages, 1, best)?;
+    }
+    Ok(())
+}
+
+/// Measures memories of 9, 1,000 and 10,000 pages that may be read and written, and prints a line for each operation: what, how many
+/// pages, how many operations a round has, and the nanoseconds of one in the best of the rounds.
+pub fn all(rt: &(impl Clock + Print), alloc: Global, rounds: u32) -> io::Result<()> {
+    println!(rt; "what                pages operations ns an operation")?;
+    let mut sum: u32 = 0;
+    for pages in [9, 1000, 10000] {
+        let mut mem = memory_of(alloc, pages)?;
+        sum = sum.wrapping_add(passes(rt, alloc, rounds, pages, &mut mem)?);
+        calls(rt, alloc, rounds, pages, &mut mem)?;
+    }
+    println!(rt; "sum of what was read: {sum}")
+}
