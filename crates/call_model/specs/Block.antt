@@ -1,0 +1,17 @@
+-- The register block: 34 words of four bytes each, the least byte first.
+use Rattle.std.specs.Prelude.{◌≡◌, ℕ, ◌*◌, ◌<◌, List, [], ◌∷◌, ◌++◌, slice_index}
+use Rattle.memory_model.specs.Memory.{number_from}
+use Rattle.memory_model.specs.declared.Width.TheVariants.{Four}
+use Rattle.call_model.specs.declared.Block.{Block}
+
+-- pc, x1 to x31, the number of the cause, the value
+abbrev pub words : Block → List ℕ
+words b = b.pc ∷ (b.x ++ b.cause ∷ b.value ∷ [])
+
+-- word k of these bytes
+unfoldable pub word_at : List ℕ → ℕ → ℕ
+word_at bytes k = number_from (λ a. slice_index bytes a) Four (4 * k)
+
+-- the bytes spell the block
+abbrev pub Spells : List ℕ → Block → Type 0
+Spells bytes b = (k : ℕ) → k < 34 → word_at bytes k ≡ slice_index (words b) k

@@ -1,0 +1,4 @@
+pub mod Options
+pub mod Tests
+pub mod Reading
+pub mod Block

@@ -1,0 +1,68 @@
+-- The options of Put and Get (OSDI 2010, "Efficient System-Enforced Deterministic Parallelism", the section on the kernel
+-- interface), as bits of a0, and what they ask of one another and of ranges of memory.
+use Rattle.std.specs.Prelude.{◌≡◌, ◌≤◌, ℕ, ◌+◌, ◌/◌, ◌%◌, ◌^◌, ◌==◌, Bool, not, ◌&&◌, ◌||◌, nat_lt, bit_and}
+
+abbrev pub regs : ℕ
+regs = 1
+
+abbrev pub copy : ℕ
+copy = 2
+
+abbrev pub zeroing : ℕ
+zeroing = 4
+
+abbrev pub perm : ℕ
+perm = 16
+
+abbrev pub start : ℕ
+start = 64
+
+abbrev pub limited : ℕ
+limited = 128
+
+-- one of these bits is among the options
+abbrev pub has : ℕ → ℕ → Bool
+has bits options = not (bit_and options bits == 0)
+
+-- bits 12 and 13
+abbrev pub permission : ℕ → ℕ
+permission options = options / 4096 % 4
+
+-- a bit that is no option and not of the permission
+abbrev pub has_unknown : ℕ → Bool
+has_unknown options = not (bit_and options 0x30D7 == options)
+
+-- permission bits without Perm; both of Copy and Zero
+abbrev pub has_clash : ℕ → Bool
+has_clash options = (has 0x3000 options && not (has perm options)) || (has copy options && has zeroing options)
+
+-- Limit without Start
+unfoldable pub bad_put_options : ℕ → Bool
+bad_put_options options = has_unknown options || (has_clash options || (has limited options && not (has start options)))
+
+-- Start or Limit
+unfoldable pub bad_get_options : ℕ → Bool
+bad_get_options options = has_unknown options || (has_clash options || (has start options || has limited options))
+
+-- the end is above the memory's
+abbrev pub passes_end : ℕ → ℕ → Bool
+passes_end address size = nat_lt (2 ^ 32) (address + size)
+
+-- no range of whole pages: an address or a size that is no multiple of 4,096, or an end above the memory's
+abbrev pub is_no_range : ℕ → ℕ → Bool
+is_no_range address size = not (address % 4096 == 0) || (not (size % 4096 == 0) || passes_end address size)
+
+-- whole pages that end within memory
+pub record IsRange (address size : ℕ) : Type 0 where
+  pub first : address % 4096 ≡ 0
+  pub whole : size % 4096 ≡ 0
+  pub within : address + size ≤ 2 ^ 32
+
+-- with Copy, Zero or Perm the destination, with Copy the source too
+unfoldable pub bad_ranges : ℕ → ℕ → ℕ → ℕ → Bool
+bad_ranges options source destination size =
+    ((has copy options || (has zeroing options || has perm options)) && is_no_range destination size) || (has copy options && is_no_range source size)
+
+-- with Regs: an address that is no multiple of 4, or from which on there are not 136 bytes
+unfoldable pub bad_block : ℕ → ℕ → Bool
+bad_block options block = has regs options && (not (block % 4 == 0) || nat_lt 0xFFFFFF78 block)

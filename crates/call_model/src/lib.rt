@@ -1,0 +1,42 @@
+//! Definitions of calls and of the register block, for contracts: `specs/` has them.
+#![tactic(auto)]
+
+/// What Put and Get are asked for (OSDI 2010, "Efficient System-Enforced Deterministic Parallelism", the section on the
+/// kernel interface), in registers a0 to a6. Options are bits: 1 Regs, 2 Copy, 4 Zero, 16 Perm, 64 Start, 128 Limit; bits
+/// 12 and 13 are the permission. Addresses and sizes are in bytes, the limit in events.
+#[derive(Clone, Copy, Debug, PartialEq, Eq)]
+pub struct Transfer {
+    pub options: u32,
+    pub child: u16,
+    pub block: u32,
+    pub source: u32,
+    pub destination: u32,
+    pub size: u32,
+    pub limit: u32,
+}
+
+/// A call of a space.
+#[derive(Clone, Copy, Debug, PartialEq, Eq)]
+pub enum Call {
+    /// Changes a child, and may start it.
+    Put(Transfer),
+    /// Changes the caller by what a child has.
+    Get(Transfer),
+    /// Stops with this value.
+    Ret { value: u32 },
+    /// Writes `len` bytes from `addr` on to the console.
+    ConsoleOut { addr: u32, len: u32 },
+}
+
+/// The number of the first test that a call's registers fail.
+#[derive(Clone, Copy, Debug, PartialEq, Eq)]
+pub struct Badcall(pub u8);
+
+/// The register block of Put and Get: pc, x1 to x31, and the number of the cause and the value with which a child has stopped.
+#[derive(Clone, Copy, Debug, PartialEq, Eq)]
+pub struct Block {
+    pub pc: u32,
+    pub x: [u32; 31],
+    pub cause: u32,
+    pub value: u32,
+}

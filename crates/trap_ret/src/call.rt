@@ -1,0 +1,129 @@
+ghost use Rattle.std.specs.Prelude.{◌≡◌, ◌<◌, false};
+ghost use Rattle.call_model.specs.Tests as table;
+ghost use Rattle.call_model.specs.Reading as reading;
+ghost use Rattle.call_model.specs.Reading.{IsAccepted};
+
+use crate::tests_on_registers::{
+    argument, is_get, is_put, is_ret, outside_root, too_deep, too_long, unknown_number,
+    wrong_block, wrong_child, wrong_options, wrong_range,
+};
+use call_model::{Badcall, Call, Transfer};
+use std::marker::Model;
+
+/// A call that passed the tests on registers. Options of Put and Get stand together; with Copy, Zero or Perm the destination
+/// is a range of whole pages of memory, with Copy the source too; with Regs the register block stands in memory, at a
+/// multiple of 4. Console out's bytes stand in memory and are at most 65,536.
+#[derive(Clone, Copy, Debug, PartialEq, Eq)]
+pub struct AcceptedCall {
+    call: Call,
+}
+
+impl Model for AcceptedCall {
+    ghost use Rattle.call_model.specs.declared.Call.{Call};
+    ghost use Rattle.call_model.specs.Reading.{IsAccepted};
+
+    ghost Value = { Call };
+
+    ghost view = { λ c. c.call };
+
+    ghost invariant = { λ c. IsAccepted c.call };
+
+    ghost inverse = { λ c. record { call = c } };
+}
+
+impl AcceptedCall {
+    /// The call, with what the tests keep.
+    #[inline(always)]
+    pub fn call(self) -> Call
+        ensures value { result ≡ self }
+        ensures kept { IsAccepted result }
+    {
+        self.call
+    }
+}
+
+// What registers a0 to a6 say to Put and Get.
+fn transfer(x: &[u32; 32]) -> Transfer
+    requires { table.argument x.now 1 < 65536 }
+    ensures { result ≡ reading.transfer x.now }
+{
+    Transfer {
+        options: argument(x, 0),
+        child: argument(x, 1) as u16,
+        block: argument(x, 2),
+        source: argument(x, 3),
+        destination: argument(x, 4),
+        size: argument(x, 5),
+        limit: argument(x, 6),
+    }
+}
+
+// The number of the first test that fails.
+fn first_failing(x: &[u32; 32], is_root: bool, depth: u8) -> Option<u8>
+    ensures { result ≡ table.first_failing x.now is_root depth }
+{
+    if unknown_number(x) {
+        Some(1)
+    } else if wrong_options(x) {
+        Some(2)
+    } else if wrong_child(x) {
+        Some(3)
+    } else if wrong_range(x) {
+        Some(4)
+    } else if outside_root(x, is_root) {
+        Some(6)
+    } else if too_long(x) {
+        Some(7)
+    } else if too_deep(x, depth) {
+        Some(8)
+    } else if wrong_block(x) {
+        Some(9)
+    } else {
+        None
+    }
+}
+
+// The call of registers that fail no test.
+#[tactic(auto, unfolding(call_model::specs::Reading::named, call_model::specs::Tests::unknown_number, call_model::specs::Tests::wrong_child))]
+fn named(x: &[u32; 32]) -> Call
+    requires number { table.unknown_number x.now ≡ false }
+    requires child { table.wrong_child x.now ≡ false }
+    ensures { result ≡ reading.named x.now }
+{
+    if is_put(x) {
+        Call::Put(transfer(x))
+    } else if is_get(x) {
+        Call::Get(transfer(x))
+    } else if is_ret(x) {
+        Call::Ret {
+            value: argument(x, 0),
+        }
+    } else {
+        Call::ConsoleOut {
+            addr: argument(x, 1),
+            len: argument(x, 2),
+        }
+    }
+}
+
+/// The call that registers x0 to x31 name, at the root or below it, at a depth of at most 8; where they fail a test, the
+/// number of the first. In this order:
+///
+/// 1. a7 is no call number;
+/// 2. an option that is not known, permission bits without Perm, both of Copy and Zero, Limit without Start, or in Get one
+///    of Start and Limit;
+/// 3. a child number above 65,535;
+/// 4. a range that is not of whole pages of 4,096 bytes, or one that passes the end of memory;
+/// 6. console out outside the root;
+/// 7. console out of more than 65,536 bytes;
+/// 8. Put at depth 8;
+/// 9. a register block at no multiple of 4, or above 0xFFFFFF78.
+#[tactic(auto, using(call_model::proofs::Accepted::named_accepted, call_model::proofs::Accepted::named_number, call_model::proofs::Accepted::named_child))]
+pub fn read_call(x: &[u32; 32], is_root: bool, depth: u8) -> Result<AcceptedCall, Badcall>
+    ensures { result ≡ reading.read x.now is_root depth }
+{
+    match first_failing(x, is_root, depth) {
+        Some(number) => Err(Badcall(number)),
+        None => Ok(AcceptedCall { call: named(x) }),
+    }
+}

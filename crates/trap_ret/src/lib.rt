@@ -1,0 +1,15 @@
+//! How a call is read from registers, the register block, and causes as numbers.
+#![tactic(auto)]
+
+mod block;
+mod call;
+mod causes;
+#[cfg(test)]
+mod tables;
+mod tests_on_registers;
+
+pub use block::{read_block, reread_block, rewrite_block, write_block};
+pub use call::{AcceptedCall, read_call};
+pub use call_model::{Badcall, Block, Call, Transfer};
+pub use causes::{cause_number, cause_of};
+pub use space_model::{Cause, Status};
