@@ -3,7 +3,7 @@ use Rattle.std.specs.Prelude.{◌≡◌, ℕ, zero, suc, ◌<◌, ◌≤◌, Boo
 use Rattle.std.proofs.Common.{refl, sym, ◌∙◌, ap, arith, get_or, subst, inl, inr}
 use Rattle.std.proofs.lemmas.Bool.{cases_lt, le-ltb, lt-ltb}
 use Rattle.space_mem.specs.declared.layout.Run.{Run}
-use Rattle.space_mem.specs.Runs.{end_of, covers, run_of, permission_of, byte_of, Ordered, IsPlace, SamePages}
+use Rattle.space_mem.specs.Runs.{end_of, covers, run_of, permission_of, byte_of, has_bytes, Ordered, IsPlace, SamePages}
 use Rattle.space_mem.proofs.Places.{ordered_bounds, run_at}
 
 covers_within : (r : Run) (p : ℕ) → r.first ≤ p → p < end_of r → covers r p ≡ true
@@ -73,15 +73,16 @@ place_past low high (x ∷ rs) (suc i) p r place within is = place_past low high
 
 -- the same pages
 pub same_refl : (rs : List Run) → SamePages rs rs
-same_refl rs = record { permission = λ p. refl; byte = λ p k. refl }
+same_refl rs = record { permission = λ p. refl; byte = λ p k. refl; kept = λ p kept. kept }
 
 pub same_trans : (rs ss ts : List Run) → SamePages rs ss → SamePages ss ts → SamePages rs ts
-same_trans rs ss ts a b = record { permission = λ p. a.permission p ∙ b.permission p; byte = λ p k. a.byte p k ∙ b.byte p k }
+same_trans rs ss ts a b = record { permission = λ p. a.permission p ∙ b.permission p; byte = λ p k. a.byte p k ∙ b.byte p k; kept = λ p kept. a.kept p (b.kept p kept) }
 
 pub same_cons : (r : Run) (rs ss : List Run) → SamePages rs ss → SamePages (r ∷ rs) (r ∷ ss)
 same_cons r rs ss same = record {
   permission = λ p. both p (covers r p);
   byte = λ p k. bytes p k (covers r p);
+  kept = λ p. owned p (covers r p);
 }
   where
     both : (p : ℕ) (b : Bool) → permission_of (cond b (Some r) (run_of rs p)) ≡ permission_of (cond b (Some r) (run_of ss p))
@@ -91,3 +92,7 @@ same_cons r rs ss same = record {
     bytes : (p k : ℕ) (b : Bool) → byte_of (cond b (Some r) (run_of rs p)) k ≡ byte_of (cond b (Some r) (run_of ss p)) k
     bytes p k true = refl
     bytes p k false = same.byte p k
+
+    owned : (p : ℕ) (b : Bool) → has_bytes (cond b (Some r) (run_of ss p)) ≡ true → has_bytes (cond b (Some r) (run_of rs p)) ≡ true
+    owned p true kept = kept
+    owned p false kept = same.kept p kept

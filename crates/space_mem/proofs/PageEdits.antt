@@ -1,5 +1,5 @@
 -- What an edit of a page's bytes does to an ordered list.
-use Rattle.std.specs.Prelude.{◌≡◌, ℕ, ◌+◌, ◌-◌, ◌%◌, ◌<◌, ◌≤◌, List, ◌++◌, take, drop, length, slice_index, slice_set, Option, Some, None, is_some, IsOk, OnOk, false}
+use Rattle.std.specs.Prelude.{◌≡◌, ℕ, ◌+◌, ◌-◌, ◌%◌, ◌<◌, ◌≤◌, List, ◌++◌, take, drop, length, slice_index, slice_set, Option, Some, None, is_some, IsOk, OnOk, OnErr, false}
 use Rattle.std.proofs.Common.{Result, Ok, Err, refl, sym, ◌∙◌, ap, arith, get_or, set, subst, inl, inr}
 use Rattle.std.proofs.lemmas.List.{get_or-set_same, get_or-set_other, length-set, length-take-le, length-append, length-drop, get_or_append_left, get_or-append_right, get_or-take, get_or-drop}
 use Rattle.std.proofs.lemmas.Bool.{cases_eq, cases_lt, true≢false, false≢true}
@@ -50,7 +50,7 @@ edited_list page rs i r p q edit o entry is has whole is_edit new =
         bytes = bytes_of p;
         whole = whole;
         was = λ k. ap (λ o. byte_of o k) here ∙ ap (λ o. byte_in o k) has;
-        sets = sets_page page rs i r (record r { page = Some q }) (edit (bytes_of p)) o entry.in_range is first count refl refl refl good (λ k. ap (λ bs. slice_index bs k) is_edit);
+        sets = sets_page page rs i r (record r { page = Some q }) (edit (bytes_of p)) o entry.in_range is first count refl refl refl good (λ k. ap (λ bs. slice_index bs k) is_edit) refl;
       };
     }
 
@@ -64,7 +64,7 @@ filled_list page rs i r q o entry is has whole zeros =
     let here : run_of rs page ≡ Some r = run_of-read 0 1048576 rs i page r o entry.in_range is (omega arith) (omega arith) in (
       ordered_set 0 1048576 rs i r (record r { page = Some q }) o is refl refl good,
       same_set page (bytes_of q) rs (set rs i (record r { page = Some q }))
-          (sets_page page rs i r (record r { page = Some q }) (bytes_of q) o entry.in_range is first count refl refl refl good (λ k. refl))
+          (sets_page page rs i r (record r { page = Some q }) (bytes_of q) o entry.in_range is first count refl refl refl good (λ k. refl) refl)
           (λ k. ap (λ o. byte_of o k) here ∙ ap (λ o. byte_in o k) has ∙ sym (zeros k)),
     )
 
@@ -80,6 +80,10 @@ no_value (Some x) none = absurd (true≢false none)
 pub always : {T E : Type 0} (r : Result T E) (P : Type 0) → P → OnOk r P
 always (Ok x) P p = p
 always (Err e) P p = tt
+
+pub at_error : {T E : Type 0} (r : Result T E) (P : Type 0) → P → OnErr r P
+at_error (Ok x) P p = tt
+at_error (Err e) P p = p
 
 -- bytes over those of a page
 pub overwritten_before : (bytes : List ℕ) (at : ℕ) (new : List ℕ) (k : ℕ) → length bytes ≡ 4096 → at + length new ≤ 4096 → k < at → slice_index (overwritten bytes at new) k ≡ slice_index bytes k
@@ -127,5 +131,5 @@ put_list page rs i r q o entry is whole =
     let count : r.count ≡ 1 = ap (λ x. x.count) is ∙ (entry.run r).1 in
     let good : IsRun (record r { page = Some q }) = record { some = run.some; permission = run.permission; kept = (count, whole) } in (
       ordered_set 0 1048576 rs i r (record r { page = Some q }) o is refl refl good,
-      sets_page page rs i r (record r { page = Some q }) (bytes_of q) o entry.in_range is first count refl refl refl good (λ k. refl),
+      sets_page page rs i r (record r { page = Some q }) (bytes_of q) o entry.in_range is first count refl refl refl good (λ k. refl) refl,
     )

@@ -5,7 +5,7 @@ use Rattle.std.proofs.lemmas.List.{get_or_default}
 use Rattle.memory_model.specs.declared.Width.{Width}
 use Rattle.memory_model.specs.Memory.{byte_at, width_bytes, number_from, may_read, may_write}
 use Rattle.space_mem.specs.declared.layout.Run.{Run}
-use Rattle.space_mem.specs.Runs.{end_of, run_of, permission_of, byte_of, memory_of, Ordered, IsPlace, IsFound}
+use Rattle.space_mem.specs.Runs.{end_of, run_of, permission_of, byte_of, memory_of, Ordered, IsPlace, IsEntry, IsFound}
 use Rattle.space_mem.proofs.Places.{read_at}
 use Rattle.space_mem.proofs.Lookups.{run_of-read, place_past}
 use Rattle.space_mem.proofs.Memories.{may_read-run, may_write-run, number-memory_of}
@@ -42,5 +42,12 @@ read_run rs a width o ordered aligned run =
     ∙ ap (number_if (permission_of (run_of rs (a / 4096)) % 2 == 1)) (number-memory_of rs a width ordered aligned)
     ∙ ap (λ x. number_if (permission_of x % 2 == 1) (number_from (byte_of x) width (a % 4096))) run)
 
+pub number_run : (rs : List Run) (a : ℕ) (width : Width) (o : Option Run) → Ordered 0 1048576 rs → a % width_bytes width ≡ 0 → run_of rs (a / 4096) ≡ o → number_from (byte_of o) width (a % 4096) ≡ number_from (byte_at (memory_of rs)) width a
+number_run rs a width o ordered aligned run = sym (number-memory_of rs a width ordered aligned ∙ ap (λ x. number_from (byte_of x) width (a % 4096)) run)
+
 pub may_write-at : (rs : List Run) (a : ℕ) (o : Option Run) → Ordered 0 1048576 rs → run_of rs (a / 4096) ≡ o → (permission_of o / 2 % 2 == 1) ≡ may_write (memory_of rs) a
 may_write-at rs a o ordered run = sym (may_write-run rs ordered a ∙ ap (λ x. permission_of x / 2 % 2 == 1) run)
+
+-- what the run of a page alone says of its writing
+pub entry_writes : (rs : List Run) (a i : ℕ) (r : Run) → Ordered 0 1048576 rs → IsEntry (a / 4096) rs i → r ≡ get_or rs i r → (r.permission / 2 % 2 == 1) ≡ may_write (memory_of rs) a
+entry_writes rs a i r o entry is = may_write-at rs a (Some r) o (first_run (a / 4096) rs i r o entry.in_range is (ap (λ x. x.first) is ∙ (entry.run r).0))

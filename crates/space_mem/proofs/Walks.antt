@@ -8,7 +8,7 @@ use Rattle.memory_model.proofs.Rows.{value_at-row, value_at-row_before, value_at
 use Rattle.page_store.specs.declared.PageRef.{PageRef}
 use Rattle.page_store.specs.Bytes.{bytes_of, IsPage}
 use Rattle.space_mem.specs.declared.layout.Run.{Run}
-use Rattle.space_mem.specs.Runs.{end_of, run_of, permission_of, byte_in, byte_of, IsKept, memory_of, Ordered, SamePages, SetsPage, IsCopy, AreCopies, IsFound}
+use Rattle.space_mem.specs.Runs.{end_of, run_of, permission_of, byte_in, byte_of, has_bytes, IsKept, memory_of, Ordered, SamePages, SetsPage, IsCopy, AreCopies, IsFound}
 use Rattle.space_mem.proofs.Places.{read_at}
 use Rattle.space_mem.proofs.Lookups.{run_of-here, run_of-before, run_of-after, cases_run}
 use Rattle.space_mem.proofs.Memories.{memory_same, edited_is, byte_at-page}
@@ -54,8 +54,8 @@ copies_ordered low high (r ∷ rs) (s ∷ ss) all o =
     let to : end_of r ≡ end_of s = omega (arith, all.0.first, all.0.count) in
     (all.0.run, (omega (arith, o.1.0, all.0.first), copies_ordered (end_of s) high rs ss all.1 (subst (λ n. Ordered n high rs) to o.1.1)))
 
-copied_page : (rs ss : List Run) → AreCopies rs ss → (p : ℕ) → (permission_of (run_of ss p) ≡ permission_of (run_of rs p)) × ((k : ℕ) → byte_of (run_of ss p) k ≡ byte_of (run_of rs p) k)
-copied_page [] [] all p = (refl, λ k. refl)
+copied_page : (rs ss : List Run) → AreCopies rs ss → (p : ℕ) → (permission_of (run_of ss p) ≡ permission_of (run_of rs p)) × (((k : ℕ) → byte_of (run_of ss p) k ≡ byte_of (run_of rs p) k) × (has_bytes (run_of ss p) ≡ has_bytes (run_of rs p)))
+copied_page [] [] all p = (refl, (λ k. refl, refl))
 copied_page [] (s ∷ ss) all p = absurd all
 copied_page (r ∷ rs) [] all p = absurd all
 copied_page (r ∷ rs) (s ∷ ss) all p =
@@ -64,21 +64,25 @@ copied_page (r ∷ rs) (s ∷ ss) all p =
       | inl before ↦
           let e = run_of-before s ss p (omega (arith, all.0.first)) in
           let f = run_of-before r rs p before in
-          (ap permission_of e ∙ rest.0 ∙ sym (ap permission_of f), λ k. ap (λ o. byte_of o k) e ∙ rest.1 k ∙ sym (ap (λ o. byte_of o k) f))
+          (ap permission_of e ∙ rest.0 ∙ sym (ap permission_of f), (λ k. ap (λ o. byte_of o k) e ∙ rest.1.0 k ∙ sym (ap (λ o. byte_of o k) f), ap has_bytes e ∙ rest.1.1 ∙ sym (ap has_bytes f)))
       | inr later ↦ elim later [
         | inl within ↦
             let e = run_of-here s ss p (omega (arith, within.0, all.0.first)) (omega (arith, within.1, all.0.first, all.0.count)) in
             let f = run_of-here r rs p within.0 within.1 in
-            (ap permission_of e ∙ all.0.permission ∙ sym (ap permission_of f), λ k. ap (λ o. byte_of o k) e ∙ all.0.byte k ∙ sym (ap (λ o. byte_of o k) f))
+            (ap permission_of e ∙ all.0.permission ∙ sym (ap permission_of f), (λ k. ap (λ o. byte_of o k) e ∙ all.0.byte k ∙ sym (ap (λ o. byte_of o k) f), ap has_bytes e ∙ all.0.kept ∙ sym (ap has_bytes f)))
         | inr after ↦
             let e = run_of-after s ss p (omega (arith, after, all.0.first, all.0.count)) in
             let f = run_of-after r rs p after in
-            (ap permission_of e ∙ rest.0 ∙ sym (ap permission_of f), λ k. ap (λ o. byte_of o k) e ∙ rest.1 k ∙ sym (ap (λ o. byte_of o k) f))
+            (ap permission_of e ∙ rest.0 ∙ sym (ap permission_of f), (λ k. ap (λ o. byte_of o k) e ∙ rest.1.0 k ∙ sym (ap (λ o. byte_of o k) f), ap has_bytes e ∙ rest.1.1 ∙ sym (ap has_bytes f)))
       ]
     ]
 
 pub copies_same : (rs ss : List Run) → AreCopies rs ss → SamePages ss rs
-copies_same rs ss all = record { permission = λ p. (copied_page rs ss all p).0; byte = λ p. (copied_page rs ss all p).1 }
+copies_same rs ss all = record {
+  permission = λ p. (copied_page rs ss all p).0;
+  byte = λ p. (copied_page rs ss all p).1.0;
+  kept = λ p kept. (copied_page rs ss all p).1.1 ∙ kept;
+}
 
 pub if_some : {T : Type 0} (o : Option T) (P Q : T → Type 0) → IfSome o P → ((x : T) → P x → Q x) → IfSome o Q
 if_some None P Q h f = tt

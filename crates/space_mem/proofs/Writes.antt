@@ -11,8 +11,9 @@ use Rattle.memory_model.specs.Ranges.{IsZeroPage}
 use Rattle.page_store.specs.declared.PageRef.{PageRef}
 use Rattle.page_store.specs.Bytes.{with_number_in, overwritten}
 use Rattle.space_mem.specs.declared.layout.Run.{Run}
-use Rattle.space_mem.specs.Runs.{end_of, run_of, byte_of, byte_in, IsKept, memory_of, Ordered, SamePages, IsEntry, HasPage, IsEdited}
+use Rattle.space_mem.specs.Runs.{end_of, run_of, byte_of, byte_in, has_bytes, IsKept, IsOwned, memory_of, Ordered, SamePages, IsEntry, HasPage, IsEdited}
 use Rattle.space_mem.proofs.Places.{read_at}
+use Rattle.space_mem.proofs.Lookups.{run_of-at}
 use Rattle.space_mem.proofs.PageEdits.{overwritten_before, overwritten_here, overwritten_after}
 use Rattle.space_mem.proofs.Memories.{IsWithPage, memory_same, edited_is, with_page_start, with_page_byte, with_page_number, byte_at-page}
 
@@ -51,6 +52,14 @@ keeps_entry page rs i r o within is from to some =
       },
       λ d. subst (λ x. IsSome x.page) (same d) some,
     )
+
+-- bytes of a page are kept where its own run keeps bytes
+pub entry_owned : (page : ℕ) (rs : List Run) (i : ℕ) → Ordered 0 1048576 rs → IsEntry page rs i → HasPage rs i → IsOwned rs page
+entry_owned page rs i o entry kept =
+    let d : Run = record { first = 0; count = 0; permission = 0; page = None } in
+    let from = (entry.run d).0 in
+    let count = (entry.run d).1 in
+    ap has_bytes (run_of-at 0 1048576 rs i page d o entry.in_range (omega arith) (omega arith)) ∙ kept d
 
 -- a page of which no bytes are kept has zeros
 pub zero_page : (page : ℕ) (rs : List Run) (o : Option Run) → Ordered 0 1048576 rs → run_of rs page ≡ o → ((k : ℕ) → byte_of o k ≡ 0) → IsZeroPage (memory_of rs) page

@@ -1,5 +1,5 @@
 -- A list of runs of pages, and the memory that it stands for.
-use Rattle.std.specs.Prelude.{◌≡◌, ℕ, zero, suc, ◌+◌, ◌-◌, ◌/◌, ◌%◌, ◌<◌, ◌≤◌, Bool, cond, not, ◌&&◌, nat_lt, List, [], ◌∷◌, ◌++◌, take, drop, slice_index, slice_index_or, length, Option, Some, None, IsSome, ◌⊎◌}
+use Rattle.std.specs.Prelude.{◌≡◌, ℕ, zero, suc, ◌+◌, ◌-◌, ◌/◌, ◌%◌, ◌<◌, ◌≤◌, Bool, cond, not, ◌&&◌, nat_lt, List, [], ◌∷◌, ◌++◌, take, drop, slice_index, slice_index_or, length, Option, Some, None, is_some, IsSome, true, false, ◌⊎◌}
 use Rattle.memory_model.specs.Sparse.{no_values}
 use Rattle.memory_model.specs.Memory.{Memory}
 use Rattle.memory_model.specs.Ranges.{with_row}
@@ -46,6 +46,15 @@ memory_by permission byte = record {
 abbrev pub memory_of : List Run → Memory
 memory_of rs = memory_by (λ p. permission_of (run_of rs p)) (λ p. byte_of (run_of rs p))
 
+-- whether bytes of a page are kept, by its run
+abbrev pub has_bytes : Option Run → Bool
+has_bytes None = false
+has_bytes (Some r) = is_some r.page
+
+-- bytes of a page are kept
+abbrev pub IsOwned : List Run → ℕ → Type 0
+IsOwned rs p = has_bytes (run_of rs p) ≡ true
+
 -- a run with bytes is one page
 abbrev pub IsKept : Option PageRef → ℕ → Type 0
 IsKept None count = Unit {0}
@@ -73,21 +82,23 @@ IsPlace page [] i = i ≡ 0
 IsPlace page (r ∷ rs) zero = page < end_of r
 IsPlace page (r ∷ rs) (suc i) = (end_of r ≤ page) × IsPlace page rs i
 
--- two lists of runs that stand for the same pages
+-- two lists of runs that stand for the same pages; the first keeps bytes of each page of which the second does
 pub record SamePages (rs ss : List Run) : Type 0 where
   pub permission : (p : ℕ) → permission_of (run_of rs p) ≡ permission_of (run_of ss p)
   pub byte : (p k : ℕ) → byte_of (run_of rs p) k ≡ byte_of (run_of ss p) k
+  pub kept : (p : ℕ) → IsOwned ss p → IsOwned rs p
 
 -- a page's own run of one page stands at an index
 pub record IsEntry (page : ℕ) (rs : List Run) (i : ℕ) : Type 0 where
   pub in_range : i < length rs
   pub run : (d : Run) → ((slice_index_or rs i d).first ≡ page) × ((slice_index_or rs i d).count ≡ 1)
 
--- one page has other bytes; all else is the same
+-- one page has other bytes; all else is the same, and no page's bytes are dropped
 pub record SetsPage (page : ℕ) (bytes : List ℕ) (old new : List Run) : Type 0 where
   pub permission : (p : ℕ) → permission_of (run_of new p) ≡ permission_of (run_of old p)
   pub byte : (k : ℕ) → byte_of (run_of new page) k ≡ slice_index bytes k
   pub other : (p k : ℕ) → (p ≡ page → ⊥) → byte_of (run_of new p) k ≡ byte_of (run_of old p) k
+  pub kept : (p : ℕ) → IsOwned old p → IsOwned new p
 
 -- the run at an index keeps bytes
 abbrev pub HasPage : List Run → ℕ → Type 0
@@ -133,6 +144,7 @@ pub record IsCopy (r s : Run) : Type 0 where
   pub count : s.count ≡ r.count
   pub permission : s.permission ≡ r.permission
   pub byte : (k : ℕ) → byte_in s.page k ≡ byte_in r.page k
+  pub kept : is_some s.page ≡ is_some r.page
 
 -- runs of the same pages, one by one
 abbrev pub AreCopies : List Run → List Run → Type 0

@@ -2,8 +2,8 @@
 use Rattle.std.proofs.Common.{◌≡◌, ℕ, ◌+◌, ◌/◌, ◌%◌, true, cond, ◌==◌, refl, ap, ◌∙◌}
 use Rattle.memory_model.specs.declared.Width.{Width}
 use Rattle.memory_model.specs.declared.Width.TheVariants.{One, Two, Four}
-use Rattle.memory_model.specs.Sparse.{put, value_at-put}
-use Rattle.memory_model.specs.Memory.{Memory, byte_at, may_fetch, may_read, may_write, with_byte, with_number}
+use Rattle.memory_model.specs.Sparse.{value_at-put}
+use Rattle.memory_model.specs.Memory.{Memory, byte_at, may_fetch, may_read, may_write, with_number}
 use Rattle.rv_exec.specs.Access.{stored_byte}
 
 pub byte_stored : (m : Memory) (a : ℕ) (w : Width) (v q : ℕ) → byte_at (with_number m a w v) q ≡ stored_byte (byte_at m) a w v q

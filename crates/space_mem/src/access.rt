@@ -1,12 +1,13 @@
 ghost use Rattle.std.specs.Prelude.{◌≡◌, ℕ, ◌+◌, ◌/◌, ◌%◌, ◌<◌, ◌≤◌, ◌==◌, length, IfSome, IsNone, if◌then◌else◌, slice_index_or};
 ghost use Rattle.memory_model.specs.Memory.{number_from, width_bytes, byte_at, permission_at, may_read, may_write};
 ghost use Rattle.memory_model.specs.Ranges.{IsBounded};
+ghost use Rattle.memory_model.specs.declared.Width.TheVariants.{Four};
 ghost use Rattle.space_mem.specs.Runs.{Ordered, memory_of, run_of, byte_in, IsFound};
 
+use crate::guesses::Guesses;
 use crate::layout::Run;
 use crate::search::place;
 use memory_model::Width;
-use std::cell::Cell;
 
 // The index of the run that has a page.
 pub fn found(runs: &[Run], page: u32) -> Option<usize>
@@ -21,32 +22,32 @@ pub fn found(runs: &[Run], page: u32) -> Option<usize>
     None
 }
 
-// The number of `width` bytes at an aligned address, if it may be read. The run that was asked last is tried first.
+// The number of `width` bytes at an aligned address, if it may be read. A guess at its run is tried first.
 #[inline(always)]
-pub fn load(runs: &[Run], last: &Cell<usize>, at: u32, width: Width) -> Option<u32>
+pub fn load(runs: &[Run], guesses: &Guesses, at: u32, width: Width) -> Option<u32>
     requires ordered { Ordered 0 1048576 runs.now }
     requires aligned { at % width_bytes width ≡ 0 }
     ensures { let m = memory_of runs.now in result ≡ (if may_read m at then Some (number_from (byte_at m) width at) else None) }
 {
-    let asked = last.get();
+    let asked = guesses.of(at / 4096);
     if asked < runs.len() {
         let run = &runs[asked];
         if run.first == at / 4096 {
             return load_in(run, (at % 4096) as u16, width);
         }
     }
-    load_slow(runs, last, at, width)
+    load_slow(runs, guesses, at, width)
 }
 
 #[inline(never)]
-fn load_slow(runs: &[Run], last: &Cell<usize>, at: u32, width: Width) -> Option<u32>
+fn load_slow(runs: &[Run], guesses: &Guesses, at: u32, width: Width) -> Option<u32>
     requires ordered { Ordered 0 1048576 runs.now }
     requires aligned { at % width_bytes width ≡ 0 }
     ensures { let m = memory_of runs.now in result ≡ (if may_read m at then Some (number_from (byte_at m) width at) else None) }
 {
     match found(runs, at / 4096) {
         Some(place) => {
-            last.set(place);
+            guesses.remember(at / 4096, place);
             load_in(&runs[place], (at % 4096) as u16, width)
         }
         None => None,
@@ -63,36 +64,78 @@ fn load_in(run: &Run, at: u16, width: Width) -> Option<u32>
     if run.permission % 2 != 1 {
         return None;
     }
+    Some(number_in(run, at, width))
+}
+
+// The number at a place of a run's page, whatever its permission.
+#[inline(always)]
+fn number_in(run: &Run, at: u16, width: Width) -> u32
+    requires within { at < 4096 }
+    requires aligned { at % width_bytes width ≡ 0 }
+    ensures { result ≡ number_from (byte_in run.now.page) width at }
+{
     match &run.page {
-        Some(page) => Some(page.number(at, width)),
-        None => Some(0),
+        Some(page) => page.number(at, width),
+        None => 0,
     }
 }
 
-// Whether the page of an address may be written. The run that was asked last is tried first.
+// The word at a multiple of 4, whatever the permission. A guess at its run is tried first.
 #[inline(always)]
-pub fn can_store(runs: &[Run], last: &Cell<usize>, at: u32) -> bool
+pub fn word(runs: &[Run], guesses: &Guesses, at: u32) -> u32
+    requires ordered { Ordered 0 1048576 runs.now }
+    requires aligned { at % 4 ≡ 0 }
+    ensures { result ≡ number_from (byte_at (memory_of runs.now)) Four at }
+{
+    let asked = guesses.of(at / 4096);
+    if asked < runs.len() {
+        let run = &runs[asked];
+        if run.first == at / 4096 {
+            return number_in(run, (at % 4096) as u16, Width::Four);
+        }
+    }
+    word_slow(runs, guesses, at)
+}
+
+#[inline(never)]
+fn word_slow(runs: &[Run], guesses: &Guesses, at: u32) -> u32
+    requires ordered { Ordered 0 1048576 runs.now }
+    requires aligned { at % 4 ≡ 0 }
+    ensures { result ≡ number_from (byte_at (memory_of runs.now)) Four at }
+{
+    match found(runs, at / 4096) {
+        Some(place) => {
+            guesses.remember(at / 4096, place);
+            number_in(&runs[place], (at % 4096) as u16, Width::Four)
+        }
+        None => 0,
+    }
+}
+
+// Whether the page of an address may be written. A guess at its run is tried first.
+#[inline(always)]
+pub fn can_store(runs: &[Run], guesses: &Guesses, at: u32) -> bool
     requires { Ordered 0 1048576 runs.now }
     ensures { result ≡ may_write (memory_of runs.now) at }
 {
-    let asked = last.get();
+    let asked = guesses.of(at / 4096);
     if asked < runs.len() {
         let run = &runs[asked];
         if run.first == at / 4096 {
             return run.permission / 2 % 2 == 1;
         }
     }
-    can_store_slow(runs, last, at)
+    can_store_slow(runs, guesses, at)
 }
 
 #[inline(never)]
-fn can_store_slow(runs: &[Run], last: &Cell<usize>, at: u32) -> bool
+fn can_store_slow(runs: &[Run], guesses: &Guesses, at: u32) -> bool
     requires { Ordered 0 1048576 runs.now }
     ensures { result ≡ may_write (memory_of runs.now) at }
 {
     match found(runs, at / 4096) {
         Some(place) => {
-            last.set(place);
+            guesses.remember(at / 4096, place);
             let run = &runs[place];
             run.permission / 2 % 2 == 1
         }

@@ -33,11 +33,9 @@ impl Bus for Mem {
 
     #[inline(always)]
     fn store(&mut self, at: u32, width: Width, value: u32) -> Result<(), StoreFault> {
-        if !self.can_store(at) {
-            return Err(StoreFault::Fault(Fault { cause: 7, addr: at }));
-        }
-        match Mem::store(self, at, width, value) {
-            Ok(()) => Ok(()),
+        match self.try_store(at, width, value) {
+            Ok(true) => Ok(()),
+            Ok(false) => Err(StoreFault::Fault(Fault { cause: 7, addr: at })),
             Err(_) => Err(StoreFault::Memory),
         }
     }

@@ -7,6 +7,7 @@ mod byte_string;
 mod copy;
 mod edit;
 mod edit_page;
+mod guesses;
 mod layout;
 mod memory;
 mod permissions;

@@ -1,27 +1,26 @@
-ghost use Rattle.std.specs.Prelude.{◌≡◌, ℕ, ◌+◌, ◌*◌, ◌/◌, ◌%◌, ◌<◌, ◌≤◌, ◌^◌, length, take, IfOk, IfSome, IsNone, OnOk, OnErr, IsOk, IsTrue, if◌then◌else◌};
+ghost use Rattle.std.specs.Prelude.{◌≡◌, ℕ, ◌+◌, ◌*◌, ◌/◌, ◌%◌, ◌<◌, ◌≤◌, ◌^◌, length, IfOk, IfSome, IsNone, OnOk, OnErr, IsOk, IsTrue, if◌then◌else◌};
 ghost use Rattle.memory_model.specs.Memory.{Memory, no_memory, byte_at, permission_at, may_read, may_fetch, may_write, width_bytes, number_from, with_byte, with_bytes, with_number, with_permissions, first_without, bytes_from};
 ghost use Rattle.memory_model.specs.Ranges.{IsZeroPage, IsPageOf, IsBounded, IsNextPage, NoneUsed, with_copies, with_page, with_zeros};
 ghost use Rattle.page_store.specs.Bytes.{bytes_of};
 
+use crate::guesses::Guesses;
 use crate::layout::{Pages, Run};
 use crate::{access, byte_string, copy, permissions, rights, store, walk, zero};
 use memory_model::Width;
 use page_store::PageRef;
 use std::alloc::{AllocError, Global};
-use std::cell::Cell;
 use std::marker::Model;
 
 /// A memory: a byte at each of 2^32 addresses, and a permission, 0 to 3, of each of 2^20 pages of 4,096 bytes (1 reads and
 /// fetches, 2 writes). Contracts see it as its bytes and permissions.
 ///
-/// It is kept by runs of pages in the order of their numbers; a page that was never written has no bytes of its own. Fetches,
-/// loads and stores each remember the run that they asked last.
+/// It is kept by runs of pages in the order of their numbers; a page that was never written has no bytes of its own. Fetches
+/// remember where the runs stand that they asked last, and so do loads and stores together.
 #[derive(Drop)]
 pub struct Mem {
     runs: Vec<Run>,
-    fetched: Cell<usize>,
-    loaded: Cell<usize>,
-    stored: Cell<usize>,
+    fetched: Guesses,
+    touched: Guesses,
 }
 
 impl Model for Mem {
@@ -44,9 +43,8 @@ impl Mem {
     {
         Mem {
             runs: Vec::new(alloc),
-            fetched: Cell::new(0),
-            loaded: Cell::new(0),
-            stored: Cell::new(0),
+            fetched: Guesses::new(),
+            touched: Guesses::new(),
         }
     }
 
@@ -70,7 +68,7 @@ impl Mem {
         requires { at % width_bytes width ≡ 0 }
         ensures { result ≡ (if may_read self.now at then Some (number_from (byte_at self.now) width at) else None) }
     {
-        access::load(&self.runs, &self.loaded, at, width)
+        access::load(&self.runs, &self.touched, at, width)
     }
 
     /// The word at an address that is a multiple of 4; none exactly where its page may not be fetched from.
@@ -82,12 +80,21 @@ impl Mem {
         access::load(&self.runs, &self.fetched, at, Width::Four)
     }
 
+    /// The number of the four bytes at an address that is a multiple of 4, the least byte first, whatever its page's permission.
+    #[inline(always)]
+    pub fn word(&self, at: u32) -> u32
+        requires { at % 4 ≡ 0 }
+        ensures { result ≡ number_from (byte_at self.now) Width.Four at }
+    {
+        access::word(&self.runs, &self.touched, at)
+    }
+
     /// Whether the page of an address may be written.
     #[inline(always)]
     pub fn can_store(&self, at: u32) -> bool
         ensures { result ≡ may_write self.now at }
     {
-        access::can_store(&self.runs, &self.stored, at)
+        access::can_store(&self.runs, &self.touched, at)
     }
 
     /// Writes the lowest bytes of a number at an aligned address that may be written. Its one error is want of memory, which
@@ -100,7 +107,21 @@ impl Mem {
         ensures err { OnErr result (self.new ≡ self.old) }
         ensures kept { (IsZeroPage self.old (at / 4096) → ⊥) → IsOk result }
     {
-        store::store(&mut self.runs, &self.stored, at, width, value)
+        store::store(&mut self.runs, &self.touched, at, width, value)
+    }
+
+    /// Whether the page of an aligned address may be written; where it may, the lowest bytes of a number are written there. Its
+    /// one error is want of memory: nothing has changed then. It comes only where the page may be written and all its bytes are 0.
+    #[inline(always)]
+    pub fn try_store(&mut self, at: u32, width: Width, value: u32) -> Result<bool, AllocError>
+        requires { at % width_bytes width ≡ 0 }
+        ensures allowed { IfOk result (λ stored. stored ≡ may_write self.old at) }
+        ensures ok { IfOk result (λ stored. self.new ≡ (if stored then with_number self.old at width value else self.old)) }
+        ensures err { OnErr result (self.new ≡ self.old) }
+        ensures wanted { OnErr result (IsTrue (may_write self.old at)) }
+        ensures kept { (IsZeroPage self.old (at / 4096) → ⊥) → IsOk result }
+    {
+        store::try_store(&mut self.runs, &self.touched, at, width, value)
     }
 
     /// Writes a byte, whatever the page's permission. Its one error is want of memory, which does not come where the page has
@@ -179,12 +200,12 @@ impl Mem {
         rights::first_unwritable(&self.runs, at, count)
     }
 
-    /// Writes bytes from an address on, whatever the permissions; they end within the memory. Its one error is want of memory;
-    /// some of the first bytes are written then.
+    /// Writes bytes from an address on, whatever the permissions; they end within the memory. Its one error is want of memory:
+    /// no byte is written then.
     pub fn write_bytes(&mut self, at: u32, bytes: &[u8]) -> Result<(), AllocError>
         requires { at + length bytes.now ≤ 2 ^ 32 }
         ensures ok { OnOk result (self.new ≡ with_bytes self.old at bytes.now) }
-        ensures err { OnErr result ((k : ℕ) × (self.new ≡ with_bytes self.old at (take k bytes.now))) }
+        ensures err { OnErr result (self.new ≡ self.old) }
     {
         store::write_bytes(&mut self.runs, at, bytes)
     }
@@ -205,9 +226,8 @@ impl Mem {
         let runs = walk::copied(alloc, &self.runs)?;
         Ok(Mem {
             runs,
-            fetched: Cell::new(0),
-            loaded: Cell::new(0),
-            stored: Cell::new(0),
+            fetched: Guesses::new(),
+            touched: Guesses::new(),
         })
     }
 

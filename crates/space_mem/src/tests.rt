@@ -45,7 +45,10 @@ fn loads_and_stores(rt: HostRuntime) -> Result<(), Fail> {
     }
     assert_eq!(rt; mem.load(0x1_1ffc, Width::Four), Some(0x0403_0201));
     assert_eq!(rt; mem.load(0x1_1ffe, Width::Two), Some(0x0403));
+    assert!(rt; !mem.try_store(0x0f_ffc, Width::Four, 1)?);
+    assert!(rt; mem.try_store(0x1_1ffd, Width::One, 0x102)?);
     assert_eq!(rt; mem.load(0x1_1ffd, Width::One), Some(2));
+    assert_eq!(rt; mem.word(0x1_1ffc), 0x0403_0201);
     assert_eq!(rt; mem.fetch(0x1_2000), Some(0));
     mem.set_perm(
         Pages {
@@ -69,6 +72,8 @@ fn byte_strings_and_pages(rt: HostRuntime) -> Result<(), Fail> {
     mem.write_bytes(0x3ffe, b"over")?;
     let read = mem.bytes(alloc, 0x3ffd, 6)?;
     assert_eq!(rt; read.as_slice(), b"\0over\0".as_slice());
+    assert_eq!(rt; mem.word(0x3ffc), 0x766f_0000);
+    assert_eq!(rt; mem.word(0x7000), 0);
     assert_eq!(rt; mem.next_page(0), Some(3));
     assert_eq!(rt; mem.next_page(5), None);
     mem.set_perm(Pages { first: 9, count: 3 }, 1)?;

@@ -1,5 +1,6 @@
-use Rattle.std.proofs.Common.{sym, refl, subst, ◌≤◌, ◌<◌, Some, None}
-use Rattle.space_mem.specs.Runs.{end_of}
+use Rattle.std.proofs.Common.{ap, ◌∙◌, sym, refl, subst, ◌≤◌, ◌<◌, Some, None}
+use Rattle.std.proofs.lemmas.Bool.{true≢false}
+use Rattle.space_mem.specs.Runs.{end_of, has_bytes}
 use Rattle.space_mem.proofs.Readings.{found_run}
 use Rattle.space_mem.proofs.Writes.{keeps_entry, zero_page, no_bytes}
 use Rattle.space_mem.proofs.edit_page.kept.Goals as goal
@@ -17,3 +18,7 @@ returns-then-is_some-clause-some c =
 pub returns-clause-none : goal.returns-clause-none
 returns-clause-none c none =
     zero_page c.args.page _ (Some c.index-runs-place.result) c.requires.ordered (found_run c.args.page _ _ _ c.requires.ordered c.in_ok-place.ensures.some c.index-runs-place.is) (no_bytes _ (sym c.if-is_some.ensures))
+
+pub returns-clause-bare : goal.returns-clause-bare
+returns-clause-bare c none owned =
+    true≢false (sym owned ∙ ap has_bytes (found_run c.args.page _ _ _ c.requires.ordered c.in_ok-place.ensures.some c.index-runs-place.is) ∙ sym c.if-is_some.ensures)

@@ -1,4 +1,5 @@
-use Rattle.space_mem.proofs.PageEdits.{always, promised}
+use Rattle.space_mem.proofs.Memories.{memory_same}
+use Rattle.space_mem.proofs.PageEdits.{always, at_error, promised}
 use Rattle.space_mem.proofs.Writes.{written_bytes}
 use Rattle.space_mem.proofs.store.write_in_page.Goals as goal
 
@@ -6,3 +7,6 @@ pub returns-clause-ok : goal.returns-clause-ok
 returns-clause-ok c = always c.set_bytes.result _
     (written_bytes c.args.runs.now.items _ _ c.args.at c.args.bytes.now c.in_ok-place.ensures.ordered c.set_bytes.ensures.ordered c.requires.within c.in_ok-place.ensures.same
     (promised c.set_bytes.result _ c.set_bytes.ensures.own c.set_bytes.ensures.ok))
+
+pub returns-in_err-place-clause-err : goal.returns-in_err-place-clause-err
+returns-in_err-place-clause-err c = at_error c.from_residual.result _ (memory_same _ _ c.in_err-place.ensures.same)
