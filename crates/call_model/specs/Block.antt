@@ -1,5 +1,6 @@
 -- The register block: 34 words of four bytes each, the least byte first.
-use Rattle.std.specs.Prelude.{◌≡◌, ℕ, ◌*◌, ◌<◌, List, [], ◌∷◌, ◌++◌, slice_index}
+use Rattle.std.specs.Prelude.{◌≡◌, ℕ, ◌*◌, ◌/◌, ◌%◌, ◌<◌, List, [], ◌∷◌, ◌++◌, slice_index}
+use Rattle.std.specs.List.{flat_map}
 use Rattle.memory_model.specs.Memory.{number_from}
 use Rattle.memory_model.specs.declared.Width.TheVariants.{Four}
 use Rattle.call_model.specs.declared.Block.{Block}
@@ -15,3 +16,11 @@ word_at bytes k = number_from (λ a. slice_index bytes a) Four (4 * k)
 -- the bytes spell the block
 abbrev pub Spells : List ℕ → Block → Type 0
 Spells bytes b = (k : ℕ) → k < 34 → word_at bytes k ≡ slice_index (words b) k
+
+-- the bytes of a word, the least first
+abbrev pub word_bytes : ℕ → List ℕ
+word_bytes w = w % 256 ∷ w / 256 % 256 ∷ w / 65536 % 256 ∷ w / 16777216 % 256 ∷ []
+
+-- the one list of bytes that spells the block
+abbrev pub block_bytes : Block → List ℕ
+block_bytes b = flat_map word_bytes (words b)

@@ -1,5 +1,5 @@
-ghost use Rattle.std.specs.Prelude.{◌≡◌, ◌≢◌, ℕ, ◌+◌, ◌<◌, slice_index};
-ghost use Rattle.call_model.specs.Block.{word_at, words, Spells};
+ghost use Rattle.std.specs.Prelude.{◌≡◌, ◌≢◌, ℕ, ◌+◌, ◌<◌, length, slice_index};
+ghost use Rattle.call_model.specs.Block.{word_at, words, block_bytes, Spells};
 
 use call_model::Block;
 
@@ -62,9 +62,10 @@ pub fn read_block(bytes: &[u8; 136]) -> Block
     }
 }
 
-/// The bytes that spell a register block: 34 little-endian words, pc, x1 to x31, the number of the cause and the value.
-pub fn write_block(block: &Block) -> [u8; 136]
-    ensures { Spells result block.now }
+// Bytes that spell a register block.
+fn spelling(block: &Block) -> [u8; 136]
+    ensures spells { Spells result block.now }
+    ensures registers { length block.now.x ≡ 31 }
 {
     let mut bytes = [0; 136];
     set_word(&mut bytes, 0, block.pc);
@@ -72,6 +73,14 @@ pub fn write_block(block: &Block) -> [u8; 136]
     set_word(&mut bytes, 32, block.cause);
     set_word(&mut bytes, 33, block.value);
     bytes
+}
+
+/// The bytes that spell a register block: 34 little-endian words, pc, x1 to x31, the number of the cause and the value.
+pub fn write_block(block: &Block) -> [u8; 136]
+    ensures spells { Spells result block.now }
+    ensures bytes { result ≡ block_bytes block.now }
+{
+    spelling(block)
 }
 
 /// Reads what it writes: the same block comes out.

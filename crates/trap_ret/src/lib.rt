@@ -4,6 +4,7 @@
 mod block;
 mod call;
 mod causes;
+pub mod options;
 #[cfg(test)]
 mod tables;
 mod tests_on_registers;

@@ -2,22 +2,7 @@ ghost use Rattle.std.specs.Prelude.{◌≡◌, ◌+◌, ◌<◌};
 ghost use Rattle.call_model.specs.Options as options_of;
 ghost use Rattle.call_model.specs.Tests as table;
 
-// Bits of a0.
-const REGS: u32 = 1;
-
-const COPY: u32 = 2;
-
-const ZERO: u32 = 4;
-
-const PERM: u32 = 16;
-
-const START: u32 = 64;
-
-const LIMIT: u32 = 128;
-
-const PERMISSION: u32 = 0x3000;
-
-const KNOWN: u32 = 0x30D7;
+use crate::options::{COPY, KNOWN, LIMIT, PERM, PERMISSION, REGS, START, ZERO, has};
 
 const PUT: u32 = 1;
 
@@ -41,13 +26,6 @@ pub(crate) fn argument(x: &[u32; 32], number: usize) -> u32
     ensures { result ≡ table.argument x.now number }
 {
     x[10 + number]
-}
-
-#[inline(always)]
-fn has(options: u32, bits: u32) -> bool
-    ensures { result ≡ options_of.has bits options }
-{
-    options & bits != 0
 }
 
 fn has_clash(options: u32) -> bool

@@ -1,11 +1,6 @@
-use Rattle.std.proofs.Common.{rules, ◌∙◌, arith, ◌+◌}
-use Rattle.call_model.proofs.Words.{spells}
+use Rattle.std.proofs.Common.{rules}
+use Rattle.call_model.proofs.Spelled.{bytes_of_block}
 use Rattle.trap_ret.proofs.block.write_block.Goals as goal
 
-pub returns : goal.returns
-returns c =
-    spells c.set_word-3.new.bytes c.args.block.now (search rules)
-    (c.set_word-3.ensures.others 0 (λ e. omega arith) ∙ c.set_word-2.ensures.others 0 (λ e. omega arith) ∙ c.set_registers.ensures.others ∙ c.set_word.ensures.word)
-    (λ k h. c.set_word-3.ensures.others (k + 1) (λ e. omega arith) ∙ c.set_word-2.ensures.others (k + 1) (λ e. omega arith) ∙ c.set_registers.ensures.registers k h)
-    (c.set_word-3.ensures.others 32 (λ e. omega arith) ∙ c.set_word-2.ensures.word)
-    c.set_word-3.ensures.word
+pub returns-clause-bytes : goal.returns-clause-bytes
+returns-clause-bytes c = bytes_of_block c.spelling.result c.args.block.now c.spelling.ensures.registers (search rules) (search rules) c.spelling.ensures.spells

@@ -1,0 +1,37 @@
+//! The options of Put and Get, as bits of a0 (OSDI 2010, "Efficient System-Enforced Deterministic Parallelism", the section on
+//! the kernel interface).
+
+ghost use Rattle.std.specs.Prelude.{◌≡◌};
+ghost use Rattle.call_model.specs.Options as options_of;
+
+/// The register block goes along.
+pub const REGS: u32 = 1;
+
+/// The destination's range becomes the source's.
+pub const COPY: u32 = 2;
+
+/// The bytes of the destination's range become 0.
+pub const ZERO: u32 = 4;
+
+/// The destination's range gets the permission.
+pub const PERM: u32 = 16;
+
+/// The child runs.
+pub const START: u32 = 64;
+
+/// The child that is started has a limit.
+pub const LIMIT: u32 = 128;
+
+/// The permission, in bits 12 and 13.
+pub const PERMISSION: u32 = 0x3000;
+
+/// All bits that may be set.
+pub const KNOWN: u32 = 0x30D7;
+
+/// Whether one of these bits is among the options.
+#[inline(always)]
+pub fn has(options: u32, bits: u32) -> bool
+    ensures { result ≡ options_of.has bits options }
+{
+    options & bits != 0
+}
