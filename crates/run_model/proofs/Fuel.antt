@@ -5,7 +5,7 @@ use Rattle.space_model.specs.declared.Status.TheVariants.{Running, Stopped}
 use Rattle.space_model.specs.Stop.{is_stopped}
 use Rattle.space_model.specs.Space.{Top, Space, space, Children, top_of}
 use Rattle.space_model.specs.Event.{Next, rests, moves, meets, next, Effect, becomes, asks, by_status, fuelled, limited, instruction, charged}
-use Rattle.run_model.specs.Demand.{Meaning, run_for}
+use Rattle.run_model.specs.Demand.{Meaning, run_for, left_of}
 
 -- what follows an event: less fuel, or a stop
 abbrev pub CostsOrEnds : ℕ → Top → Next → Type 0
@@ -17,18 +17,18 @@ charged_costs : (levels : ℕ) (t : Top) (n : ℕ) (m : Effect) → t.fuel ≡ s
 charged_costs levels t n (becomes u) e = inl (omega (arith, e))
 charged_costs levels t n (asks k) e = omega (arith, e)
 
-limited_costs : (levels : ℕ) (t : Top) (n : ℕ) (o : Option ℕ) → t.fuel ≡ suc n → CostsOrEnds levels t (limited t o)
+limited_costs : (levels : ℕ) (t : Top) (n : ℕ) (o : Option ℕ) → t.fuel ≡ suc n → CostsOrEnds levels t (limited levels t o)
 unfolding next
 limited_costs levels t n (Some zero) e = inr refl
-limited_costs levels t n (Some (suc k)) e = charged_costs levels t n (instruction t) e
-limited_costs levels t n None e = charged_costs levels t n (instruction t) e
+limited_costs levels t n (Some (suc k)) e = charged_costs levels t n (instruction levels t) e
+limited_costs levels t n None e = charged_costs levels t n (instruction levels t) e
 
-fuelled_costs : (levels : ℕ) (t : Top) (n : ℕ) → t.fuel ≡ n → CostsOrEnds levels t (fuelled t n)
+fuelled_costs : (levels : ℕ) (t : Top) (n : ℕ) → t.fuel ≡ n → CostsOrEnds levels t (fuelled levels t n)
 unfolding next
 fuelled_costs levels t zero e = inr refl
 fuelled_costs levels t (suc n) e = limited_costs levels t n t.limit e
 
-by_status_costs : (levels : ℕ) (t : Top) (s : Status) → CostsOrEnds levels t (by_status t s)
+by_status_costs : (levels : ℕ) (t : Top) (s : Status) → CostsOrEnds levels t (by_status levels t s)
 by_status_costs levels t Running = fuelled_costs levels t t.fuel refl
 by_status_costs levels t (Stopped cause value) = tt
 
@@ -61,34 +61,30 @@ charged_goes_on : (t : Top) (m : Effect) → charged t m ≡ rests → ⊥
 charged_goes_on t (becomes u) e = cc
 charged_goes_on t (asks k) e = cc
 
-limited_goes_on : (t : Top) (o : Option ℕ) → limited t o ≡ rests → ⊥
-limited_goes_on t (Some zero) e = cc
-limited_goes_on t (Some (suc n)) e = charged_goes_on t (instruction t) e
-limited_goes_on t None e = charged_goes_on t (instruction t) e
+limited_goes_on : (levels : ℕ) (t : Top) (o : Option ℕ) → limited levels t o ≡ rests → ⊥
+limited_goes_on levels t (Some zero) e = cc
+limited_goes_on levels t (Some (suc n)) e = charged_goes_on t (instruction levels t) e
+limited_goes_on levels t None e = charged_goes_on t (instruction levels t) e
 
-fuelled_goes_on : (t : Top) (n : ℕ) → fuelled t n ≡ rests → ⊥
-fuelled_goes_on t zero e = cc
-fuelled_goes_on t (suc n) e = limited_goes_on t t.limit e
+fuelled_goes_on : (levels : ℕ) (t : Top) (n : ℕ) → fuelled levels t n ≡ rests → ⊥
+fuelled_goes_on levels t zero e = cc
+fuelled_goes_on levels t (suc n) e = limited_goes_on levels t t.limit e
 
-by_status_rests : (t : Top) (s : Status) → by_status t s ≡ rests → is_stopped s ≡ true
-by_status_rests t Running e = absurd (fuelled_goes_on t t.fuel e)
-by_status_rests t (Stopped cause value) e = refl
+by_status_rests : (levels : ℕ) (t : Top) (s : Status) → by_status levels t s ≡ rests → is_stopped s ≡ true
+by_status_rests levels t Running e = absurd (fuelled_goes_on levels t t.fuel e)
+by_status_rests levels t (Stopped cause value) e = refl
 
 pub rests_stopped : (levels : ℕ) (t : Top) → next levels t ≡ rests → is_stopped t.status ≡ true
 unfolding next
-rests_stopped levels t e = by_status_rests t t.status e
+rests_stopped levels t e = by_status_rests levels t t.status e
 
-by_status_stopped : (t : Top) (s : Status) → is_stopped s ≡ true → by_status t s ≡ rests
-by_status_stopped t Running e = cc
-by_status_stopped t (Stopped cause value) e = refl
+by_status_stopped : (levels : ℕ) (t : Top) (s : Status) → is_stopped s ≡ true → by_status levels t s ≡ rests
+by_status_stopped levels t Running e = cc
+by_status_stopped levels t (Stopped cause value) e = refl
 
 pub stopped_rests : (levels : ℕ) (t : Top) → is_stopped t.status ≡ true → next levels t ≡ rests
 unfolding next
-stopped_rests levels t e = by_status_stopped t t.status e
-
--- how many events are left at most
-abbrev pub left_of : Top → ℕ
-left_of t = cond (is_stopped t.status) 0 (suc t.fuel)
+stopped_rests levels t e = by_status_stopped levels t t.status e
 
 left_cases : (b c : Bool) (m n : ℕ) → (suc n ≡ m) ⊎ (c ≡ true) → b ≡ false → cond c 0 (suc n) < cond b 0 (suc m)
 left_cases b c m n (inl e) h = elim c as (λ c. cond c 0 (suc n) < cond b 0 (suc m)) [ true ↦ rw h (omega arith) | false ↦ rw h (omega (arith, e)) ]

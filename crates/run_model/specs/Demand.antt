@@ -1,8 +1,11 @@
 -- The demand-driven meaning: a child runs when it is waited for, so no two spaces run at once. In Determinator (OSDI 2010) a child runs
 -- beside its parent from its Start on, and Put and Get wait for it. Beside each space stands the number of events that it took.
-use Rattle.std.specs.Prelude.{ℕ, zero, suc, ◌+◌, List, [], ◌∷◌, Option, Some, None}
+use Rattle.std.specs.Prelude.{ℕ, zero, suc, ◌+◌, cond, List, [], ◌∷◌, Option, Some, None}
+use Rattle.space_model.specs.Stop.{is_stopped}
 use Rattle.space_model.specs.Space.{Space, space, Children, none, child, Top, top_of, children_of, find, over}
-use Rattle.space_model.specs.Call.{Reach, itself, whole, Await, Call, awaits, meet}
+use Rattle.call_model.specs.declared.Call.{Call}
+use Rattle.space_model.specs.Call.{Reach, itself, whole, Await}
+use Rattle.space_model.specs.Meeting.{awaits, meet}
 use Rattle.space_model.specs.Event.{Next, rests, moves, meets, next}
 
 pub record Ran : Type 0 where
@@ -67,6 +70,10 @@ unfoldable pub meaning : ℕ → Reach → Space → Ran
 meaning zero reach s = finish reach unmoved (run_for unmoved zero (suc (top_of s).fuel) s)
 meaning (suc levels) reach s = finish reach (meaning levels) (run_for (meaning levels) (suc levels) (suc (top_of s).fuel) s)
 
+-- how many events of its own a space has left at most
+abbrev pub left_of : Top → ℕ
+left_of t = cond (is_stopped t.status) 0 (suc t.fuel)
+
 -- run until it stops
 abbrev pub run : ℕ → Space → Space
 run levels s = (meaning levels itself s).space
@@ -78,6 +85,11 @@ settle levels s = (meaning levels whole s).space
 -- how many events that takes
 abbrev pub work : ℕ → Space → ℕ
 work levels s = (meaning levels whole s).events
+
+-- what becomes of a child of a space with so many levels left below it
+abbrev pub of_children : ℕ → Meaning
+of_children zero = unmoved
+of_children (suc levels) = meaning levels
 
 -- a whole tree has 8 levels of children below its root
 abbrev pub settled : Space → Space

@@ -1,5 +1,5 @@
--- Calls that meet children, by what they see of their children and what they edit (OSDI 2010, the section on the kernel interface: a
--- space meets only its parent and its children). No call meets a child yet.
+-- Calls that meet children, by what they see of their children and what they edit (OSDI 2010, "Efficient System-Enforced
+-- Deterministic Parallelism", the section on the kernel interface: a space meets only its parent and its children).
 use Rattle.std.specs.Prelude.{ℕ, List, [], ◌∷◌, Option, Some, None, option_map}
 use Rattle.space_model.specs.Space.{Space, space, Children, none, Top, top_of, children_of, find, put_child, remove_child}
 
@@ -29,16 +29,6 @@ pub record Meeting : Type 0 where
   pub caller : Top
   pub edits : List Edit
 
-pub data Call : Type 0 where
-
--- the children that a call waits for, in this order
-abbrev pub awaits : Call → List Await
-awaits k = elim k [ ]
-
--- what a call does, of a caller that has paid for it, by what it sees of the children that it waits for, in their order
-abbrev pub meeting : Call → Top → List Seen → Meeting
-meeting k t seen = elim k [ ]
-
 abbrev pub see : Reach → Option Space → Seen
 see itself o = sees_top (option_map top_of o)
 see whole o = sees_whole o
@@ -46,6 +36,12 @@ see whole o = sees_whole o
 abbrev pub seen_of : List Await → Children → List Seen
 seen_of [] cs = []
 seen_of (a ∷ others) cs = see a.reach (find a.number cs) ∷ seen_of others cs
+
+-- the top of the first child that is seen
+abbrev pub first_top : List Seen → Option Top
+first_top [] = None
+first_top (sees_top o ∷ others) = o
+first_top (sees_whole o ∷ others) = option_map top_of o
 
 abbrev pub below : Option Space → Children
 below None = none
@@ -62,7 +58,3 @@ edit_all (e ∷ es) cs = edit_all es (edit e cs)
 
 abbrev pub apply_meeting : Meeting → Children → Space
 apply_meeting m cs = space m.caller (edit_all m.edits cs)
-
--- the space after a call, once the children that it waits for are ready
-abbrev pub meet : Call → Top → Children → Space
-meet k t cs = apply_meeting (meeting k t (seen_of (awaits k) cs)) cs

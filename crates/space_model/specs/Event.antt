@@ -1,14 +1,18 @@
 -- One local event of a space: one instruction, one trap, or one stop. The order of the tests is the order of the lines.
-use Rattle.std.specs.Prelude.{ℕ, zero, suc, ◌+◌, ◌-◌, ◌^◌, ◌==◌, Option, Some, None, nat_lt, if◌then◌else◌, List, ◌++◌, option_map}
+use Rattle.std.specs.Prelude.{◌≡◌, ℕ, zero, suc, ◌-◌, ◌<◌, Option, Some, None, Result, Ok, Err, List, ◌++◌}
 use Rattle.memory_model.specs.Memory.{may_read, bytes_from, first_without, with_number}
-use Rattle.instruction_model.specs.Outcome.{view_of, Outcome, goes, stores, calls, traps, register, with_register, onward, outcome}
+use Rattle.instruction_model.specs.Outcome.{view_of, Outcome, goes, stores, calls, traps, outcome}
+use Rattle.call_model.specs.declared.Call.{Call}
+use Rattle.call_model.specs.declared.Call.TheVariants as named
+use Rattle.call_model.specs.declared.Badcall as refusal
+use Rattle.call_model.specs.Reading.{read}
 use Rattle.space_model.specs.declared.Status.{Status}
 use Rattle.space_model.specs.declared.Status.TheVariants.{Running, Stopped}
-use Rattle.space_model.specs.declared.Cause.{Cause}
 use Rattle.space_model.specs.declared.Cause.TheVariants.{LoadFault, Badcall, Limit, Fuel, Ret}
 use Rattle.space_model.specs.Stop.{cause_of}
 use Rattle.space_model.specs.Space.{Top, Devices}
-use Rattle.space_model.specs.Call.{Call}
+use Rattle.space_model.specs.Sound.{has_devices}
+use Rattle.space_model.specs.Change.{stop, succeeded, paid}
 
 -- what an event does, before what it costs
 pub data Effect : Type 0 where
@@ -21,69 +25,75 @@ pub data Next : Type 0 where
   moves : Top → Next
   meets : Call → Top → Next
 
-abbrev pub stop : Top → Cause → ℕ → Top
-stop t cause value = record t { status = Stopped cause value }
-
--- with the fuel, the use and the limit of t, less or more the one unit that an event takes
-abbrev pub paid : Top → Top → Top
-paid t u = record u { fuel = t.fuel - 1; used = t.used + 1; limit = option_map (λ n. n - 1) t.limit }
-
 -- an event of t takes one unit of its fuel and of its limit
 abbrev pub charged : Top → Effect → Next
 charged t (becomes u) = moves (paid t u)
 charged t (asks k) = meets k (paid t t)
 
--- a call that has succeeded: a0 is 0, and the next instruction follows
-abbrev pub succeeded : Top → Top
-succeeded t = record t { registers = with_register (onward t.registers) 10 0 }
-
-abbrev pub argument : Top → ℕ → ℕ
-argument t n = register t.registers (10 + n)
-
 -- the bytes of a range are appended to the console
 abbrev pub with_output : Top → Devices → List ℕ → Top
 with_output t d bytes = record t { devices = Some (record d { console = d.console ++ bytes }) }
 
-abbrev pub output : Top → Devices → Option ℕ → Effect
-output t d (Some a) = becomes (stop t LoadFault a)
-output t d None = becomes (succeeded (with_output t d (bytes_from t.memory (argument t 1) (argument t 2))))
+abbrev pub output : Top → Devices → ℕ → ℕ → Option ℕ → Effect
+output t d addr len (Some a) = becomes (stop t LoadFault a)
+output t d addr len None = becomes (succeeded (with_output t d (bytes_from t.memory addr len)))
 
--- console out, of a1 its address and a2 its length: outside the root, too long, not readable
-abbrev pub console_out : Top → Option Devices → Effect
-console_out t None = becomes (stop t Badcall 6)
-console_out t (Some d) =
-    if nat_lt 65536 (argument t 2) then becomes (stop t Badcall 7)
-    else output t d (first_without (may_read t.memory) (argument t 1) (argument t 2))
+-- console out of a range, which has to be readable; the tests on registers let it through where there are devices alone
+abbrev pub console_out : Top → ℕ → ℕ → Option Devices → Effect
+console_out t addr len None = becomes (stop t Badcall 6)
+console_out t addr len (Some d) = output t d addr len (first_without (may_read t.memory) addr len)
 
--- ECALL, by a7; Ret's value is its a0
-abbrev pub call : Top → Effect
-call t =
-    if argument t 7 == 3 then becomes (stop (succeeded t) Ret (argument t 0))
-    else if argument t 7 == 4 then (if nat_lt (2 ^ 32) (argument t 1 + argument t 2) then becomes (stop t Badcall 4) else console_out t t.devices)
-    else becomes (stop t Badcall 1)
+-- what a call does that meets no child; the others are asked for
+abbrev pub by_reading : Top → Result Call refusal.Badcall → Effect
+by_reading t (Err test) = becomes (stop t Badcall test.0)
+by_reading t (Ok (named.Put x)) = asks (named.Put x)
+by_reading t (Ok (named.Get x)) = asks (named.Get x)
+by_reading t (Ok (named.Ret value)) = becomes (stop (succeeded t) Ret value)
+by_reading t (Ok (named.ConsoleOut addr len)) = console_out t addr len t.devices
 
-abbrev pub after_outcome : Top → Outcome → Effect
-after_outcome t (goes r) = becomes (record t { registers = r })
-after_outcome t (stores r at width value) = becomes (record t { registers = r; memory = with_number t.memory at width value })
-after_outcome t calls = call t
-after_outcome t (traps number value) = becomes (stop t (cause_of number) value)
+-- ECALL with so many levels of children left below: the call that the registers name, or the first test that they fail
+abbrev pub call : ℕ → Top → Effect
+call levels t = by_reading t (read t.registers.x (has_devices t.devices) (8 - levels))
 
-abbrev pub instruction : Top → Effect
-instruction t = after_outcome t (outcome (view_of t.memory) t.registers)
+abbrev pub after_outcome : ℕ → Top → Outcome → Effect
+after_outcome levels t (goes r) = becomes (record t { registers = r })
+after_outcome levels t (stores r at width value) = becomes (record t { registers = r; memory = with_number t.memory at width value })
+after_outcome levels t calls = call levels t
+after_outcome levels t (traps number value) = becomes (stop t (cause_of number) value)
 
-abbrev pub limited : Top → Option ℕ → Next
-limited t (Some zero) = moves (stop t Limit 0)
-limited t (Some (suc n)) = charged t (instruction t)
-limited t None = charged t (instruction t)
+abbrev pub instruction : ℕ → Top → Effect
+instruction levels t = after_outcome levels t (outcome (view_of t.memory) t.registers)
 
-abbrev pub fuelled : Top → ℕ → Next
-fuelled t zero = moves (stop t Fuel 0)
-fuelled t (suc n) = limited t t.limit
+abbrev pub limited : ℕ → Top → Option ℕ → Next
+limited levels t (Some zero) = moves (stop t Limit 0)
+limited levels t (Some (suc n)) = charged t (instruction levels t)
+limited levels t None = charged t (instruction levels t)
 
-abbrev pub by_status : Top → Status → Next
-by_status t Running = fuelled t t.fuel
-by_status t (Stopped cause value) = rests
+abbrev pub fuelled : ℕ → Top → ℕ → Next
+fuelled levels t zero = moves (stop t Fuel 0)
+fuelled levels t (suc n) = limited levels t t.limit
+
+abbrev pub by_status : ℕ → Top → Status → Next
+by_status levels t Running = fuelled levels t t.fuel
+by_status levels t (Stopped cause value) = rests
 
 -- what is next of a space with so many levels of children left below it
 unfoldable pub next : ℕ → Top → Next
-next levels t = by_status t t.status
+next levels t = by_status levels t t.status
+
+-- the last top is the first one after n local events
+abbrev pub Follows : ℕ → ℕ → Top → Top → Type 0
+Follows levels zero t u = u ≡ t
+Follows levels (suc n) t u = (v : Top) × (next levels t ≡ moves v) × Follows levels n v u
+
+-- what is next is no local event
+abbrev pub IsNotLocal : Next → Type 0
+IsNotLocal rests = Unit {0}
+IsNotLocal (moves t) = ⊥
+IsNotLocal (meets k t) = Unit {0}
+
+-- a space that runs and may pay for an event
+pub record MayPay (t : Top) : Type 0 where
+  pub running : t.status ≡ Running
+  pub fuel : 0 < t.fuel
+  pub limit : t.limit ≡ Some 0 → ⊥

@@ -1,5 +1,9 @@
 pub mod Stop
 pub mod Space
 pub mod Sound
+pub mod Path
+pub mod Change
+pub mod Block
 pub mod Call
+pub mod Meeting
 pub mod Event

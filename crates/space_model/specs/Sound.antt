@@ -1,6 +1,6 @@
 -- What holds of every space that is reached: no space is deeper than 8, numbers of children rise and are below 65,536, fuel and used
 -- add to one number in all, and the root alone has devices.
-use Rattle.std.specs.Prelude.{◌≡◌, ℕ, zero, suc, ◌+◌, ◌^◌, ◌<◌, ◌≤◌, Option, Some, None, Bool, true, false, slice_index, length}
+use Rattle.std.specs.Prelude.{◌≡◌, ℕ, zero, suc, ◌+◌, ◌^◌, ◌<◌, ◌≤◌, Option, Some, None, Bool, true, false}
 use Rattle.space_model.specs.Space.{Space, space, Children, none, child, Top, Devices}
 
 abbrev pub has_devices : Option Devices → Bool
@@ -10,8 +10,6 @@ has_devices (Some d) = true
 -- with this fuel in all, at the root or below it
 pub record IsSoundTop (fuel : ℕ) (root : Bool) (t : Top) : Type 0 where
   pub sum : t.fuel + t.used ≡ fuel
-  pub x0 : slice_index t.registers.x 0 ≡ 0
-  pub registers : length t.registers.x ≡ 32
   pub devices : has_devices t.devices ≡ root
 
 -- with so many levels of children left below it

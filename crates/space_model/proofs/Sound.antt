@@ -1,0 +1,152 @@
+-- What looking up, changing and putting a child, at a path too, and what a call does to a space keep of a sound tree.
+-- Forms for callers: `find_sound` is of a child that was found, `over_sound` and `put_sound` of one that was changed or put,
+-- `with_top_sound` and `with_space_sound` of what stands at a path, and `meet_sound` of a call.
+use Rattle.std.proofs.Common.{◌≡◌, ℕ, zero, suc, pred, ◌-◌, ◌==◌, ◌≤◌, ◌<◌, ◌≢◌, Bool, true, false, cond, List, [], ◌∷◌, length, get_or, Option, Some, None, refl, subst, arith, nat_lt}
+use Rattle.std.proofs.lemmas.Bool.Decides.{nat_tests}
+use Rattle.std.specs.Prelude.{option_map}
+use Rattle.memory_model.specs.Memory.{may_read, may_write}
+use Rattle.call_model.specs.declared.Transfer.{Transfer}
+use Rattle.call_model.specs.declared.Call.{Call}
+use Rattle.call_model.specs.declared.Call.TheVariants.{Put, Get, Ret, ConsoleOut}
+use Rattle.space_model.specs.Space.{Space, space, Children, none, child, Top, top_of, children_of, find, over, has, enter, put_child}
+use Rattle.space_model.specs.Sound.{IsSoundTop, IsSoundAt, AreSound}
+use Rattle.space_model.specs.Path.{with_top, with_space, is_root}
+use Rattle.space_model.specs.Change.{paid}
+use Rattle.space_model.specs.Call.{below, apply_meeting}
+use Rattle.space_model.specs.Event.{MayPay}
+use Rattle.space_model.specs.Meeting.{MayMeet, meet, child_after, or_fresh, put_meeting, get_meeting, refused}
+
+same_number : (n m : ℕ) → (n == m) ≡ true → n ≡ m
+same_number n m e = grind (arith, nat_tests)
+
+-- a child that was found is sound one level below, and its number fits
+pub find_sound : (levels fuel least n : ℕ) (cs : Children) (c : Space) → AreSound (suc levels) fuel least cs → find n cs ≡ Some c → (n < 65536) × IsSoundAt levels false fuel c
+find_sound levels fuel least n none c ok is = cc
+find_sound levels fuel least n (child m s rest) c ok is = go (n == m) refl is (λ at. find_sound levels fuel (suc m) n rest c ok.3 at)
+  where
+    go : (b : Bool) → (n == m) ≡ b → cond b (Some s) (find n rest) ≡ Some c → (find n rest ≡ Some c → (n < 65536) × IsSoundAt levels false fuel c) → (n < 65536) × IsSoundAt levels false fuel c
+    go true e at later =
+        let number : n ≡ m = same_number n m e in
+        let same : s ≡ c = cc in
+        (rw number ok.1, subst (IsSoundAt levels false fuel) same ok.2)
+    go false e at later = later at
+
+-- there is no child at the last level
+pub no_children : (fuel least : ℕ) (cs : Children) → AreSound zero fuel least cs → cs ≡ none
+no_children fuel least none ok = refl
+no_children fuel least (child n s rest) ok = absurd ok
+
+pub no_child : (fuel least n : ℕ) (cs : Children) → AreSound zero fuel least cs → find n cs ≡ None
+no_child fuel least n none ok = refl
+no_child fuel least n (child m s rest) ok = absurd ok
+
+-- a child below the least number is not there
+pub below_least : (levels fuel least n : ℕ) (cs : Children) → AreSound levels fuel least cs → n < least → find n cs ≡ None
+below_least levels fuel least n none ok under_least = refl
+below_least zero fuel least n (child m s rest) ok under_least = absurd ok
+below_least (suc levels) fuel least n (child m s rest) ok under_least =
+    let first : least ≤ m = ok.0 in
+    let later : n < suc m = omega arith in
+    let tail = below_least (suc levels) fuel (suc m) n rest ok.3 later in
+    let other : n ≢ m = omega arith in
+    grind (arith, nat_tests)
+
+-- a change of one child that keeps it sound; at the last level there is none
+pub over_sound : (levels fuel least n : ℕ) (f : Space → Space) (cs : Children) → AreSound levels fuel least cs
+    → ((c : Space) → find n cs ≡ Some c → IsSoundAt (pred levels) false fuel c → IsSoundAt (pred levels) false fuel (f c)) → AreSound levels fuel least (over n f cs)
+over_sound levels fuel least n f none ok kept = tt
+over_sound zero fuel least n f (child m s rest) ok kept = absurd ok
+over_sound (suc levels) fuel least n f (child m s rest) ok kept =
+    go (n == m) refl (λ e. kept s (rw e refl) ok.2) (λ e. over_sound (suc levels) fuel (suc m) n f rest ok.3 (λ c at. kept c (rw e at)))
+  where
+    go : (b : Bool) → (n == m) ≡ b → ((n == m) ≡ true → IsSoundAt levels false fuel (f s)) → ((n == m) ≡ false → AreSound (suc levels) fuel (suc m) (over n f rest)) → AreSound (suc levels) fuel least (cond b (child m (f s) rest) (child m s (over n f rest)))
+    go true e here later = (ok.0, ok.1, here e, ok.3)
+    go false e here later = (ok.0, ok.1, ok.2, later e)
+
+-- the same of a child that was found and what it becomes
+pub over_found_sound : (levels fuel least n : ℕ) (f : Space → Space) (c : Space) (cs : Children) → AreSound levels fuel least cs
+    → find n cs ≡ Some c → IsSoundAt (pred levels) false fuel (f c) → AreSound levels fuel least (over n f cs)
+over_found_sound levels fuel least n f c cs ok is new =
+    over_sound levels fuel least n f cs ok (λ d at h. let same : c ≡ d = cc in subst (λ x. IsSoundAt (pred levels) false fuel (f x)) same new)
+
+enter_sound : (levels fuel least n : ℕ) (s : Space) (cs : Children) → AreSound (suc levels) fuel least cs → has n cs ≡ false → least ≤ n → n < 65536 → IsSoundAt levels false fuel s → AreSound (suc levels) fuel least (enter n s cs)
+enter_sound levels fuel least n s none ok un low high new = (low, high, new, tt)
+enter_sound levels fuel least n s (child m c rest) ok un low high new =
+    let other : n ≢ m = λ e. (let same : (n == m) ≡ true = grind (arith, nat_tests) in cc) in
+    go other (nat_lt n m) refl (λ next. enter_sound levels fuel (suc m) n s rest ok.3 (grind (arith, nat_tests)) next high new)
+  where
+    go : n ≢ m → (b : Bool) → nat_lt n m ≡ b → (suc m ≤ n → AreSound (suc levels) fuel (suc m) (enter n s rest)) → AreSound (suc levels) fuel least (cond b (child n s (child m c rest)) (child m c (enter n s rest)))
+    go other true e later = let before : suc n ≤ m = grind (arith, nat_tests) in (low, high, new, (before, ok.1, ok.2, ok.3))
+    go other false e later = let after : m ≤ n = grind (arith, nat_tests) in let past : suc m ≤ n = omega (arith, other) in (ok.0, ok.1, ok.2, later past)
+
+-- a child put in the place of the one there, or as a new one
+pub put_sound : (levels fuel n : ℕ) (s : Space) (cs : Children) → 1 ≤ levels → AreSound levels fuel 0 cs → n < 65536 → IsSoundAt (pred levels) false fuel s → AreSound levels fuel 0 (put_child n s cs)
+put_sound zero fuel n s cs some ok high new = absurd (omega arith)
+put_sound (suc levels) fuel n s cs some ok high new = go (has n cs) refl
+  where
+    go : (b : Bool) → has n cs ≡ b → AreSound (suc levels) fuel 0 (put_child n s cs)
+    go true is = rw is (over_sound (suc levels) fuel 0 n (λ c. s) cs ok (λ c at h. new))
+    go false is = let low : 0 ≤ n = omega arith in rw is (enter_sound levels fuel 0 n s cs ok is low high new)
+
+is_root-false : (p : List ℕ) → is_root false p ≡ false
+is_root-false [] = refl
+is_root-false (n ∷ p) = refl
+
+-- another top at a path
+pub with_top_sound : (p : List ℕ) (levels : ℕ) (root : Bool) (fuel : ℕ) (t : Top) (s : Space) → IsSoundTop fuel (is_root root p) t → IsSoundAt levels root fuel s → IsSoundAt levels root fuel (with_top p t s)
+with_top_sound [] levels root fuel t (space u cs) top ok = (top, ok.1)
+with_top_sound (n ∷ p) levels root fuel t (space u cs) top ok =
+    let inner : IsSoundTop fuel (is_root false p) t = rw (is_root-false p) top in
+    (ok.0, over_sound levels fuel 0 n (with_top p t) cs ok.1 (λ c at h. with_top_sound p (pred levels) false fuel t c inner h))
+
+-- a space put at a path, whose numbers fit as a slice of u16 has them
+pub with_space_sound : (p : List ℕ) (levels : ℕ) (root : Bool) (fuel : ℕ) (r s : Space) → length p ≤ levels → ((k : ℕ) → get_or p k 0 < 65536) → IsSoundAt (levels - length p) (is_root root p) fuel r → IsSoundAt levels root fuel s → IsSoundAt levels root fuel (with_space p r s)
+with_space_sound [] levels root fuel r s long fit new ok = let same : levels - 0 ≡ levels = omega arith in subst (λ k. IsSoundAt k root fuel r) same new
+with_space_sound (n ∷ []) levels root fuel r (space t cs) long fit new ok =
+    let some : 1 ≤ levels = omega arith in
+    let same : levels - 1 ≡ pred levels = omega arith in
+    (ok.0, put_sound levels fuel n r cs some ok.1 (fit 0) (subst (λ k. IsSoundAt k false fuel r) same new))
+with_space_sound (n ∷ m ∷ p) levels root fuel r (space t cs) long fit new ok =
+    let shorter : length (m ∷ p) ≤ pred levels = omega arith in
+    let same : levels - length (n ∷ m ∷ p) ≡ pred levels - length (m ∷ p) = omega arith in
+    let inner : IsSoundAt (pred levels - length (m ∷ p)) false fuel r = subst (λ k. IsSoundAt k false fuel r) same new in
+    (ok.0, over_sound levels fuel 0 n (with_space (m ∷ p) r) cs ok.1 (λ c at h. with_space_sound (m ∷ p) (pred levels) false fuel r c shorter (λ k. fit (suc k)) inner h))
+
+-- a top that has paid for an event
+pub paid_sound : (fuel : ℕ) (root : Bool) (t u : Top) → 0 < t.fuel → IsSoundTop fuel root t → IsSoundTop fuel root u → IsSoundTop fuel root (paid t u)
+paid_sound fuel root t u some old new = let total = old.sum in record { sum = omega arith; devices = new.devices }
+
+-- the child of a Put stays as sound as it was, and a fresh one is sound
+child_sound : (levels : ℕ) (root : Bool) (fuel : ℕ) (x : Transfer) (u : Top) (o : Option Space) → IsSoundTop fuel root u
+    → ((c : Space) → o ≡ Some c → IsSoundAt levels false fuel c) → IsSoundAt levels false fuel (space (child_after x u (or_fresh u (option_map top_of o))) (below o))
+child_sound levels root fuel x u None top found = let total = top.sum in (record { sum = omega arith; devices = refl }, tt)
+child_sound levels root fuel x u (Some (space t cs)) top found = let ok = found (space t cs) refl in (record { sum = ok.0.sum; devices = ok.0.devices }, ok.1)
+
+-- the same of any sound children
+pub found_sound : (levels fuel n : ℕ) (cs : Children) → AreSound levels fuel 0 cs → (c : Space) → find n cs ≡ Some c → IsSoundAt (pred levels) false fuel c
+found_sound zero fuel n cs ok c is = let none = no_child fuel 0 n cs ok in cc
+found_sound (suc levels) fuel n cs ok c is = (find_sound levels fuel 0 n cs c ok is).1
+
+put_meets_sound : (levels : ℕ) (root : Bool) (fuel : ℕ) (x : Transfer) (u : Top) (cs : Children) (o : Option ℕ) → 1 ≤ levels → x.child < 65536 → IsSoundTop fuel root u → AreSound levels fuel 0 cs
+    → IsSoundAt levels root fuel (apply_meeting (put_meeting x u (option_map top_of (find x.child cs)) o) cs)
+put_meets_sound levels root fuel x u cs (Some a) some high top ok = (record { sum = top.sum; devices = top.devices }, ok)
+put_meets_sound levels root fuel x u cs None some high top ok = (
+  record { sum = top.sum; devices = top.devices },
+  put_sound levels fuel x.child _ cs some ok high (child_sound (pred levels) root fuel x u (find x.child cs) top (found_sound levels fuel x.child cs ok)),
+)
+
+get_meets_sound : (levels : ℕ) (root : Bool) (fuel : ℕ) (x : Transfer) (u : Top) (cs : Children) (o : Option ℕ) → IsSoundTop fuel root u → AreSound levels fuel 0 cs
+    → IsSoundAt levels root fuel (apply_meeting (get_meeting x u (option_map top_of (find x.child cs)) o) cs)
+get_meets_sound levels root fuel x u cs (Some a) top ok = (record { sum = top.sum; devices = top.devices }, ok)
+get_meets_sound levels root fuel x u cs None top ok = (record { sum = top.sum; devices = top.devices }, ok)
+
+-- a call of a sound caller that pays for it
+pub meet_sound : (levels : ℕ) (root : Bool) (fuel : ℕ) (k : Call) (t : Top) (cs : Children) → MayMeet levels k → 0 < t.fuel → IsSoundAt levels root fuel (space t cs) → IsSoundAt levels root fuel (meet k (paid t t) cs)
+meet_sound levels root fuel (Put x) t cs may some ok = put_meets_sound levels root fuel x (paid t t) cs (refused x (may_read t.memory)) may.0 may.1 (paid_sound fuel root t t some ok.0 ok.0) ok.1
+meet_sound levels root fuel (Get x) t cs may some ok = get_meets_sound levels root fuel x (paid t t) cs (refused x (may_write t.memory)) (paid_sound fuel root t t some ok.0 ok.0) ok.1
+meet_sound levels root fuel (Ret value) t cs may some ok = absurd may
+meet_sound levels root fuel (ConsoleOut addr len) t cs may some ok = absurd may
+
+-- the same of a space as a call of code has it
+pub meeting_sound : (levels : ℕ) (root : Bool) (fuel : ℕ) (k : Call) (s : Space) → MayMeet levels k → MayPay (top_of s) → IsSoundAt levels root fuel s → IsSoundAt levels root fuel (meet k (paid (top_of s) (top_of s)) (children_of s))
+meeting_sound levels root fuel k (space t cs) may pays ok = meet_sound levels root fuel k t cs may pays.fuel ok

@@ -1,0 +1,21 @@
+-- Changes of a top that events have in common.
+use Rattle.std.specs.Prelude.{ℕ, ◌+◌, ◌-◌, option_map}
+use Rattle.instruction_model.specs.Outcome.{with_register, onward}
+use Rattle.space_model.specs.declared.Cause.{Cause}
+use Rattle.space_model.specs.declared.Status.TheVariants.{Stopped}
+use Rattle.space_model.specs.Space.{Top}
+
+abbrev pub stop : Top → Cause → ℕ → Top
+stop t cause value = record t { status = Stopped cause value }
+
+-- a call that has succeeded: a0 is 0, and the next instruction follows
+abbrev pub succeeded : Top → Top
+succeeded t = record t { registers = with_register (onward t.registers) 10 0 }
+
+-- with the fuel, the use and the limit of t, less or more the units that so many events take
+abbrev pub spent : ℕ → Top → Top → Top
+spent n t u = record u { fuel = t.fuel - n; used = t.used + n; limit = option_map (λ k. k - n) t.limit }
+
+-- less or more the one unit that an event takes
+abbrev pub paid : Top → Top → Top
+paid t u = spent 1 t u
