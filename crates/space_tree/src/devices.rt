@@ -1,6 +1,6 @@
-ghost use Rattle.std.specs.Prelude.{◌≡◌, []};
+ghost use Rattle.std.specs.Prelude.{◌≡◌, [], IfOk};
 
-use std::alloc::Global;
+use std::alloc::{AllocError, Global};
 use std::marker::Model;
 
 /// What only the root has: the bytes that it wrote to its console, the first one first.
@@ -27,5 +27,13 @@ impl Devices {
         Devices {
             console: Vec::new(alloc),
         }
+    }
+
+    /// Equal devices. The one error is want of memory.
+    pub fn copied(&self) -> Result<Devices, AllocError>
+        ensures { IfOk result (λ d. d ≡ self.now) }
+    {
+        let console = self.console.clone()?;
+        Ok(Devices { console })
     }
 }

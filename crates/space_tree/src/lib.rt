@@ -1,0 +1,19 @@
+//! Spaces: the state of a space without its children, and a tree of them.
+#![tactic(auto)]
+
+mod devices;
+mod path;
+mod settled;
+mod space;
+#[cfg(test)]
+mod tests;
+mod top;
+
+pub use devices::Devices;
+pub use path::{Path, at, put_at, swap_top};
+pub use rv_exec::Regs;
+pub use settled::{is_settled, is_stopped};
+pub use space::Space;
+pub use space_mem::{Mem, Pages};
+pub use space_model::{Cause, Status};
+pub use top::Top;

@@ -1,0 +1,81 @@
+use crate::{
+    Cause, Devices, Mem, Pages, Path, Space, Status, Top, at, is_settled, is_stopped, put_at,
+    swap_top,
+};
+use std::test::Fail;
+
+#[test]
+fn spaces_at_paths(rt: HostRuntime) -> Result<(), Fail> {
+    let alloc = rt.alloc();
+    let mut tree = Space::alone(alloc, Top::fresh(alloc, 10));
+    let mut path = Path::new();
+    path.push(65_535);
+    assert!(rt; at(&tree, &path).is_none());
+    put_at(&mut tree, &path, Space::alone(alloc, Top::fresh(alloc, 20)))?;
+    let former = swap_top(&mut tree, &path, Top::fresh(alloc, 30));
+    assert_eq!(rt; former.fuel, 20);
+    assert_eq!(rt; at(&tree, &path).map(|space| space.top().fuel), Some(30));
+    path.push(7);
+    put_at(&mut tree, &path, Space::alone(alloc, Top::fresh(alloc, 40)))?;
+    assert_eq!(rt; at(&tree, &path).map(|space| space.top().fuel), Some(40));
+    assert_eq!(rt;
+        at(&tree, &Path::new()).map(|space| space.top().fuel),
+        Some(10)
+    );
+    Ok(())
+}
+
+#[test]
+fn settled_trees(rt: HostRuntime) -> Result<(), Fail> {
+    let alloc = rt.alloc();
+    let mut running = Top::fresh(alloc, 10);
+    running.status = Status::Running;
+    let mut tree = Space::alone(alloc, Top::fresh(alloc, 10));
+    assert!(rt; is_stopped(&tree));
+    assert!(rt; is_settled(&tree));
+    let mut path = Path::new();
+    path.push(3);
+    put_at(&mut tree, &path, Space::alone(alloc, running))?;
+    assert!(rt; is_stopped(&tree));
+    assert!(rt; !is_settled(&tree));
+    Ok(())
+}
+
+#[test]
+fn copies(rt: HostRuntime) -> Result<(), Fail> {
+    let alloc = rt.alloc();
+    let mut mem = Mem::new(alloc);
+    mem.set_perm(Pages { first: 2, count: 1 }, 3)?;
+    mem.write(0x2000, 9)?;
+    let mut devices = Devices::new(alloc);
+    devices.console.push(b'c')?;
+    let mut top = Top::root(0x2000, 0x3000, mem, 50, devices);
+    top.snapshot = Some(top.memory.frozen()?);
+    top.limit = Some(5);
+    let copy = top.copied()?;
+    top.memory.write(0x2000, 8)?;
+    top.stop(Cause::Ret, 1);
+    assert_eq!(rt; copy.memory.byte(0x2000), 9);
+    assert!(rt; copy.snapshot.is_some());
+    assert_eq!(rt; copy.registers, top.registers);
+    assert_eq!(rt; copy.limit, Some(5));
+    assert_eq!(rt; copy.total_fuel(), 50);
+    assert_eq!(rt; copy.console(), b"c".as_slice());
+    assert!(rt; copy.has_devices());
+    assert!(rt; !copy.is_stopped());
+    Ok(())
+}
+
+#[test]
+fn events(rt: HostRuntime) -> Result<(), Fail> {
+    let alloc = rt.alloc();
+    let mut top = Top::fresh(alloc, 10);
+    assert!(rt; top.is_stopped());
+    top.limit = Some(5);
+    top.pay(3);
+    assert_eq!(rt; (top.fuel, top.used, top.limit), (7, 3, Some(2)));
+    top.registers.pc = 8;
+    top.succeed();
+    assert_eq!(rt; (top.registers.pc, top.registers.register(10)), (12, 0));
+    Ok(())
+}

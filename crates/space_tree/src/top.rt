@@ -1,0 +1,188 @@
+ghost use Rattle.std.specs.Prelude.{◌≡◌, ◌≤◌, ◌<◌, ◌+◌, ◌^◌, true, IfSome, IfOk};
+ghost use Rattle.run_model.specs.Boot.{root_of};
+ghost use Rattle.report_model.specs.Report.{console_bytes};
+ghost use Rattle.space_model.specs.Stop.{is_stopped};
+ghost use Rattle.space_model.specs.Sound.{has_devices};
+ghost use Rattle.space_model.specs.Change.{stop, succeeded, spent};
+ghost use Rattle.space_model.specs.Meeting.{fresh};
+
+use crate::devices::Devices;
+use rv_exec::Regs;
+use space_mem::Mem;
+use space_model::{Cause, Status};
+use std::alloc::{AllocError, Global};
+use std::marker::Model;
+
+// The status of a space that has never run.
+const FRESH: Status = Status::Stopped {
+    cause: Cause::Fresh,
+    value: 0,
+};
+
+/// The state of a space, without its children. Fuel plus used is from 1 to 2^32 - 1, and x0 is 0 (by the type of the registers).
+#[derive(Drop)]
+pub struct Top {
+    pub registers: Regs,
+    pub memory: Mem,
+    pub snapshot: Option<Mem>,
+    pub limit: Option<u32>,
+    pub fuel: u32,
+    pub used: u32,
+    pub status: Status,
+    pub devices: Option<Devices>,
+}
+
+impl Model for Top {
+    ghost use Rattle.std.specs.Prelude.{◌≡◌, ◌≤◌, ◌<◌, ◌^◌, ◌+◌};
+    ghost use Rattle.space_model.specs.Space.{Top, coded_top};
+
+    ghost Value = { Top };
+
+    ghost coded = { coded_top };
+
+    ghost view = { λ t. record { registers = t.registers; memory = t.memory; snapshot = t.snapshot; limit = t.limit; fuel = t.fuel; used = t.used; status = t.status; devices = t.devices } };
+
+    ghost invariant = { λ t. (t.fuel + t.used < 2 ^ 32) × (1 ≤ t.fuel + t.used) };
+}
+
+impl Top {
+    /// A root that is about to run at `entry`, with x2 as its stack pointer.
+    pub fn root(entry: u32, stack: u32, memory: Mem, fuel: u32, devices: Devices) -> Top
+        requires { 1 ≤ fuel }
+        ensures { result ≡ root_of entry stack memory fuel devices }
+    {
+        let mut registers = Regs::new(entry);
+        registers.set_register(2, stack);
+        Top {
+            registers,
+            memory,
+            snapshot: None,
+            limit: None,
+            fuel,
+            used: 0,
+            status: Status::Running,
+            devices: Some(devices),
+        }
+    }
+
+    /// A space that has never run, with so much fuel.
+    pub fn fresh(alloc: Global, fuel: u32) -> Top
+        requires { 1 ≤ fuel }
+        ensures { result ≡ fresh fuel }
+    {
+        Top {
+            registers: Regs::new(0),
+            memory: Mem::new(alloc),
+            snapshot: None,
+            limit: None,
+            fuel,
+            used: 0,
+            status: FRESH,
+            devices: None,
+        }
+    }
+
+    /// The bytes that it wrote to its console; without devices there are none.
+    pub fn console(&self) -> &[u8]
+        ensures { result.now ≡ console_bytes self.now.devices }
+    {
+        match &self.devices {
+            Some(devices) => &devices.console,
+            None => &[],
+        }
+    }
+
+    /// Whether it has stopped.
+    pub fn is_stopped(&self) -> bool
+        ensures { result ≡ is_stopped self.now.status }
+    {
+        match self.status {
+            Status::Running => false,
+            Status::Stopped { .. } => true,
+        }
+    }
+
+    /// Whether it has devices.
+    pub fn has_devices(&self) -> bool
+        ensures { result ≡ has_devices self.now.devices }
+    {
+        self.devices.is_some()
+    }
+
+    /// Fuel and used together: the fuel that each space of the tree had at first.
+    pub fn total_fuel(&self) -> u32
+        ensures total { result ≡ self.now.fuel + self.now.used }
+        ensures some { 1 ≤ result }
+    {
+        self.fuel + self.used
+    }
+
+    /// Stops.
+    pub fn stop(&mut self, cause: Cause, value: u32)
+        ensures { self.new ≡ stop self.old cause value }
+    {
+        self.status = Status::Stopped { cause, value };
+    }
+
+    /// A call has succeeded: a0 is 0, and the next instruction follows.
+    pub fn succeed(&mut self)
+        ensures { self.new ≡ succeeded self.old }
+    {
+        self.registers.pc = self.registers.pc.wrapping_add(4);
+        self.registers.set_register(10, 0);
+    }
+
+    /// Pays for so many events: fuel and the limit, where there is one, go down by them, and used goes up.
+    pub fn pay(&mut self, events: u32)
+        requires fuel { events ≤ self.old.fuel }
+        requires limit { IfSome self.old.limit (λ n. events ≤ n) }
+        ensures { self.new ≡ spent events self.old self.old }
+    {
+        self.fuel -= events;
+        self.used += events;
+        if let Some(limit) = &mut self.limit {
+            *limit -= events;
+        }
+    }
+
+    /// An equal state, whose memories no later write to this one's changes. The one error is want of memory.
+    pub fn copied(&mut self) -> Result<Top, AllocError>
+        ensures equal { IfOk result (λ t. t ≡ self.old) }
+        ensures same { self.new ≡ self.old }
+    {
+        let memory = self.memory.frozen()?;
+        let snapshot = frozen(&mut self.snapshot)?;
+        let devices = copied(&self.devices)?;
+        Ok(Top {
+            registers: self.registers,
+            memory,
+            snapshot,
+            limit: self.limit,
+            fuel: self.fuel,
+            used: self.used,
+            status: self.status,
+            devices,
+        })
+    }
+}
+
+// An equal memory, where there is one.
+fn frozen(snapshot: &mut Option<Mem>) -> Result<Option<Mem>, AllocError>
+    ensures equal { IfOk result (λ o. o ≡ snapshot.old) }
+    ensures same { snapshot.new ≡ snapshot.old }
+{
+    match snapshot {
+        Some(memory) => Ok(Some(memory.frozen()?)),
+        None => Ok(None),
+    }
+}
+
+// Equal devices, where there are any.
+fn copied(devices: &Option<Devices>) -> Result<Option<Devices>, AllocError>
+    ensures { IfOk result (λ o. o ≡ devices.now) }
+{
+    match devices {
+        Some(devices) => Ok(Some(devices.copied()?)),
+        None => Ok(None),
+    }
+}
