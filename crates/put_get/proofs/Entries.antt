@@ -1,0 +1,33 @@
+-- What a Put does to the entries of a map of children.
+use Rattle.std.proofs.Common.{◌≡◌, ℕ, ◌+◌, List, Option, Some, None, sym, ◌∙◌, ap, nat_cmp}
+use Rattle.std.specs.Prelude.{option_map}
+use Rattle.std.proofs.lemmas.Map.Steps.{set_value_same}
+use Rattle.std.specs.List.Sorted.{IsStrictlySortedBy}
+use Rattle.std.specs.BTreeMap.{is_at, insert_entry}
+use Rattle.std.specs.Map.{keys_of, lookup, set_value}
+use Rattle.call_model.specs.declared.Transfer.{Transfer}
+use Rattle.space_model.specs.Space.{Space, space, none, Top, top_of, children_of, find, put_child, children_from}
+use Rattle.space_model.specs.Call.{edit, change, below}
+use Rattle.space_model.specs.Meeting.{fresh, or_fresh, child_after}
+use Rattle.space_model.proofs.Entries.{find_entries, set_entries, put_entries}
+
+-- the child after a Put, by what was found
+abbrev given : Transfer → Top → Option Space → Space
+given x u o = space (child_after x u (or_fresh u (option_map top_of o))) (below o)
+
+pub given_there : (x : Transfer) (u : Top) (c w : Space) (es fs : List (ℕ × Space)) → Some c ≡ lookup (is_at (nat_cmp x.child)) es → fs ≡ set_value (is_at (nat_cmp x.child)) es w
+    → w ≡ space (child_after x u (top_of c)) (children_of c) → children_from fs ≡ edit (change x.child (child_after x u (or_fresh u (option_map top_of (find x.child (children_from es)))))) (children_from es)
+given_there x u c w es fs at written is =
+    let cs = children_from es in
+    let there : find x.child cs ≡ Some c = sym (find_entries x.child es) ∙ sym at in
+    ap children_from written ∙ set_entries x.child w c es there ∙ ap (λ s. put_child x.child s cs) is ∙ ap (λ o. put_child x.child (given x u o) cs) (sym there)
+
+pub given_same : (n : ℕ) (c w : Space) (es fs : List (ℕ × Space)) → Some c ≡ lookup (is_at (nat_cmp n)) es → fs ≡ set_value (is_at (nat_cmp n)) es w → w ≡ c → children_from fs ≡ children_from es
+given_same n c w es fs at written is = ap children_from (written ∙ set_value_same (is_at (nat_cmp n)) es w (sym at ∙ ap Some (sym is)))
+
+pub given_missing : (x : Transfer) (u : Top) (c : Space) (es fs : List (ℕ × Space)) → None ≡ lookup (is_at (nat_cmp x.child)) es → IsStrictlySortedBy nat_cmp (keys_of es) → fs ≡ insert_entry nat_cmp es x.child c
+    → c ≡ space (child_after x u (fresh (u.fuel + u.used))) none → children_from fs ≡ edit (change x.child (child_after x u (or_fresh u (option_map top_of (find x.child (children_from es)))))) (children_from es)
+given_missing x u c es fs at sorted inserted is =
+    let cs = children_from es in
+    let missing : find x.child cs ≡ None = sym (find_entries x.child es) ∙ sym at in
+    ap children_from inserted ∙ put_entries x.child c es sorted ∙ ap (λ s. put_child x.child s cs) is ∙ ap (λ o. put_child x.child (given x u o) cs) (sym missing)

@@ -1,0 +1,8 @@
+use Rattle.std.proofs.Common.{arith}
+use Rattle.put_get.proofs.Words.{registers_read}
+use Rattle.put_get.proofs.registers.read_registers.Goals as goal
+
+pub returns : goal.returns
+returns c =
+    let kept = c.loop-number.invariant in
+    registers_read c.args.memory.now c.args.at c.loop-number.registers kept.pc kept.length kept.zero (λ k low high. kept.words k low (omega arith))

@@ -1,0 +1,55 @@
+ghost use Rattle.std.specs.Prelude.{◌≡◌, ◌<◌};
+ghost use Rattle.call_model.specs.Options as options_of;
+
+use trap_ret::Transfer;
+use trap_ret::options::{COPY, LIMIT, PERM, REGS, START, ZERO, has};
+
+// The register block goes along: into the child with Put, out of it with Get.
+pub fn has_regs(x: &Transfer) -> bool
+    ensures { result ≡ options_of.has options_of.regs x.now.options }
+{
+    has(x.options, REGS)
+}
+
+// The destination's range becomes the source's.
+pub fn has_copy(x: &Transfer) -> bool
+    ensures { result ≡ options_of.has options_of.copy x.now.options }
+{
+    has(x.options, COPY)
+}
+
+// The bytes of the destination's range become 0.
+pub fn has_zero(x: &Transfer) -> bool
+    ensures { result ≡ options_of.has options_of.zeroing x.now.options }
+{
+    has(x.options, ZERO)
+}
+
+// The destination's range gets the permission.
+pub fn has_perm(x: &Transfer) -> bool
+    ensures { result ≡ options_of.has options_of.perm x.now.options }
+{
+    has(x.options, PERM)
+}
+
+// The child runs.
+pub fn has_start(x: &Transfer) -> bool
+    ensures { result ≡ options_of.has options_of.start x.now.options }
+{
+    has(x.options, START)
+}
+
+// The child that is started has a limit.
+pub fn has_limit(x: &Transfer) -> bool
+    ensures { result ≡ options_of.has options_of.limited x.now.options }
+{
+    has(x.options, LIMIT)
+}
+
+// Bits 12 and 13, 0 to 3.
+pub fn permission(x: &Transfer) -> u8
+    ensures value { result ≡ options_of.permission x.now.options }
+    ensures small { result < 4 }
+{
+    (x.options / 4096 % 4) as u8
+}
