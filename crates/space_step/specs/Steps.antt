@@ -1,14 +1,25 @@
--- What a call of `next` did.
+-- What is next of a space, as calls answer it.
 use Rattle.std.specs.Prelude.{◌≡◌, ℕ, Result, Ok, Err}
 use Rattle.std.specs.declared.alloc.AllocError.{AllocError}
+use Rattle.call_model.specs.declared.Call.TheVariants as named
+use Rattle.call_model.specs.declared.Call.{Call}
+use Rattle.call_model.specs.declared.Badcall as refusal
 use Rattle.space_step.specs.declared.event.Next.{Next}
 use Rattle.space_step.specs.declared.event.Next.TheVariants as answers
 use Rattle.space_model.specs.Space.{Top}
+use Rattle.space_model.specs.Change.{paid}
 use Rattle.space_model.specs.Event as event
 
--- one local event, or nothing at all
+-- a local event, a call that meets a child, or nothing
+abbrev pub IsNext : ℕ → Next → Top → Type 0
+IsNext levels answers.Local t = (u : Top) × (event.next levels t ≡ event.moves u)
+IsNext levels (answers.Meet k) t = event.next levels t ≡ event.meets k (paid t t)
+IsNext levels answers.Stopped t = event.next levels t ≡ event.rests
+
+-- a local event, which has happened; a call or nothing, and then nothing has changed
 abbrev pub Answers : ℕ → Next → Top → Top → Type 0
 Answers levels answers.Local old new = event.next levels old ≡ event.moves new
+Answers levels (answers.Meet k) old new = (event.next levels old ≡ event.meets k (paid old old)) × (new ≡ old)
 Answers levels answers.Stopped old new = (event.next levels old ≡ event.rests) × (new ≡ old)
 
 -- and where memory ran out, nothing
@@ -16,7 +27,34 @@ abbrev pub Steps : ℕ → Result Next AllocError → Top → Top → Type 0
 Steps levels (Ok n) old new = Answers levels n old new
 Steps levels (Err e) old new = new ≡ old
 
--- an effect that needs no child, as it was done
+-- the answer to what is next
+abbrev pub answer : event.Next → Next
+answer event.rests = answers.Stopped
+answer (event.moves t) = answers.Local
+answer (event.meets k t) = answers.Meet k
+
+-- the answer to what a call does
+abbrev pub answer_to : Result Call refusal.Badcall → Next
+answer_to (Err test) = answers.Local
+answer_to (Ok (named.Put x)) = answers.Meet (named.Put x)
+answer_to (Ok (named.Get x)) = answers.Meet (named.Get x)
+answer_to (Ok (named.Ret value)) = answers.Local
+answer_to (Ok (named.ConsoleOut addr len)) = answers.Local
+
+-- fuel, use and limit are the same
+pub record PaysNothing (old new : Top) : Type 0 where
+  pub fuel : new.fuel ≡ old.fuel
+  pub used : new.used ≡ old.used
+  pub limit : new.limit ≡ old.limit
+
+-- what an effect does, before what it costs; a call that meets a child is left to do
+abbrev pub Acts : event.Effect → Result Next AllocError → Top → Top → Type 0
+Acts effect (Ok answers.Local) old new = (effect ≡ event.becomes new) × PaysNothing old new
+Acts effect (Ok (answers.Meet k)) old new = (effect ≡ event.asks k) × (new ≡ old)
+Acts effect (Ok answers.Stopped) old new = ⊥
+Acts effect (Err e) old new = new ≡ old
+
+-- the same of an effect that meets no child
 abbrev pub Does : event.Effect → Result (Unit {0}) AllocError → Top → Top → Type 0
-Does effect (Ok u) old new = effect ≡ event.becomes new
+Does effect (Ok u) old new = (effect ≡ event.becomes new) × PaysNothing old new
 Does effect (Err e) old new = new ≡ old

@@ -1,8 +1,12 @@
-/// What a space's next event was.
+use trap_ret::AcceptedCall;
+
+/// What is next of a space.
 #[derive(Clone, Copy, Debug, PartialEq, Eq)]
 pub enum Next {
-    /// A local event, which has happened.
+    /// A local event.
     Local,
-    /// None: the space has stopped.
+    /// A call that meets a child.
+    Meet(AcceptedCall),
+    /// Nothing: the space has stopped.
     Stopped,
 }

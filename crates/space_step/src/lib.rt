@@ -1,18 +1,19 @@
-//! The state of a space, and one local event of it.
+//! What is next of a space, and its local events.
 #![tactic(auto)]
 
-mod calls;
-mod devices;
+mod calling;
 mod event;
+mod paying;
+mod peeking;
+mod run;
 mod running;
-mod space;
-mod top;
+mod stretch;
 
-pub use devices::Devices;
 pub use event::Next;
-pub use running::next;
-pub use rv_exec::Regs;
-pub use space::Space;
-pub use space_mem::Mem;
-pub use space_model::{Cause, Status};
-pub use top::Top;
+pub use peeking::peek;
+pub use run::{Run, run_local};
+pub use running::{advance, next};
+pub use trap_ret::AcceptedCall;
+
+#[cfg(test)]
+mod tests;

@@ -1,0 +1,84 @@
+ghost use Rattle.std.specs.Prelude.{◌≡◌, ◌-◌, ◌≤◌, ◌^◌, ◌+◌, OnOk, OnErr, IfOk, IfSome};
+ghost use Rattle.memory_model.specs.Memory.{bytes_from};
+ghost use Rattle.instruction_model.specs.Outcome.{calls, view_of, outcome};
+ghost use Rattle.call_model.specs.Reading.{IsAccepted};
+ghost use Rattle.space_model.specs.Event as event;
+ghost use Rattle.space_model.specs.Event.{MayPay};
+ghost use Rattle.space_step.specs.Steps.{Acts, Does, Steps};
+
+use crate::event::Next;
+use space_model::Cause;
+use space_tree::Top;
+use std::alloc::{AllocError, Global};
+use trap_ret::{AcceptedCall, Badcall, Call, read_call};
+
+// Appends a range of memory to the console of a space that has one.
+fn write_console(top: &mut Top, alloc: Global, addr: u32, len: u32) -> Result<(), AllocError>
+    requires { addr + len ≤ 2 ^ 32 }
+    ensures ok { OnOk result (IfSome top.old.devices (λ d. top.new ≡ event.with_output top.old d (bytes_from top.old.memory addr len))) }
+    ensures err { OnErr result (top.new ≡ top.old) }
+{
+    let bytes = top.memory.bytes(alloc, addr, len)?;
+    if let Some(devices) = &mut top.devices {
+        devices.console.extend_from_slice(&bytes)?;
+    }
+    Ok(())
+}
+
+// Console out of a range of memory.
+fn console_out(top: &mut Top, addr: u32, len: u32) -> Result<(), AllocError>
+    requires { addr + len ≤ 2 ^ 32 }
+    ensures { Does (event.console_out top.old addr len top.old.devices) result top.old top.new }
+{
+    let Some(devices) = &top.devices else {
+        top.stop(Cause::Badcall, 6);
+        return Ok(());
+    };
+    let alloc = *devices.console.allocator();
+    if let Some(at) = top.memory.first_unreadable(addr, len) {
+        top.stop(Cause::LoadFault, at);
+        return Ok(());
+    }
+    write_console(top, alloc, addr, len)?;
+    top.succeed();
+    Ok(())
+}
+
+// What a call does, by what registers say, but for what it costs. A call that meets a child is left to do.
+fn act(top: &mut Top, reading: Result<AcceptedCall, Badcall>) -> Result<Next, AllocError>
+    requires { IfOk reading IsAccepted }
+    ensures { Acts (event.by_reading top.old reading) result top.old top.new }
+{
+    match reading {
+        Err(Badcall(test)) => top.stop(Cause::Badcall, u32::from(test)),
+        Ok(accepted) => match accepted.call() {
+            Call::Put(_) | Call::Get(_) => return Ok(Next::Meet(accepted)),
+            Call::Ret { value } => {
+                top.succeed();
+                top.stop(Cause::Ret, value);
+            }
+            Call::ConsoleOut { addr, len } => console_out(top, addr, len)?,
+        },
+    }
+    Ok(Next::Local)
+}
+
+/// The ECALL at pc of a space that may pay for it, at a depth of at most 8: a local event, which is done and paid for, or a
+/// call that meets a child, which is left to do.
+#[inline(never)]
+#[tactic(auto, using(crate::proofs::CallEvents::call_happens, crate::proofs::CallEvents::call_waits))]
+pub(crate) fn call(top: &mut Top, depth: u8) -> Result<Next, AllocError>
+    requires depth { depth ≤ 8 }
+    requires may_pay { MayPay top.old }
+    requires calls { outcome (view_of top.old.memory) top.old.registers ≡ calls }
+    ensures { Steps (8 - depth) result top.old top.new }
+{
+    let reading = read_call(&top.registers.x, top.has_devices(), depth);
+    match act(top, reading)? {
+        Next::Local => {
+            top.pay(1);
+            Ok(Next::Local)
+        }
+        other => Ok(other),
+    }
+}

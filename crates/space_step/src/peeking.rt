@@ -1,0 +1,73 @@
+ghost use Rattle.std.specs.Prelude.{◌≡◌, ◌-◌, ◌≤◌};
+ghost use Rattle.instruction_model.specs.Outcome.{view_of, outcome};
+ghost use Rattle.space_model.specs.Sound.{has_devices};
+ghost use Rattle.call_model.specs.Reading.{read};
+ghost use Rattle.space_step.specs.Steps.{IsNext, answer_to};
+ghost use Rattle.space_step.specs.Stretch.{is_call};
+
+use crate::event::Next;
+use crate::paying::budget;
+use rv_decode::{Instruction, decode};
+use rv_exec::Regs;
+use space_mem::Mem;
+use space_model::Status;
+use space_tree::Top;
+use trap_ret::{Call, read_call};
+
+// Whether an ECALL stands at pc and is next.
+#[tactic(auto, unfolding(instruction_model::specs::Outcome::outcome))]
+fn is_at_call(registers: &Regs, memory: &Mem) -> bool
+    ensures { result ≡ is_call (outcome (view_of memory.now) registers.now) }
+{
+    if registers.pc % 4 != 0 {
+        return false;
+    }
+    match memory.fetch(registers.pc) {
+        Some(word) => match decode(word) {
+            Some(instr) => instr.instruction() == Instruction::Ecall,
+            None => false,
+        },
+        None => false,
+    }
+}
+
+// What a call is to a space at a depth: a local event, or a call that meets a child.
+fn answer_to_call(top: &Top, depth: u8) -> Next
+    ensures { result ≡ answer_to (read top.now.registers.x (has_devices top.now.devices) depth) }
+{
+    match read_call(&top.registers.x, top.has_devices(), depth) {
+        Ok(accepted) => match accepted.call() {
+            Call::Put(_) | Call::Get(_) => Next::Meet(accepted),
+            Call::Ret { .. } | Call::ConsoleOut { .. } => Next::Local,
+        },
+        Err(_) => Next::Local,
+    }
+}
+
+// What is next of a space that runs.
+#[tactic(auto, using(crate::proofs::Answers::call_is_next, crate::proofs::Answers::no_call_is_next))]
+fn peek_running(top: &Top, depth: u8) -> Next
+    requires depth { depth ≤ 8 }
+    requires running { top.now.status ≡ Status.Running }
+    ensures { IsNext (8 - depth) result top.now }
+{
+    if budget(top, 1) == 0 {
+        return Next::Local;
+    }
+    if !is_at_call(&top.registers, &top.memory) {
+        return Next::Local;
+    }
+    answer_to_call(top, depth)
+}
+
+/// What is next of a space at a depth of at most 8. It takes no memory.
+#[tactic(auto, using(crate::proofs::Events::next_rests))]
+pub fn peek(top: &Top, depth: u8) -> Next
+    requires { depth ≤ 8 }
+    ensures { IsNext (8 - depth) result top.now }
+{
+    match top.status {
+        Status::Running => peek_running(top, depth),
+        Status::Stopped { .. } => Next::Stopped,
+    }
+}

@@ -1,0 +1,96 @@
+ghost use Rattle.std.specs.Prelude.{◌≡◌, ◌-◌, ◌≤◌, ◌<◌, IfOk};
+ghost use Rattle.space_model.specs.Event.{next, IsNotLocal};
+ghost use Rattle.space_step.specs.Run.{IsRun};
+
+use crate::running::advance;
+use space_tree::Top;
+use std::alloc::AllocError;
+use std::marker::Model;
+
+/// Local events of a space at a depth, from a start on: the start, the space after them, and how many there were. There are
+/// none only where what is next of the start is no local event.
+#[derive(Drop)]
+pub struct Run {
+    depth: u8,
+    start: Top,
+    top: Top,
+    ran: u32,
+}
+
+impl Model for Run {
+    ghost use Rattle.space_step.specs.Run as specs;
+
+    ghost Value = { specs.Run };
+
+    ghost coded = { specs.coded_run };
+
+    ghost view = { λ r. record { depth = r.depth; start = r.start; top = r.top; ran = r.ran } };
+
+    ghost invariant = { λ r. specs.IsRun (record { depth = r.depth; start = r.start; top = r.top; ran = r.ran }) };
+}
+
+impl Run {
+    /// The depth of the space, 0 to 8.
+    pub fn depth(&self) -> u8
+        ensures { result ≡ self.now.depth }
+    {
+        self.depth
+    }
+
+    /// The space before the events.
+    pub fn start(&self) -> &Top
+        ensures { result.now ≡ self.now.start }
+    {
+        &self.start
+    }
+
+    /// The space after the events.
+    pub fn top(&self) -> &Top
+        ensures { result.now ≡ self.now.top }
+    {
+        &self.top
+    }
+
+    /// How many events there were.
+    pub fn ran(&self) -> u32
+        ensures { result ≡ self.now.ran }
+    {
+        self.ran
+    }
+
+    /// What a run is: its events lead from its start to its top.
+    pub fn leads(&self)
+        ensures { IsRun self.now }
+    {
+        let _ran = self.ran;
+    }
+
+    /// The space before the events, and the space after them.
+    pub fn into_parts(self) -> (Top, Top)
+        ensures start { result.0 ≡ self.start }
+        ensures top { result.1 ≡ self.top }
+    {
+        (self.start, self.top)
+    }
+}
+
+/// Runs a space at a depth of at most 8: at most as many local events as the quantum, which is at least 1, and fewer only where
+/// what is next is no local event. The run's start is a copy. Its one error is want of memory, for the copy or for an event.
+pub fn run_local(mut top: Top, depth: u8, quantum: u32) -> Result<Run, AllocError>
+    requires depth { depth ≤ 8 }
+    requires quantum { 1 ≤ quantum }
+    ensures depth { IfOk result (λ r. r.depth ≡ depth) }
+    ensures start { IfOk result (λ r. r.start ≡ top) }
+    ensures within { IfOk result (λ r. r.ran ≤ quantum) }
+    ensures fewer { IfOk result (λ r. r.ran < quantum → IsNotLocal (next (8 - depth) r.top)) }
+    ensures none { IfOk result (λ r. r.ran ≡ 0 → IsNotLocal (next (8 - depth) r.start)) }
+{
+    let start = top.copied()?;
+    let ran = advance(&mut top, depth, quantum)?;
+    Ok(Run {
+        depth,
+        start,
+        top,
+        ran,
+    })
+}
