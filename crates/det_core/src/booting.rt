@@ -1,11 +1,12 @@
 ghost use Rattle.std.specs.Prelude.{◌≡◌, ◌≤◌, ◌<◌, ◌^◌, ◌+◌, ◌-◌, ◌/◌, OnOk, IfOk, length, List, map};
 ghost use Rattle.run_model.specs.Boot.{with_segment, with_segments, boot};
+ghost use Rattle.memory_model.specs.Memory.{no_memory};
 ghost use Rattle.image_model.specs.Image.{IsSegment, last_page};
 ghost use Rattle.image_file.specs.View.{segment_view};
+ghost use Rattle.space_model.specs.Sound.{IsSound};
 
 use image_file::{Image, Segment};
-use space_mem::{Mem, Pages};
-use space_step::{Devices, Space, Top};
+use space_tree::{Devices, Mem, Pages, Space, Top};
 use std::alloc::{AllocError, Global};
 
 // A segment's bytes, and its permission on each page that it touches.
@@ -24,15 +25,25 @@ fn write_segment(memory: &mut Mem, segment: &Segment) -> Result<(), AllocError>
     memory.set_perm(pages, segment.perm)
 }
 
-/// The root of an image, with its devices and so much fuel: from 1 to 2^32 - 1 events.
-#[tactic(auto, unfolding(run_model::specs::Boot::boot))]
-pub fn boot(alloc: Global, image: &Image, devices: Devices, limit: u32) -> Result<Space, AllocError>
-    requires { 1 ≤ limit }
-    ensures { IfOk result (λ s. s ≡ boot image.now devices limit) }
+// The memory of an image: its segments, one after the other.
+fn load(alloc: Global, image: &Image) -> Result<Mem, AllocError>
+    ensures { IfOk result (λ m. m ≡ with_segments no_memory image.now.segments) }
 {
     let mut memory = Mem::new(alloc);
     for segment in image.segments() {
         write_segment(&mut memory, segment)?;
     }
-    Ok(Space::alone(Top::root(image.entry(), image.stack(), memory, limit, devices)))
+    Ok(memory)
+}
+
+/// The root of an image, with its devices and so much fuel: from 1 to 2^32 - 1 events.
+#[tactic(auto, unfolding(run_model::specs::Boot::boot))]
+pub fn boot(alloc: Global, image: &Image, devices: Devices, limit: u32) -> Result<Space, AllocError>
+    requires { 1 ≤ limit }
+    ensures value { IfOk result (λ s. s ≡ boot image.now devices limit) }
+    ensures sound { IfOk result IsSound }
+{
+    let memory = load(alloc, image)?;
+    let top = Top::root(image.entry(), image.stack(), memory, limit, devices);
+    Ok(Space::alone(alloc, top))
 }

@@ -1,0 +1,77 @@
+ghost use Rattle.std.specs.Prelude.{◌≡◌, ◌+◌, ◌-◌, ◌≤◌, [], true, cond, ℕ, length, IfOk, OnOk, OnErr};
+ghost use Rattle.space_model.specs.Sound.{IsSoundAt};
+ghost use Rattle.space_model.specs.Event.{MayPay};
+ghost use Rattle.space_model.specs.Meeting.{MayMeet, meet, awaits};
+ghost use Rattle.space_model.specs.Change.{paid};
+ghost use Rattle.space_model.specs.Space.{top_of, children_of};
+ghost use Rattle.run_model.specs.Schedule.{are_ready, enabled, try_step};
+
+use crate::enabling::are_ready;
+use put_get::apply;
+use space_step::{AcceptedCall, Next, next};
+use space_tree::{Path, Space};
+use std::alloc::{AllocError, Global};
+
+// A call of a space at this depth, where what it waits for is ready; else nothing.
+fn try_call(
+    alloc: Global,
+    call: AcceptedCall,
+    space: &mut Space,
+    depth: u8,
+) -> Result<bool, AllocError>
+    requires depth { depth ≤ 8 }
+    requires may_meet { MayMeet (8 - depth) call }
+    requires may_pay { MayPay (top_of space.old) }
+    ensures ok { IfOk result (λ b. b ≡ are_ready (awaits call) (children_of space.old)) }
+    ensures called { OnOk result (space.new ≡ cond (are_ready (awaits call) (children_of space.old)) (meet call (paid (top_of space.old) (top_of space.old)) (children_of space.old)) space.old) }
+    ensures err { OnErr result (space.new ≡ space.old) }
+{
+    let ready = are_ready(call, &space.children);
+    if ready {
+        apply(alloc, call, depth, space)?;
+    }
+    Ok(ready)
+}
+
+// The next event of a space at this depth, where it may happen; else nothing.
+fn try_event(alloc: Global, space: &mut Space, depth: u8) -> Result<bool, AllocError>
+    requires { depth ≤ 8 }
+    ensures ok { IfOk result (λ b. b ≡ enabled [] (8 - depth) space.old) }
+    ensures stepped { OnOk result (space.new ≡ try_step [] (8 - depth) space.old) }
+    ensures err { OnErr result (space.new ≡ space.old) }
+{
+    match next(&mut space.top, depth)? {
+        Next::Local => Ok(true),
+        Next::Meet(call) => try_call(alloc, call, space, depth),
+        Next::Stopped => Ok(false),
+    }
+}
+
+// The event at a path from a space at this depth, where it may happen; else nothing.
+fn try_step(alloc: Global, space: &mut Space, path: &[u16], depth: u8) -> Result<bool, AllocError>
+    requires { depth + length path.now ≤ 8 }
+    ensures ok { IfOk result (λ b. b ≡ enabled path.now (8 - depth) space.old) }
+    ensures stepped { OnOk result (space.new ≡ try_step path.now (8 - depth) space.old) }
+    ensures err { OnErr result (space.new ≡ space.old) }
+{
+    match path {
+        [] => try_event(alloc, space, depth),
+        [number, rest @ ..] => {
+            let Some(child) = space.children.get_mut(number) else {
+                return Ok(false);
+            };
+            try_step(alloc, child, rest, depth + 1)
+        }
+    }
+}
+
+/// The event at a path, where it may happen, and whether it has happened; where it may not, nothing changes. Its one error is want
+/// of memory, and then nothing has changed.
+pub fn step(alloc: Global, space: &mut Space, path: &Path) -> Result<bool, AllocError>
+    ensures ok { IfOk result (λ b. b ≡ enabled path.now.items 8 space.old) }
+    ensures stepped { OnOk result (space.new ≡ try_step path.now.items 8 space.old) }
+    ensures err { OnErr result (space.new ≡ space.old) }
+    ensures sound { (fuel : ℕ) → IsSoundAt 8 true fuel space.old → IsSoundAt 8 true fuel space.new }
+{
+    try_step(alloc, space, path.as_slice(), 0)
+}
