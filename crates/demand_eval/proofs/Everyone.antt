@@ -1,0 +1,80 @@
+-- Children that settle one after another, by their numbers.
+use Rattle.std.proofs.Common.{◌≡◌, ℕ, zero, suc, pred, ◌+◌, ◌≤◌, ◌<◌, Bool, false, List, [], ◌∷◌, map, length, get_or, drop, Option, Some, None, refl, sym, ap, ◌∙◌, subst, drop-cons, add-one}
+use Rattle.std.proofs.lemmas.List.{drop_all}
+use Rattle.space_model.specs.Space.{Space, space, Top, Children, none, child, top_of, children_of, find, over, children_from}
+use Rattle.space_model.specs.Sound.{IsSoundAt, AreSound}
+use Rattle.space_model.specs.Path.{under}
+use Rattle.space_model.specs.Call.{whole}
+use Rattle.space_model.proofs.Children.{over_missing, over-at}
+use Rattle.space_model.proofs.Sound.{over_sound, no_children}
+use Rattle.run_model.specs.Demand.{Meaning, wait_for, wait_for_child, everyone, settle, run, meaning, unmoved, of_children}
+use Rattle.run_model.proofs.Sound.{run_sound, settle_sound}
+use Rattle.demand_eval.specs.Turns.{IsSoundBelow, with_everyone}
+
+-- the children of these numbers become f of them, one after another
+abbrev pub over_all : (Space → Space) → List ℕ → Space → Space
+over_all f [] s = s
+over_all f (n ∷ ns) s = over_all f ns (under (over n f) s)
+
+-- one more is done
+pub over_all-more : (f : Space → Space) (ns : List ℕ) (i : ℕ) (s r : Space) → i < length ns → r ≡ under (over (get_or ns i 0) f) s → over_all f (drop (i + 1) ns) r ≡ over_all f (drop i ns) s
+over_all-more f ns i s r h is = rw (is, add-one, drop-cons ns i 0) refl
+
+-- and at the end all are
+pub over_all-done : (f : Space → Space) (ns : List ℕ) (i : ℕ) (s : Space) → length ns ≤ i → over_all f (drop i ns) s ≡ s
+over_all-done f ns i s h = let none : drop i ns ≡ [] = drop_all i ns h in rw none refl
+
+-- the numbers of children
+abbrev numbers_of : Children → List ℕ
+numbers_of none = []
+numbers_of (child n s rest) = n ∷ numbers_of rest
+
+numbers_from : (es : List (ℕ × Space)) → numbers_of (children_from es) ≡ map (λ e. e.0) es
+numbers_from [] = refl
+numbers_from (e ∷ es) = ap (λ ns. e.0 ∷ ns) (numbers_from es)
+
+wait_whole : (f : Meaning) (n : ℕ) (cs : Children) (o : Option Space) → find n cs ≡ o → (wait_for_child f (record { number = n; reach = whole }) cs o).children ≡ over n (λ c. (f whole c).space) cs
+wait_whole f n cs None at = sym (over_missing n (λ c. (f whole c).space) cs at)
+wait_whole f n cs (Some c) at = over-at n (λ d. (f whole c).space) (λ d. (f whole d).space) c cs at refl
+
+-- to wait for everyone is to wait for each by its number
+wait_all : (f : Meaning) (t : Top) (cs ds : Children) → space t (wait_for f (everyone cs) ds).children ≡ over_all (λ c. (f whole c).space) (numbers_of cs) (space t ds)
+wait_all f t none ds = refl
+wait_all f t (child n s rest) ds =
+    ap (λ xs. space t (wait_for f (everyone rest) xs).children) (wait_whole f n ds (find n ds) refl) ∙ wait_all f t rest (over n (λ c. (f whole c).space) ds)
+
+-- the children of sound spaces, each of which settles
+settles_at : (levels : ℕ) (root : Bool) (fuel : ℕ) (t : Top) (cs : Children) → IsSoundAt levels root fuel (space t cs)
+    → over_all (λ c. (of_children levels whole c).space) (numbers_of cs) (space t cs) ≡ over_all (settle (pred levels)) (numbers_of cs) (space t cs)
+settles_at zero root fuel t cs ok = let empty : cs ≡ none = no_children fuel 0 cs ok.1 in rw empty refl
+settles_at (suc levels) root fuel t cs ok = refl
+
+everyone_settles : (levels : ℕ) (t : Top) (es : List (ℕ × Space)) (ns : List ℕ) → IsSoundBelow levels (space t (children_from es)) → ns ≡ map (λ e. e.0) es → over_all (settle (pred levels)) ns (space t (children_from es)) ≡ with_everyone levels (space t (children_from es))
+everyone_settles levels t es ns ok is =
+    ap (λ xs. over_all (settle (pred levels)) xs (space t (children_from es))) (is ∙ sym (numbers_from es))
+    ∙ sym (settles_at levels ok.root ok.fuel t (children_from es) ok.sound)
+    ∙ sym (wait_all (of_children levels) t (children_from es) (children_from es))
+
+-- each child by its number, as a map tells the numbers
+pub settled_all : (levels : ℕ) (t : Top) (s : Space) (es : List (ℕ × Space)) (ns : List ℕ) → IsSoundBelow levels s → space t (children_from es) ≡ s → ns ≡ map (λ e. e.0) es → over_all (settle (pred levels)) ns s ≡ with_everyone levels s
+settled_all levels t s es ns ok is numbers =
+    let here : IsSoundBelow levels (space t (children_from es)) = subst (IsSoundBelow levels) (sym is) ok in
+    subst (λ x. over_all (settle (pred levels)) ns x ≡ with_everyone levels x) is (everyone_settles levels t es ns here numbers)
+
+-- a child that settles leaves its parent sound
+pub one_settled : (levels n : ℕ) (s r : Space) → IsSoundBelow levels s → r ≡ under (over n (settle (pred levels))) s → IsSoundBelow levels r
+one_settled levels n (space t cs) r ok is =
+    let kept : AreSound levels ok.fuel 0 (over n (settle (pred levels)) cs) = over_sound levels ok.fuel 0 n (settle (pred levels)) cs ok.sound.1 (λ c at h. settle_sound (pred levels) false ok.fuel c h) in
+    rw is (record { root = ok.root; fuel = ok.fuel; sound = (ok.sound.0, kept) })
+
+everyone_after : (f : Meaning) (r : Space) → under (λ cs. (wait_for f (everyone cs) cs).children) r ≡ space (top_of r) (wait_for f (everyone (children_of r)) (children_of r)).children
+everyone_after f (space t cs) = refl
+
+-- a space that has run, and whose children have settled, has settled
+pub run_then : (levels : ℕ) (s r q : Space) → r ≡ run levels s → q ≡ with_everyone levels r → q ≡ settle levels s
+unfolding meaning
+run_then zero s r q ran all = all ∙ ap (with_everyone zero) ran ∙ everyone_after unmoved (run zero s)
+run_then (suc levels) s r q ran all = all ∙ ap (with_everyone (suc levels)) ran ∙ everyone_after (meaning levels) (run (suc levels) s)
+
+pub ran_sound : (levels : ℕ) (s r : Space) → IsSoundBelow levels s → r ≡ run levels s → IsSoundBelow levels r
+ran_sound levels s r ok is = rw is (record { root = ok.root; fuel = ok.fuel; sound = run_sound levels ok.root ok.fuel s ok.sound })

@@ -1,0 +1,127 @@
+-- A space that has had local events, or a call, goes on to the same end.
+use Rattle.std.proofs.Common.{◌≡◌, ℕ, zero, suc, pred, ◌+◌, ◌≤◌, ◌<◌, Bool, true, false, cond, refl, sym, ap, ◌∙◌, subst, arith}
+use Rattle.call_model.specs.declared.Transfer.{Transfer}
+use Rattle.call_model.specs.declared.Call.{Call}
+use Rattle.call_model.specs.declared.Call.TheVariants.{Put, Get, Ret, ConsoleOut}
+use Rattle.space_model.specs.Stop.{is_stopped}
+use Rattle.space_model.specs.Space.{Space, space, Top, Children, none, top_of, children_of, over}
+use Rattle.space_model.specs.Sound.{IsSoundAt, AreSound}
+use Rattle.space_model.specs.Call.{itself}
+use Rattle.space_model.specs.Path.{under}
+use Rattle.space_model.specs.Change.{paid}
+use Rattle.space_model.specs.Meeting.{MayMeet, awaits, meet}
+use Rattle.space_model.specs.Event.{next, rests, moves, meets, Follows, IsNotLocal, MayPay}
+use Rattle.space_model.proofs.Sound.{no_children}
+use Rattle.space_model.proofs.Next.{next_meets, follows_sound, not_local}
+use Rattle.run_model.specs.Demand.{run, left_of, of_children, wait_for}
+use Rattle.run_model.proofs.Fuel.{left_falls, stopped_rests}
+use Rattle.run_model.proofs.Run.{run_on, run-run_on, run_on-follows, run_on-rests, run_on-meets, meet_fuel, call_costs, wait_for-put, wait_for-get}
+use Rattle.run_model.proofs.Sound.{KeepsSound, wait_for_sound, meaning_sound, next_meets_sound}
+use Rattle.demand_eval.specs.Turns.{IsSoundBelow, GoesOn, with_awaited}
+
+-- so many events leave so many fewer
+pub follows_left : (levels n : ℕ) (t u : Top) → Follows levels n t u → left_of u + n ≤ left_of t
+follows_left levels zero t u is = rw is (omega arith)
+follows_left levels (suc n) t u is = let first = left_falls levels t is.0 is.1 in let rest = follows_left levels n is.0 u is.2 in omega arith
+
+run-follows : (levels n : ℕ) (t u : Top) (cs : Children) → Follows levels n t u → run levels (space u cs) ≡ run levels (space t cs)
+run-follows levels n t u cs is = run-run_on levels (space u cs) ∙ sym (run_on-follows (of_children levels) levels n t u cs is) ∙ sym (run-run_on levels (space t cs))
+
+-- after so many events a space is as sound
+pub advanced_sound : (levels n : ℕ) (t u : Top) (cs : Children) (s : Space) → IsSoundBelow levels s → space t cs ≡ s → Follows levels n t u → IsSoundBelow levels (space u cs)
+advanced_sound levels n t u cs s ok is follows =
+    let here : IsSoundAt levels ok.root ok.fuel (space t cs) = subst (IsSoundAt levels ok.root ok.fuel) (sym is) ok.sound in
+    record { root = ok.root; fuel = ok.fuel; sound = (follows_sound levels n ok.fuel ok.root t u follows here.0, here.1) }
+
+-- and goes on, where there was one at least
+pub advanced : (levels n : ℕ) (t u : Top) (cs : Children) (s : Space) → IsSoundBelow levels s → space t cs ≡ s → Follows levels n t u → 1 ≤ n → GoesOn levels s (space u cs)
+advanced levels n t u cs s ok is follows some =
+    let fewer = follows_left levels n t u follows in
+    let top : top_of s ≡ t = ap top_of (sym is) in
+    record { same = run-follows levels n t u cs follows ∙ ap (run levels) is; sound = advanced_sound levels n t u cs s ok is follows; fewer = rw top (omega arith) }
+
+-- a stretch after which a local event is next was as long as it might be
+pub went_on : (levels n quantum : ℕ) (u : Top) → (n < quantum → IsNotLocal (next levels u)) → (v : Top) × (next levels u ≡ moves v) → 1 ≤ quantum → 1 ≤ n
+went_on levels zero quantum u ends is some = absurd (not_local levels u is.0 is.1 (ends (omega arith)))
+went_on levels (suc n) quantum u ends is some = omega arith
+
+-- or has stopped
+pub advanced_stopped : (levels n : ℕ) (t u : Top) (cs : Children) (s : Space) → space t cs ≡ s → Follows levels n t u → next levels u ≡ rests → space u cs ≡ run levels s
+advanced_stopped levels n t u cs s is follows ends = sym (run_on-rests (of_children levels) levels (space u cs) ends) ∙ sym (run-run_on levels (space u cs)) ∙ run-follows levels n t u cs follows ∙ ap (run levels) is
+
+-- or goes on from there
+pub advanced_then : (levels n : ℕ) (t u : Top) (cs : Children) (s r : Space) → space t cs ≡ s → Follows levels n t u → GoesOn levels (space u cs) r → GoesOn levels s r
+advanced_then levels n t u cs s r is follows on =
+    let some = follows_left levels n t u follows in
+    let top : top_of s ≡ t = ap top_of (sym is) in
+    let fewer = on.fewer in
+    record { same = on.same ∙ run-follows levels n t u cs follows ∙ ap (run levels) is; sound = on.sound; fewer = rw top (omega arith) }
+
+-- what becomes of children keeps them sound
+children_keep : (levels fuel : ℕ) → KeepsSound (of_children levels) (pred levels) fuel
+children_keep zero fuel = λ reach c h. h
+children_keep (suc levels) fuel = λ reach c h. meaning_sound levels reach false fuel c h
+
+-- the child that Put or Get waits for has run; at the last level there is none
+children_at : (levels : ℕ) (root : Bool) (fuel n : ℕ) (t : Top) (cs : Children) → IsSoundAt levels root fuel (space t cs) → over n (λ c. (of_children levels itself c).space) cs ≡ over n (run (pred levels)) cs
+children_at zero root fuel n t cs ok = let empty : cs ≡ none = no_children fuel 0 cs ok.1 in rw empty refl
+children_at (suc levels) root fuel n t cs ok = refl
+
+pub awaited_put : (levels : ℕ) (x : Transfer) (s : Space) → IsSoundBelow levels s → with_awaited levels (Put x) s ≡ under (over x.child (run (pred levels))) s
+awaited_put levels x (space t cs) ok = ap (space t) (wait_for-put (of_children levels) x cs ∙ children_at levels ok.root ok.fuel x.child t cs ok.sound)
+
+pub awaited_get : (levels : ℕ) (x : Transfer) (s : Space) → IsSoundBelow levels s → with_awaited levels (Get x) s ≡ under (over x.child (run (pred levels))) s
+awaited_get levels x (space t cs) ok = ap (space t) (wait_for-get (of_children levels) x cs ∙ children_at levels ok.root ok.fuel x.child t cs ok.sound)
+
+-- a call that waits for none
+pub awaited_ret : (levels value : ℕ) (s : Space) → with_awaited levels (Ret value) s ≡ s
+awaited_ret levels value (space t cs) = refl
+
+pub awaited_console : (levels addr len : ℕ) (s : Space) → with_awaited levels (ConsoleOut addr len) s ≡ s
+awaited_console levels addr len (space t cs) = refl
+
+-- its caller is as it was
+pub awaited_top : (levels : ℕ) (k : Call) (s : Space) → top_of (with_awaited levels k s) ≡ top_of s
+awaited_top levels k (space t cs) = refl
+
+pub may_meet : (levels : ℕ) (k : Call) (s : Space) → next levels (top_of s) ≡ meets k (paid (top_of s) (top_of s)) → MayMeet levels k
+may_meet levels k s e = (next_meets levels (top_of s) k (paid (top_of s) (top_of s)) e).may
+
+pub may_pay : (levels : ℕ) (k : Call) (s w : Space) → next levels (top_of s) ≡ meets k (paid (top_of s) (top_of s)) → w ≡ with_awaited levels k s → MayPay (top_of w)
+may_pay levels k s w e is = let top : top_of w ≡ top_of s = ap top_of is ∙ awaited_top levels k s in subst MayPay (sym top) (next_meets levels (top_of s) k (paid (top_of s) (top_of s)) e).pays
+
+not_at_rest : (levels : ℕ) (t u : Top) (k : Call) → next levels t ≡ meets k u → (b : Bool) → is_stopped t.status ≡ b → b ≡ false
+not_at_rest levels t u k e true is = let ends = stopped_rests levels t is in cc
+not_at_rest levels t u k e false is = refl
+
+left_running : (b : Bool) (n : ℕ) → b ≡ false → cond b 0 n ≡ n
+left_running true n e = cc
+left_running false n e = refl
+
+left_most : (b : Bool) (n : ℕ) → cond b 0 n ≤ n
+left_most true n = omega arith
+left_most false n = omega arith
+
+call_leaves : (levels : ℕ) (t u : Top) (k : Call) (cs : Children) → next levels t ≡ meets k u → left_of (top_of (meet k u cs)) < left_of t
+call_leaves levels t u k cs e =
+    let costs = call_costs levels t u k e in
+    let fuel = meet_fuel k u cs in
+    let now = left_running (is_stopped t.status) (suc t.fuel) (not_at_rest levels t u k e (is_stopped t.status) refl) in
+    let later = left_most (is_stopped (top_of (meet k u cs)).status) (suc (top_of (meet k u cs)).fuel) in
+    omega arith
+
+met_here : (levels : ℕ) (k : Call) (t : Top) (cs ds : Children) → IsSoundBelow levels (space t cs) → next levels t ≡ meets k (paid t t) → ds ≡ (wait_for (of_children levels) (awaits k) cs).children → GoesOn levels (space t cs) (meet k (paid t t) ds)
+met_here levels k t cs ds ok e is =
+    let kept : AreSound levels ok.fuel 0 ds = rw is (wait_for_sound (of_children levels) levels ok.fuel (awaits k) cs (children_keep levels ok.fuel) ok.sound.1) in
+    let same : run_on (of_children levels) levels (space t cs) ≡ run_on (of_children levels) levels (meet k (paid t t) ds) = rw is (run_on-meets (of_children levels) levels t (paid t t) k cs e) in
+    record {
+      same = run-run_on levels (meet k (paid t t) ds) ∙ sym same ∙ sym (run-run_on levels (space t cs));
+      sound = record { root = ok.root; fuel = ok.fuel; sound = next_meets_sound levels ok.root ok.fuel t (paid t t) k ds e ok.sound.0 kept };
+      fewer = call_leaves levels t (paid t t) k ds e;
+    }
+
+-- a call after which a space goes on
+pub met : (levels : ℕ) (k : Call) (s w r : Space) → IsSoundBelow levels s → next levels (top_of s) ≡ meets k (paid (top_of s) (top_of s)) → w ≡ with_awaited levels k s → r ≡ meet k (paid (top_of w) (top_of w)) (children_of w) → GoesOn levels s r
+met levels k (space t cs) w r ok e waited is =
+    let here : r ≡ meet k (paid t t) (wait_for (of_children levels) (awaits k) cs).children = is ∙ ap (λ v. meet k (paid (top_of v) (top_of v)) (children_of v)) waited in
+    rw here (met_here levels k t cs (wait_for (of_children levels) (awaits k) cs).children ok e refl)

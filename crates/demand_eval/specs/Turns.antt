@@ -1,0 +1,33 @@
+-- What a run does to a space, turn by turn.
+use Rattle.std.specs.Prelude.{◌≡◌, ℕ, ◌<◌, Bool, true, false}
+use Rattle.call_model.specs.declared.Call.{Call}
+use Rattle.space_model.specs.Space.{Space, top_of}
+use Rattle.space_model.specs.Sound.{IsSoundAt}
+use Rattle.space_model.specs.Path.{under}
+use Rattle.space_model.specs.Meeting.{awaits}
+use Rattle.run_model.specs.Demand.{run, left_of, wait_for, everyone, of_children}
+
+-- sound, with so many levels of children left below it, as a root or below one
+pub record IsSoundBelow (levels : ℕ) (s : Space) : Type 0 where
+  pub root : Bool
+  pub fuel : ℕ
+  pub sound : IsSoundAt levels root fuel s
+
+-- with the children that a call waits for as they are once they have run
+abbrev pub with_awaited : ℕ → Call → Space → Space
+with_awaited levels k s = under (λ cs. (wait_for (of_children levels) (awaits k) cs).children) s
+
+-- with every child as it is once it has settled
+abbrev pub with_everyone : ℕ → Space → Space
+with_everyone levels s = under (λ cs. (wait_for (of_children levels) (everyone cs) cs).children) s
+
+-- a space that has gone on: its run comes to the same, it is sound, and fewer of its events are left
+pub record GoesOn (levels : ℕ) (old new : Space) : Type 0 where
+  pub same : run levels new ≡ run levels old
+  pub sound : IsSoundBelow levels new
+  pub fewer : left_of (top_of new) < left_of (top_of old)
+
+-- a turn after which the space has stopped, or goes on
+abbrev pub Turned : ℕ → Bool → Space → Space → Type 0
+Turned levels true old new = new ≡ run levels old
+Turned levels false old new = GoesOn levels old new
