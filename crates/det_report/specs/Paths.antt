@@ -1,0 +1,13 @@
+-- Paths as text that grows from parent to child.
+use Rattle.std.specs.Prelude.{ℕ, List, [], ◌∷◌}
+use Rattle.std.specs.List.{flat_map}
+use Rattle.std.specs.Fmt.{decimal}
+
+-- a slash and a number for each level
+abbrev pub steps_of : List ℕ → List ℕ
+steps_of path = flat_map (λ k. 47 ∷ decimal k) path
+
+-- as a line shows them: no steps as a slash
+abbrev pub shown : List ℕ → List ℕ
+shown [] = 47 ∷ []
+shown (c ∷ cs) = c ∷ cs

@@ -1,0 +1,10 @@
+//! The report of a settled tree.
+#![tactic(auto)]
+
+mod line;
+mod reporting;
+
+pub use reporting::report;
+
+#[cfg(test)]
+mod tests;

@@ -1,0 +1,67 @@
+ghost use Rattle.std.specs.Prelude.{◌≡◌, ◌++◌, IfOk, OnOk, true, string_bytes};
+ghost use Rattle.space_model.specs.Stop.{cause_word, is_stopped};
+ghost use Rattle.report_model.specs.Report.{state_text};
+ghost use Rattle.det_report.specs.Paths.{shown};
+
+use space_tree::{Cause, Status, Top};
+use std::alloc::{AllocError, Global};
+
+// The word of a cause.
+fn word(cause: Cause) -> &'static str
+    ensures { result.now ≡ cause_word cause }
+{
+    match cause {
+        Cause::FetchMisaligned => "fetch-misaligned",
+        Cause::FetchFault => "fetch-fault",
+        Cause::Illegal => "illegal",
+        Cause::Breakpoint => "breakpoint",
+        Cause::LoadMisaligned => "load-misaligned",
+        Cause::LoadFault => "load-fault",
+        Cause::StoreMisaligned => "store-misaligned",
+        Cause::StoreFault => "store-fault",
+        Cause::Badcall => "badcall",
+        Cause::Conflict => "conflict",
+        Cause::Limit => "limit",
+        Cause::Fuel => "fuel",
+        Cause::Ret => "ret",
+        Cause::Fresh => "fresh",
+    }
+}
+
+// What a line says behind the path of a space that has stopped.
+fn state_text(alloc: Global, top: &Top) -> Result<String, AllocError>
+    requires { is_stopped top.now.status ≡ true }
+    ensures { IfOk result (λ s. string_bytes s ≡ state_text top.now) }
+{
+    match top.status {
+        Status::Running => unreachable!(),
+        Status::Stopped { cause, value } => {
+            let word = word(cause);
+            let pc = top.registers.pc;
+            let used = top.used;
+            format!(in alloc; " {word} {value:08x} {pc:08x} {used}\n")
+        }
+    }
+}
+
+// A path as its line shows it: the root, which has no steps, as `/`.
+fn shown(steps: &str) -> &str
+    ensures { result.now ≡ shown steps.now }
+{
+    if steps.is_empty() { "/" } else { steps }
+}
+
+/// Appends the line of a space that has stopped, which stands behind these steps.
+pub(crate) fn push_line(
+    alloc: Global,
+    steps: &str,
+    top: &Top,
+    text: &mut Vec<u8>,
+) -> Result<(), AllocError>
+    requires { is_stopped top.now.status ≡ true }
+    ensures { OnOk result (text.new.items ≡ text.old.items ++ (shown steps.now ++ state_text top.now)) }
+{
+    let state = state_text(alloc, top)?;
+    text.extend_from_slice(shown(steps).as_bytes())?;
+    text.extend_from_slice(state.as_bytes())
+}

@@ -1,0 +1,45 @@
+ghost use Rattle.std.specs.Prelude.{◌≤◌};
+
+use super::*;
+use space_tree::{Cause, Space, Status, Top, is_settled};
+use std::alloc::Global;
+use std::test::*;
+
+/// A space without children that has stopped after so many of its 1,000 events.
+fn stopped(alloc: Global, pc: u32, used: u32, cause: Cause, value: u32) -> Space
+    requires { used ≤ 1000 }
+{
+    let mut top = Top::fresh(alloc, 1000);
+    top.registers.pc = pc;
+    top.fuel = 1000 - used;
+    top.used = used;
+    top.status = Status::Stopped { cause, value };
+    Space::alone(alloc, top)
+}
+
+#[test]
+fn reports_three_levels(rt: HostRuntime) -> Result<(), Fail> {
+    let alloc = rt.alloc();
+    let mut two = stopped(alloc, 0x0001_23fc, 7, Cause::Badcall, 9);
+    two.children.insert(
+        65535,
+        stopped(alloc, 0xfedc_ba98, 1000, Cause::StoreFault, 0xdead_beef),
+    )?;
+    two.children
+        .insert(0, stopped(alloc, 0, 0, Cause::Fresh, 0))?;
+    let mut root = stopped(alloc, 0x1018, 16, Cause::Ret, 10);
+    root.children
+        .insert(10, stopped(alloc, 0x2a, 1, Cause::Illegal, 255))?;
+    root.children.insert(2, two)?;
+    let settled = is_settled(&root);
+    assert!(rt; settled);
+    let text = report(alloc, &root)?;
+    let want = b"/ ret 0000000a 00001018 16
+/2 badcall 00000009 000123fc 7
+/2/0 fresh 00000000 00000000 0
+/2/65535 store-fault deadbeef fedcba98 1000
+/10 illegal 000000ff 0000002a 1
+";
+    assert_eq!(rt; text.as_slice(), want.as_slice());
+    Ok(())
+}
