@@ -7,17 +7,15 @@ mod fault_line;
 mod main_call;
 mod program;
 mod reading;
-mod reporting;
 mod running;
-mod settling;
 mod writing;
 
 pub use end::{End, ScriptError, status};
 pub use fault_line::write_fault;
 pub use main_call::det_main;
 pub use program::{Exit, det_program};
-pub use reporting::report;
-pub use settling::settle;
 
 #[cfg(test)]
 mod tests;
+#[cfg(test)]
+mod trees;

@@ -7,11 +7,11 @@ ghost use Rattle.det_cli.specs.Loads.{Asked, LoadsFirst};
 ghost use Rattle.det_cli.specs.Outcome.{Loaded, IsLoadFault, IsRefusal, IsBadImageOrMemory, Reads, outcome_of, with_script};
 
 use crate::end::{End, ScriptError};
-use crate::settling::settle;
+use demand_eval::settle;
 use det_core::boot;
 use det_host::{LoadError, Loader};
 use image_file::{Image, ImageFault, read_image};
-use space_step::{Devices, Space};
+use space_tree::{Devices, Space};
 use std::alloc::Global;
 
 /// The most bytes of an image file.
@@ -69,7 +69,7 @@ fn settled(alloc: Global, image: &Image, limit: u32, script: &[u8]) -> Result<Sp
     let Ok(root) = boot(alloc, image, Devices::new(alloc), limit) else {
         return Err(End::NoMemory);
     };
-    match settle(root) {
+    match settle(alloc, root) {
         Ok(space) => Ok(space),
         Err(_) => Err(End::NoMemory),
     }

@@ -8,16 +8,16 @@ ghost use Rattle.det_cli.specs.Ends.{expected_of, Ends, Written, end_of, Writes,
 
 use crate::end::End;
 use crate::reading::read_root;
-use crate::reporting::report;
 use crate::writing::write_all;
 use det_host::{Loader, Sink, SinkError};
-use space_step::{Cause, Space, Status};
+use det_report::report;
+use space_tree::{Cause, Space, Status};
 use std::alloc::Global;
 
 fn end_of(space: &Space) -> End
     ensures { result ≡ end_of space.now }
 {
-    match space.top().status() {
+    match space.top.status {
         Status::Stopped {
             cause: Cause::Ret,
             ..
@@ -50,7 +50,7 @@ fn write_root<O: Sink, E: Sink>(alloc: Global, space: &Space, out: &mut O, err: 
     let Ok(text) = report(alloc, space) else {
         return End::NoMemory;
     };
-    if let Err(error) = write_all(out, space.top().console()) {
+    if let Err(error) = write_all(out, space.top.console()) {
         return write_end(error);
     }
     if let Err(error) = write_all(err, &text) {

@@ -1,8 +1,5 @@
 use super::*;
-use det_core::boot;
 use det_host::{MemLoader, MemSink, OpenGate, SureSink};
-use image_file::read_image;
-use space_step::{Devices, Next, next};
 use std::alloc::Global;
 use std::process::Abort;
 use std::test::*;
@@ -26,7 +23,7 @@ const NOTHING: [u8; 14] = [0x44, 0x54, 0x49, 0x31, 0, 0, 0, 0, 0, 0, 0, 0, 0, 0]
 /// A call of the program: its words, the bytes of its image and of its script, how many bytes the sinks take a call, and
 /// which calls of the loader, of `out` and of `err` fail. Then its status, and what `out` and `err` have taken.
 #[derive(Clone, Copy)]
-struct Row<'a> {
+pub(crate) struct Row<'a> {
     words: &'a str,
     image: &'a [u8],
     script: &'a [u8],
@@ -40,7 +37,13 @@ struct Row<'a> {
 }
 
 /// A run of an image that no call fails in.
-fn run<'a>(words: &'a str, image: &'a [u8], status: u8, out: &'a str, err: &'a str) -> Row<'a> {
+pub(crate) fn run<'a>(
+    words: &'a str,
+    image: &'a [u8],
+    status: u8,
+    out: &'a str,
+    err: &'a str,
+) -> Row<'a> {
     Row {
         words,
         image,
@@ -55,7 +58,7 @@ fn run<'a>(words: &'a str, image: &'a [u8], status: u8, out: &'a str, err: &'a s
     }
 }
 
-fn check<R: AllocGlobal + Abort>(rt: &R, row: &Row<'_>) -> Result<(), Fail> {
+pub(crate) fn check<R: AllocGlobal + Abort>(rt: &R, row: &Row<'_>) -> Result<(), Fail> {
     let alloc = rt.alloc();
     let mut words = Vec::new(alloc);
     for word in row.words.split(' ') {
@@ -269,17 +272,8 @@ fn assembles(rt: HostRuntime) -> Result<(), Fail> {
 }
 
 #[test]
-fn the_parts_of_a_run(rt: HostRuntime) -> Result<(), Fail> {
+fn fault_line_alone(rt: HostRuntime) -> Result<(), Fail> {
     let alloc = rt.alloc();
-    let image = read_image(alloc, &RETURN_SEVEN)?;
-    let mut top = boot(alloc, &image, Devices::new(alloc), 10)?.into_top();
-    assert_eq!(rt; top.pc(), 0x1000);
-    assert_eq!(rt; next(&mut top, 0)?, Next::Local);
-    assert_eq!(rt; top.pc(), 0x1004);
-    assert_eq!(rt; top.used(), 1);
-    let root = settle(boot(alloc, &image, Devices::new(alloc), 10)?)?;
-    let text = report(alloc, &root)?;
-    assert_eq!(rt; text.as_slice(), b"/ ret 00000007 0000100c 3\n".as_slice());
     let mut sink = SureSink::new(alloc);
     assert!(rt; write_fault(alloc, &End::WriteFault, &mut sink).is_ok());
     assert_eq!(rt; sink.taken(), b"det: write fault\n".as_slice());
