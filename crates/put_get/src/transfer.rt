@@ -72,8 +72,7 @@ pub fn transfer(x: &Transfer, source: &Mem, memory: &mut Mem) -> Result<(), Allo
     if !has_copy(x) && !has_zero(x) {
         return permit(x, memory);
     }
-    // Of two changes the second may fail. So both are made to an equal memory, which shares its pages with this one until they
-    // are written, and which then takes its place.
+    // Of two changes the second may fail. So both are made to an equal memory, which then takes this one's place.
     let mut changed = memory.frozen()?;
     change(x, source, &mut changed)?;
     *memory = changed;
