@@ -1,15 +1,15 @@
 -- The space at a path: what may happen there, and what an event there does to the whole.
-use Rattle.std.proofs.Common.{◌≡◌, ◌-◌, ◌≤◌, ℕ, suc, Bool, true, false, cond, List, [], ◌∷◌, length, get_or, take, drop, Option, Some, None, refl, sym, ap, ◌∙◌, subst, arith, nat_cmp}
+use Rattle.std.proofs.Common.{◌≡◌, ◌-◌, ◌≤◌, ℕ, suc, Bool, true, false, cond, List, [], ◌∷◌, length, get_or, Option, Some, None, refl, sym, ap, ◌∙◌, subst, arith, nat_cmp}
 use Rattle.std.specs.Prelude.{pred, option_and_then, Result, Ok, Err, OnOk, OnErr}
 use Rattle.std.specs.BTreeMap.{is_at}
 use Rattle.std.specs.Map.{lookup, set_value}
-use Rattle.std.proofs.lemmas.List.{take_all}
 use Rattle.space_model.specs.Space.{Space, space, Top, Children, top_of, children_of, children_from, find, over}
 use Rattle.space_model.specs.Path.{at}
 use Rattle.space_model.specs.Event.{next}
 use Rattle.space_model.specs.Sound.{IsSoundAt}
 use Rattle.space_model.proofs.Children.{over-at, over_itself}
 use Rattle.space_model.proofs.Entries.{find_entries, over_entries}
+use Rattle.space_tree.proofs.Entries.{onward, path_is}
 use Rattle.run_model.specs.Schedule.{may_happen, on_child, enabled, step, try_step}
 use Rattle.run_model.proofs.Sound.{try_step_sound}
 
@@ -38,14 +38,6 @@ pub enabled_missing : (p : List ℕ) (levels : ℕ) (s : Space) → at p s ≡ N
 enabled_missing [] levels s is = cc
 enabled_missing (n ∷ p) levels s is = enabled_lost p (pred levels) (find n (children_of s)) is (λ c e. enabled_missing p (pred levels) c e)
 
--- the rest of a path that is not empty
-abbrev pub onward : List ℕ → List ℕ
-onward p = take (length p - 1) (drop 1 p)
-
-path_is : (p : List ℕ) → 1 ≤ length p → get_or p 0 0 ∷ onward p ≡ p
-path_is [] h = absurd (omega arith)
-path_is (n ∷ p) h = ap (λ q. n ∷ q) (take_all _ p (omega arith))
-
 -- a child's event is an event of the space
 child_steps : (n : ℕ) (p : List ℕ) (levels : ℕ) (u : Top) (c : Space) (cs : Children) → find n cs ≡ Some c → space u (over n (λ d. try_step p (pred levels) c) cs) ≡ try_step (n ∷ p) levels (space u cs)
 child_steps n p levels u c cs is =
@@ -69,13 +61,13 @@ pub enabled_child : (p : List ℕ) (levels below : ℕ) (u : Top) (s c : Space) 
 enabled_child p levels below u s c es e h =
     ap (λ k. enabled (onward p) k c) e
     ∙ ap (on_child (enabled (onward p) (pred levels))) (sym (first_is p u s es (Some c) h))
-    ∙ ap (λ x. enabled x levels (space u (children_from es))) (path_is p h.long)
+    ∙ ap (λ x. enabled x levels (space u (children_from es))) (sym (path_is p h.long))
     ∙ ap (enabled p levels) h.is
 
 pub enabled_none : (p : List ℕ) (levels : ℕ) (u : Top) (s : Space) (es : List (ℕ × Space)) → HasFirst p u s es None → false ≡ enabled p levels s
 enabled_none p levels u s es h =
     ap (on_child (enabled (onward p) (pred levels))) (sym (first_is p u s es None h))
-    ∙ ap (λ x. enabled x levels (space u (children_from es))) (path_is p h.long)
+    ∙ ap (λ x. enabled x levels (space u (children_from es))) (sym (path_is p h.long))
     ∙ ap (enabled p levels) h.is
 
 pub stepped_child : (p : List ℕ) (levels below : ℕ) (u : Top) (s c w : Space) (es fs : List (ℕ × Space)) → below ≡ pred levels → HasFirst p u s es (Some c) → w ≡ try_step (onward p) below c
@@ -87,7 +79,7 @@ stepped_child p levels below u s c w es fs e h done written =
     ap (λ x. space u (children_from x)) (written ∙ ap (set_value (is_at (nat_cmp n)) es) (done ∙ ap (λ k. try_step q k c) e))
     ∙ ap (space u) (over_entries n (λ d. try_step q (pred levels) c) c es at_n)
     ∙ child_steps n q levels u c (children_from es) at_n
-    ∙ ap (λ x. try_step x levels (space u (children_from es))) (path_is p h.long)
+    ∙ ap (λ x. try_step x levels (space u (children_from es))) (sym (path_is p h.long))
     ∙ ap (try_step p levels) h.is
 
 pub stepped_none : (p : List ℕ) (levels : ℕ) (u : Top) (s : Space) (es fs : List (ℕ × Space)) → HasFirst p u s es None → fs ≡ es → space u (children_from fs) ≡ try_step p levels s

@@ -2,7 +2,8 @@ use Rattle.std.proofs.Common.{◌≡◌, ◌-◌, ◌+◌, ap, ◌∙◌, arith}
 use Rattle.std.specs.Prelude.{pred}
 use Rattle.std.proofs.lemmas.Result.{IfOk-weaker, on_ok_weaker, on_err_weaker}
 use Rattle.run_model.specs.Schedule.{enabled}
-use Rattle.det_core.proofs.Paths.{onward, enabled_child, enabled_none, stepped_child, stepped_none, same_child}
+use Rattle.space_tree.proofs.Entries.{onward}
+use Rattle.det_core.proofs.Paths.{enabled_child, enabled_none, stepped_child, stepped_none, same_child}
 use Rattle.det_core.proofs.stepping.+try_step.Goals as goal
 
 pub returns-in_default-clause-ok : goal.returns-in_default-clause-ok
