@@ -199,27 +199,3 @@ fn all_zero(bytes: &[u8; 4096]) -> bool
     }
     joined == 0
 }
-
-#[cfg(test)]
-mod tests {
-    use super::*;
-    use std::test::Fail;
-
-    #[test]
-    fn pages(rt: HostRuntime) -> Result<(), Fail> {
-        let alloc = rt.alloc();
-        let mut page = PageRef::zeroed(alloc)?;
-        assert!(rt; page.is_zero());
-        let other = page.copied(alloc)?;
-        page.write_byte(4095, 1)?;
-        page.write_number(8, Width::Four, 0x0403_0201)?;
-        page.write_bytes(100, b"page")?;
-        assert!(rt; !page.is_zero());
-        assert!(rt; other.is_zero());
-        assert!(rt; !page.has_bytes_of(&other));
-        assert_eq!(rt; page.number(10, Width::Two), 0x0403);
-        assert_eq!(rt; page.number(4095, Width::One), 1);
-        assert_eq!(rt; page.bytes()[103], b'e');
-        Ok(())
-    }
-}

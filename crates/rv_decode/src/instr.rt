@@ -77,39 +77,3 @@ pub fn decode_encoded(instr: Instr) -> Option<Instr>
 {
     decode(encode(instr))
 }
-
-#[cfg(test)]
-mod tests {
-    use super::*;
-    use instruction_model::{Comparison, LoadKind, Operation, Width};
-    use std::test::Fail;
-
-    #[test]
-    fn words_of_the_manual(rt: HostRuntime) -> Result<(), Fail> {
-        let zero = Instruction::OperateImmediate {
-            operation: Operation::Add,
-            rd: 0,
-            rs1: 0,
-            immediate: 0,
-        };
-        let shift = Instruction::OperateImmediate {
-            operation: Operation::Sra,
-            rd: 0,
-            rs1: 0,
-            immediate: 0,
-        };
-        let table = [
-            (0x0000_0013, Some(zero)),
-            (0x4000_5013, Some(shift)),
-            (0x0ff0_000f, Some(Instruction::Fence)),
-            (0x4000_1013, None),
-            (0x0000_100f, None),
-            (0x0200_0033, None),
-            (0xffff_ffff, None),
-        ];
-        for (word, want) in table {
-            assert_eq!(rt; decode(word).map(Instr::instruction), want, "at {word}");
-        }
-        Ok(())
-    }
-}

@@ -1,4 +1,2 @@
 pub mod Access
 pub mod Steps
-pub mod Window
-pub mod WindowLaws

@@ -5,8 +5,6 @@ mod arithmetic;
 mod bus;
 mod regs;
 mod stepping;
-#[cfg(test)]
-mod tests;
 
 pub use bus::{Bus, Fault, StoreFault};
 pub use regs::Regs;

@@ -20,6 +20,3 @@ mod zero;
 
 pub use layout::Pages;
 pub use memory::Mem;
-
-#[cfg(test)]
-mod tests;

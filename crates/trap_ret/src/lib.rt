@@ -5,8 +5,6 @@ mod block;
 mod call;
 mod causes;
 pub mod options;
-#[cfg(test)]
-mod tables;
 mod tests_on_registers;
 
 pub use block::{read_block, reread_block, rewrite_block, write_block};

@@ -7,7 +7,7 @@ use Rattle.memory_model.specs.declared.Width.{Width}
 use Rattle.memory_model.specs.declared.Width.TheVariants.{One, Two, Four}
 use Rattle.memory_model.specs.Memory.{width_bytes}
 use Rattle.rv_exec.specs.Access.{stored_byte}
-use Rattle.rv_exec.specs.Window.{window_byte, window_set, window_stored, in_window}
+use Rattle.machine_tests.specs.Window.{window_byte, window_set, window_stored, in_window}
 
 set_byte : (bytes : List ℕ) (a v q : ℕ) → 4096 ≤ a → a - 4096 < length bytes → window_byte (window_set bytes a v) q ≡ cond (q == a) (v % 256) (window_byte bytes q)
 set_byte bytes a v q low high = grind (arith, nat_tests, common_steps)

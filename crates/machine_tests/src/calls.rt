@@ -1,0 +1,155 @@
+use call_model::{Badcall, Block, Call, Transfer};
+use space_model::Cause;
+use std::process::Abort;
+use std::test::Fail;
+use trap_ret::{
+    AcceptedCall, cause_number, cause_of, read_block, read_call, reread_block, rewrite_block,
+    write_block,
+};
+
+// Registers with these in a0 to a7.
+fn registers(a: [u32; 8]) -> [u32; 32] {
+    let mut x = [0; 32];
+    for i in 0..8 {
+        x[10 + i] = a[i];
+    }
+    x
+}
+
+fn read(a: [u32; 8], is_root: bool, depth: u8) -> Result<Call, Badcall> {
+    read_call(&registers(a), is_root, depth).map(AcceptedCall::call)
+}
+
+// The first test that fails; 0 where none does.
+fn number(a: [u32; 8], depth: u8) -> u8 {
+    match read(a, depth == 0, depth) {
+        Ok(_) => 0,
+        Err(Badcall(number)) => number,
+    }
+}
+
+// Registers a0 to a7 of a call, and the number of its first failing test at depths 0 (the root), 7 and 8.
+fn first_failing(rt: &impl Abort, a: [u32; 8], want: [u8; 3]) {
+    let numbers = [number(a, 0), number(a, 7), number(a, 8)];
+    assert_eq!(rt; numbers, want, "at {a:?}");
+}
+
+// Each test alone, and with the next that one call can fail too.
+#[test]
+fn numbers_and_options(rt: HostRuntime) -> Result<(), Fail> {
+    // no call number
+    first_failing(&rt, [0, 0, 0, 0, 0, 0, 0, 0], [1, 1, 1]);
+    first_failing(&rt, [0, 0, 0, 0, 0, 0, 0, 5], [1, 1, 1]);
+    first_failing(&rt, [8, 65_536, 0, 0, 0, 0, 0, 16], [1, 1, 1]);
+    // options that are not known
+    first_failing(&rt, [8, 0, 0, 0, 0, 0, 0, 2], [2, 2, 2]);
+    first_failing(&rt, [32, 0, 0, 0, 0, 0, 0, 1], [2, 2, 2]);
+    first_failing(&rt, [256, 0, 0, 0, 0, 0, 0, 1], [2, 2, 2]);
+    first_failing(&rt, [0x4010, 0, 0, 0, 0, 0, 0, 1], [2, 2, 2]);
+    // options that do not stand together
+    first_failing(&rt, [0x1000, 0, 0, 0, 0, 0, 0, 1], [2, 2, 2]);
+    first_failing(&rt, [6, 0, 0, 0, 0, 0, 0, 2], [2, 2, 2]);
+    first_failing(&rt, [64, 0, 0, 0, 0, 0, 0, 2], [2, 2, 2]);
+    first_failing(&rt, [128, 0, 0, 0, 0, 0, 0, 2], [2, 2, 2]);
+    first_failing(&rt, [128, 0, 0, 0, 0, 0, 0, 1], [2, 2, 2]);
+    first_failing(&rt, [192, 0, 0, 0, 0, 0, 0, 1], [0, 0, 8]);
+    first_failing(&rt, [128, 65_536, 0, 0, 0, 0, 0, 1], [2, 2, 2]);
+    Ok(())
+}
+
+#[test]
+fn children_and_ranges(rt: HostRuntime) -> Result<(), Fail> {
+    // a child number
+    first_failing(&rt, [0, 65_535, 0, 0, 0, 0, 0, 2], [0, 0, 0]);
+    first_failing(&rt, [0, 65_536, 0, 0, 0, 0, 0, 2], [3, 3, 3]);
+    first_failing(&rt, [2, 65_536, 0, 0, 0, 1, 0, 1], [3, 3, 3]);
+    // ranges
+    first_failing(&rt, [4, 0, 0, 1, 0xFFFF_F000, 0x1000, 0, 2], [0, 0, 0]);
+    first_failing(&rt, [4, 0, 0, 0, 0xFFFF_F000, 0x2000, 0, 2], [4, 4, 4]);
+    first_failing(&rt, [2, 0, 0, 0xFFFF_F000, 0, 0x2000, 0, 2], [4, 4, 4]);
+    first_failing(&rt, [2, 0, 0, 1, 0, 0x1000, 0, 2], [4, 4, 4]);
+    first_failing(&rt, [16, 0, 0, 0, 1, 0, 0, 2], [4, 4, 4]);
+    first_failing(&rt, [16, 0, 0, 0, 0, 1, 0, 2], [4, 4, 4]);
+    first_failing(&rt, [17, 0, 2, 0, 1, 0, 0, 1], [4, 4, 4]);
+    Ok(())
+}
+
+#[test]
+fn console_depth_and_blocks(rt: HostRuntime) -> Result<(), Fail> {
+    // console out: its range, outside the root, its length
+    first_failing(&rt, [0, 0xFFFF_FFFF, 1, 0, 0, 0, 0, 4], [0, 6, 6]);
+    first_failing(&rt, [0, 0xFFFF_FFFF, 2, 0, 0, 0, 0, 4], [4, 4, 4]);
+    first_failing(&rt, [0, 0, 65_536, 0, 0, 0, 0, 4], [0, 6, 6]);
+    first_failing(&rt, [0, 0, 65_537, 0, 0, 0, 0, 4], [7, 6, 6]);
+    first_failing(&rt, [0, 0xFFFF_0000, 65_537, 0, 0, 0, 0, 4], [4, 4, 4]);
+    // Put at depth 8
+    first_failing(&rt, [0, 0, 0, 0, 0, 0, 0, 1], [0, 0, 8]);
+    first_failing(&rt, [1, 0, 2, 0, 0, 0, 0, 1], [9, 9, 8]);
+    // a register block
+    first_failing(&rt, [1, 0, 0xFFFF_FF78, 0, 0, 0, 0, 2], [0, 0, 0]);
+    first_failing(&rt, [1, 0, 0xFFFF_FF7C, 0, 0, 0, 0, 2], [9, 9, 9]);
+    first_failing(&rt, [1, 0, 2, 0, 0, 0, 0, 2], [9, 9, 9]);
+    first_failing(&rt, [0, 0, 2, 0, 0, 0, 0, 2], [0, 0, 0]);
+    // Ret
+    first_failing(&rt, [8, 65_536, 2, 1, 1, 1, 0, 3], [0, 0, 0]);
+    Ok(())
+}
+
+fn reads(rt: &impl Abort, a: [u32; 8], want: Result<Call, Badcall>) {
+    assert_eq!(rt; read(a, true, 7), want, "at {a:?}");
+}
+
+#[test]
+fn calls(rt: HostRuntime) -> Result<(), Fail> {
+    let nothing = Transfer {
+        options: 0,
+        child: 0,
+        block: 0,
+        source: 0,
+        destination: 0,
+        size: 0,
+        limit: 0,
+    };
+    let all = Transfer {
+        options: 0x3013,
+        child: 65_535,
+        block: 4,
+        source: 0x1000,
+        destination: 0x2000,
+        size: 0x3000,
+        limit: 9,
+    };
+    reads(&rt, [0, 0, 0, 0, 0, 0, 0, 1], Ok(Call::Put(nothing)));
+    let registers = [0x3013, 65_535, 4, 0x1000, 0x2000, 0x3000, 9, 2];
+    reads(&rt, registers, Ok(Call::Get(all)));
+    reads(&rt, [7, 0, 0, 0, 0, 0, 0, 3], Ok(Call::Ret { value: 7 }));
+    let out = Call::ConsoleOut { addr: 1, len: 2 };
+    reads(&rt, [7, 1, 2, 0, 0, 0, 0, 4], Ok(out));
+    reads(&rt, [1, 0, 2, 0, 0, 0, 0, 1], Err(Badcall(9)));
+    Ok(())
+}
+
+#[test]
+fn register_block(rt: HostRuntime) -> Result<(), Fail> {
+    let mut x = [0; 31];
+    x[0] = 5;
+    x[30] = 6;
+    let block = Block {
+        pc: 0x0403_0201,
+        x,
+        cause: cause_number(Cause::Fresh),
+        value: 0xFF00_0000,
+    };
+    let bytes = write_block(&block);
+    assert_eq!(rt; &bytes[..8], [1, 2, 3, 4, 5, 0, 0, 0].as_slice());
+    assert_eq!(rt;
+        &bytes[124..],
+        [6, 0, 0, 0, 21, 0, 0, 0, 0, 0, 0, 255].as_slice()
+    );
+    assert_eq!(rt; read_block(&bytes), block);
+    assert_eq!(rt; reread_block(block), block);
+    assert_eq!(rt; rewrite_block(&bytes), bytes);
+    assert_eq!(rt; cause_of(block.cause), Cause::Fresh);
+    assert_eq!(rt; cause_of(16), Cause::Badcall);
+    Ok(())
+}

@@ -1,0 +1,13 @@
+//! Tests of one machine: instruction words, the processor, pages, memories, and how a call is read from registers.
+#![tactic(auto)]
+
+#[cfg(test)]
+mod calls;
+#[cfg(test)]
+mod decoding;
+#[cfg(test)]
+mod instructions;
+#[cfg(test)]
+mod memories;
+#[cfg(test)]
+mod pages;
