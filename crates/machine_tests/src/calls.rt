@@ -146,10 +146,9 @@ fn register_block(rt: HostRuntime) -> Result<(), Fail> {
         &bytes[124..],
         [6, 0, 0, 0, 21, 0, 0, 0, 0, 0, 0, 255].as_slice()
     );
-    assert_eq!(rt; read_block(&bytes), block);
-    assert_eq!(rt; reread_block(block), block);
+    assert_eq!(rt; [read_block(&bytes), reread_block(block)], [block, block]);
     assert_eq!(rt; rewrite_block(&bytes), bytes);
-    assert_eq!(rt; cause_of(block.cause), Cause::Fresh);
-    assert_eq!(rt; cause_of(16), Cause::Badcall);
+    let causes = [cause_of(block.cause), cause_of(16)];
+    assert_eq!(rt; causes, [Cause::Fresh, Cause::Badcall]);
     Ok(())
 }

@@ -136,9 +136,7 @@ fn ran(word: u32, a: u32, b: u32, register: u8) -> Result<(Stepped, u32, u32), A
 }
 
 fn assert_ran(rt: &impl Abort, name: &str, got: (Stepped, u32, u32), want: (Stepped, u32, u32)) {
-    assert_eq!(rt; got.0, want.0, "{name}");
-    assert_eq!(rt; got.1, want.1, "{name}");
-    assert_eq!(rt; got.2, want.2, "{name}");
+    assert_eq!(rt; got, want, "{name}");
 }
 
 fn computes(rt: &impl Abort, name: &str, word: u32, a: u32, b: u32, want: u32) {
@@ -246,8 +244,7 @@ fn loaded(word: u32, a: u32) -> Result<(Stepped, u32), AllocError> {
 }
 
 fn assert_did(rt: &impl Abort, name: &str, got: (Stepped, u32), want: (Stepped, u32)) {
-    assert_eq!(rt; got.0, want.0, "{name}");
-    assert_eq!(rt; got.1, want.1, "{name}");
+    assert_eq!(rt; got, want, "{name}");
 }
 
 fn loads_number(rt: &impl Abort, name: &str, word: u32, a: u32, want: Stepped, number: u32) {

@@ -21,18 +21,15 @@ fn move_page(mem: &mut Mem) -> Result<(), AllocError> {
 }
 
 fn assert_moved(rt: &impl Abort, mem: &Mem) {
-    assert_eq!(rt; mem.byte(0x2000), 0);
-    assert_eq!(rt; mem.perm(2), 3);
-    assert_eq!(rt; mem.perm(5), 3);
-    assert_eq!(rt; mem.byte(0x5000), 9);
+    assert_eq!(rt; [mem.byte(0x2000), mem.byte(0x5000)], [0, 9]);
+    assert_eq!(rt; [mem.perm(2), mem.perm(5)], [3, 3]);
 }
 
 #[test]
 fn copies_and_zeros(rt: HostRuntime) -> Result<(), Fail> {
     let mut mem = Mem::new(rt.alloc());
     let frozen = frozen_before(&mut mem)?;
-    assert_eq!(rt; frozen.byte(0x2000), 0);
-    assert_eq!(rt; mem.byte(0x2000), 9);
+    assert_eq!(rt; [frozen.byte(0x2000), mem.byte(0x2000)], [0, 9]);
     move_page(&mut mem)?;
     assert_moved(&rt, &mem);
     Ok(())
@@ -62,10 +59,11 @@ fn store_word(mem: &mut Mem) -> Result<(), AllocError> {
 }
 
 fn assert_word_stored(rt: &impl Abort, mem: &Mem) {
-    assert!(rt; !mem.can_store(0x0f_ffc));
-    assert!(rt; mem.can_store(0x1_1ffc));
-    assert_eq!(rt; mem.load(0x1_1ffc, Width::Four), Some(0x0403_0201));
-    assert_eq!(rt; mem.load(0x1_1ffe, Width::Two), Some(0x0403));
+    let rights = [mem.can_store(0x0f_ffc), mem.can_store(0x1_1ffc)];
+    assert_eq!(rt; rights, [false, true]);
+    let word = mem.load(0x1_1ffc, Width::Four);
+    let half = mem.load(0x1_1ffe, Width::Two);
+    assert_eq!(rt; [word, half], [Some(0x0403_0201), Some(0x0403)]);
 }
 
 // Stores at a page that may not be written, and at one that may be.
@@ -76,16 +74,17 @@ fn try_both(mem: &mut Mem) -> Result<(bool, bool), AllocError> {
 }
 
 fn assert_byte_stored(rt: &impl Abort, mem: &Mem) {
-    assert_eq!(rt; mem.load(0x1_1ffd, Width::One), Some(2));
+    let byte = mem.load(0x1_1ffd, Width::One);
+    assert_eq!(rt; [byte, mem.fetch(0x1_2000)], [Some(2), Some(0)]);
     assert_eq!(rt; mem.word(0x1_1ffc), 0x0403_0201);
-    assert_eq!(rt; mem.fetch(0x1_2000), Some(0));
 }
 
 fn assert_unreadable(rt: &impl Abort, mem: &Mem) {
-    assert_eq!(rt; mem.fetch(0x1_2000), None);
-    assert_eq!(rt; mem.load(0x1_2000, Width::One), None);
-    assert_eq!(rt; mem.first_unreadable(0x1_1ff0, 64), Some(0x1_2000));
-    assert_eq!(rt; mem.first_unwritable(0x1_1ff0, 64), None);
+    let byte = mem.load(0x1_2000, Width::One);
+    assert_eq!(rt; [byte, mem.fetch(0x1_2000)], [None, None]);
+    let unreadable = mem.first_unreadable(0x1_1ff0, 64);
+    let unwritable = mem.first_unwritable(0x1_1ff0, 64);
+    assert_eq!(rt; [unreadable, unwritable], [Some(0x1_2000), None]);
 }
 
 #[test]
@@ -106,10 +105,8 @@ fn loads_and_stores(rt: HostRuntime) -> Result<(), Fail> {
 
 fn assert_text(rt: &impl Abort, mem: &Mem, read: &[u8]) {
     assert_eq!(rt; read, b"\0over\0".as_slice());
-    assert_eq!(rt; mem.word(0x3ffc), 0x766f_0000);
-    assert_eq!(rt; mem.word(0x7000), 0);
-    assert_eq!(rt; mem.next_page(0), Some(3));
-    assert_eq!(rt; mem.next_page(5), None);
+    assert_eq!(rt; [mem.word(0x3ffc), mem.word(0x7000)], [0x766f_0000, 0]);
+    assert_eq!(rt; [mem.next_page(0), mem.next_page(5)], [Some(3), None]);
 }
 
 #[test]
@@ -132,10 +129,9 @@ fn with_own_page(alloc: Global) -> Result<Mem, AllocError> {
 }
 
 fn assert_own_page(rt: &impl Abort, mem: &Mem) {
-    assert_eq!(rt; mem.next_page(5), Some(9));
-    assert_eq!(rt; mem.next_page(11), Some(11));
-    assert!(rt; mem.page(9).is_some());
-    assert!(rt; mem.page(10).is_none());
+    assert_eq!(rt; [mem.next_page(5), mem.next_page(11)], [Some(9), Some(11)]);
+    let kept = [mem.page(9).is_some(), mem.page(10).is_some()];
+    assert_eq!(rt; kept, [true, false]);
 }
 
 fn put_seven(alloc: Global, mem: &mut Mem) -> Result<(), AllocError> {
@@ -150,7 +146,6 @@ fn pages_of_a_memory(rt: HostRuntime) -> Result<(), Fail> {
     let mut mem = with_own_page(alloc)?;
     assert_own_page(&rt, &mem);
     put_seven(alloc, &mut mem)?;
-    assert_eq!(rt; mem.byte(0xa001), 7);
-    assert_eq!(rt; mem.perm(10), 1);
+    assert_eq!(rt; [mem.byte(0xa001), mem.perm(10)], [7, 1]);
     Ok(())
 }

@@ -12,11 +12,10 @@ fn write(page: &mut PageRef) -> Result<(), AllocError> {
 
 // What stands in a page after `write`, and not in its copy from before.
 fn assert_written(rt: &impl Abort, page: &PageRef, other: &PageRef) {
-    assert!(rt; !page.is_zero());
-    assert!(rt; other.is_zero());
-    assert!(rt; !page.has_bytes_of(other));
-    assert_eq!(rt; page.number(10, Width::Two), 0x0403);
-    assert_eq!(rt; page.number(4095, Width::One), 1);
+    let tests = [page.is_zero(), other.is_zero(), page.has_bytes_of(other)];
+    assert_eq!(rt; tests, [false, true, false]);
+    let numbers = [page.number(10, Width::Two), page.number(4095, Width::One)];
+    assert_eq!(rt; numbers, [0x0403, 1]);
     assert_eq!(rt; page.bytes()[103], b'e');
 }
 
