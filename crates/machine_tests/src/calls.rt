@@ -129,26 +129,40 @@ fn calls(rt: HostRuntime) -> Result<(), Fail> {
     Ok(())
 }
 
-#[test]
-fn register_block(rt: HostRuntime) -> Result<(), Fail> {
-    let mut x = [0; 31];
-    x[0] = 5;
-    x[30] = 6;
-    let block = Block {
-        pc: 0x0403_0201,
-        x,
-        cause: cause_number(Cause::Fresh),
-        value: 0xFF00_0000,
-    };
-    let bytes = write_block(&block);
+// Words 0 and 1 of the bytes of `block`, and words 31 to 33.
+fn assert_spelled(rt: &impl Abort, bytes: &[u8; 136]) {
     assert_eq!(rt; &bytes[..8], [1, 2, 3, 4, 5, 0, 0, 0].as_slice());
     assert_eq!(rt;
         &bytes[124..],
         [6, 0, 0, 0, 21, 0, 0, 0, 0, 0, 0, 255].as_slice()
     );
-    assert_eq!(rt; [read_block(&bytes), reread_block(block)], [block, block]);
+}
+
+fn block() -> Block {
+    let mut x = [0; 31];
+    x[0] = 5;
+    x[30] = 6;
+    Block {
+        pc: 0x0403_0201,
+        x,
+        cause: cause_number(Cause::Fresh),
+        value: 0xFF00_0000,
+    }
+}
+
+#[test]
+fn register_block(rt: HostRuntime) -> Result<(), Fail> {
+    let bytes = write_block(&block());
+    assert_spelled(&rt, &bytes);
+    assert_eq!(rt; read_block(&bytes), block());
+    assert_eq!(rt; reread_block(block()), block());
     assert_eq!(rt; rewrite_block(&bytes), bytes);
-    let causes = [cause_of(block.cause), cause_of(16)];
+    Ok(())
+}
+
+#[test]
+fn numbers_of_causes(rt: HostRuntime) -> Result<(), Fail> {
+    let causes = [cause_of(cause_number(Cause::Fresh)), cause_of(16)];
     assert_eq!(rt; causes, [Cause::Fresh, Cause::Badcall]);
     Ok(())
 }
