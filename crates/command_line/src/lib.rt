@@ -7,6 +7,3 @@ mod reading;
 
 pub use command::Command;
 pub use reading::read_line;
-
-#[cfg(test)]
-mod tests;

@@ -20,6 +20,3 @@ pub use real_loader::FileLoader;
 pub use real_sink::StdSink;
 pub use sink::{Sink, SinkError};
 pub use sure_sink::SureSink;
-
-#[cfg(test)]
-mod tests;

@@ -11,6 +11,3 @@ pub use image::{Image, Segment};
 pub use image_model::{ImageError, ImageErrorKind};
 pub use reading::read_image;
 pub use writing::write_image;
-
-#[cfg(test)]
-mod tests;

@@ -18,6 +18,3 @@ pub use assembling::assemble;
 pub use encoding::word_of;
 pub use fault::AsmFault;
 pub use source_model::{AsmError, AsmErrorKind};
-
-#[cfg(test)]
-mod tests;

@@ -1,5 +1,12 @@
-use super::*;
+ghost use Rattle.std.specs.Prelude.{◌<◌, ◌^◌};
+
+use det_host::{
+    FileLoader, Gate, GateEvent, LoadError, Loader, MemLoader, MemSink, OpenGate, Sink, SinkError,
+    StdSink, SureSink,
+};
+use std::alloc::{AllocError, Global};
 use std::io::Write;
+use std::process::Abort;
 use std::test::*;
 use std::{fs, io};
 
@@ -28,32 +35,60 @@ impl Write for Narrow {
     }
 }
 
-fn loader(rt: &HostRuntime, failing: &[u64]) -> Result<MemLoader, Fail> {
-    let alloc = rt.alloc();
+fn file(alloc: Global, name: &str, bytes: &[u8]) -> Result<(String, Vec<u8>), AllocError> {
+    let name = name.to_string(alloc)?;
+    Ok((name, bytes.to_vec(alloc)?))
+}
+
+fn loader(alloc: Global, failing: &[u64]) -> Result<MemLoader, AllocError> {
     let mut files = Vec::new(alloc);
-    files.push(("one".to_string(alloc)?, b"abc".to_vec(alloc)?))?;
-    files.push(("one".to_string(alloc)?, b"other".to_vec(alloc)?))?;
-    files.push(("none".to_string(alloc)?, Vec::new(alloc)))?;
+    files.push(file(alloc, "one", b"abc")?)?;
+    files.push(file(alloc, "one", b"other")?)?;
+    files.push(file(alloc, "none", b"")?)?;
     Ok(MemLoader::new(alloc, files, failing.to_vec(alloc)?))
+}
+
+fn assert_loaded(
+    rt: &impl Abort,
+    name: &str,
+    got: &Result<Vec<u8>, LoadError>,
+    want: Result<&[u8], LoadError>,
+) {
+    match (got, want) {
+        (Ok(bytes), Ok(want)) => assert_eq!(rt; bytes.as_slice(), want, "{name}"),
+        (Err(error), Err(want)) => assert_eq!(rt; *error, want, "{name}"),
+        _ => panic!(rt; "{name}"),
+    }
+}
+
+fn one_load<R: AllocGlobal + Abort>(
+    rt: &R,
+    files: &mut impl Loader,
+    name: &str,
+    room: u64,
+    want: Result<&[u8], LoadError>,
+)
+    requires { room < 2 ^ 32 }
+{
+    let got = files.load(rt.alloc(), name, room);
+    assert_loaded(rt, name, &got, want);
 }
 
 #[test]
 fn files_in_memory(rt: HostRuntime) -> Result<(), Fail> {
-    let mut files = loader(&rt, &[4])?;
-    for (name, room, want) in [
-        ("one", 3, Ok(b"abc".as_slice())),
-        ("one", 2, Err(LoadError::TooLarge { read: 3 })),
-        ("none", 0, Ok(b"".as_slice())),
-        ("one", 9, Err(LoadError::Failed)),
-        ("two", 9, Err(LoadError::Failed)),
-        ("one", 9, Ok(b"abc".as_slice())),
-    ] {
-        match (files.load(rt.alloc(), name, room), want) {
-            (Ok(bytes), Ok(want)) => assert_eq!(rt; bytes.as_slice(), want, "{name}"),
-            (Err(error), Err(want)) => assert_eq!(rt; error, want, "{name}"),
-            _ => assert!(rt; false, "{name} in {room}"),
-        }
-    }
+    let mut files = loader(rt.alloc(), &[4])?;
+    one_load(&rt, &mut files, "one", 3, Ok(b"abc"));
+    one_load(
+        &rt,
+        &mut files,
+        "one",
+        2,
+        Err(LoadError::TooLarge { read: 3 }),
+    );
+    one_load(&rt, &mut files, "none", 0, Ok(b""));
+    one_load(&rt, &mut files, "one", 9, Err(LoadError::Failed));
+    one_load(&rt, &mut files, "two", 9, Err(LoadError::Failed));
+    one_load(&rt, &mut files, "one", 9, Ok(b"abc"));
     Ok(())
 }
 
@@ -65,10 +100,14 @@ fn sinks_in_memory(rt: HostRuntime) -> Result<(), Fail> {
     assert_eq!(rt; sink.write(b"").ok(), Some(0));
     assert_eq!(rt; sink.write(b"c").ok(), Some(1));
     assert_eq!(rt; sink.taken(), b"abc".as_slice());
+    Ok(())
+}
+
+#[test]
+fn sure_sinks(rt: HostRuntime) {
     let mut sure = SureSink::new(rt.alloc());
     assert_eq!(rt; sure.write(b"abc").ok(), Some(3));
     assert_eq!(rt; sure.taken(), b"abc".as_slice());
-    Ok(())
 }
 
 #[test]
@@ -81,28 +120,28 @@ fn a_real_file(rt: HostRuntime) -> Result<(), Fail> {
     let large = files.load(rt.alloc(), name, 4999);
     let missing = files.load(rt.alloc(), "det_host_no_such_file", 5000);
     fs::remove_file(&rt, name)?;
-    match whole {
-        Ok(whole) => assert_eq!(rt; whole.as_slice(), bytes.as_slice()),
-        Err(_) => assert!(rt; false, "the file is there"),
-    }
-    assert_eq!(rt; large.err(), Some(LoadError::TooLarge { read: 5000 }));
-    assert_eq!(rt; missing.err(), Some(LoadError::Failed));
+    assert_loaded(&rt, name, &whole, Ok(bytes.as_slice()));
+    assert_loaded(
+        &rt,
+        "one byte less",
+        &large,
+        Err(LoadError::TooLarge { read: 5000 }),
+    );
+    assert_loaded(&rt, "missing", &missing, Err(LoadError::Failed));
     Ok(())
 }
 
 #[test]
-fn a_narrow_writer(rt: HostRuntime) -> Result<(), Fail> {
+fn a_narrow_writer(rt: HostRuntime) {
     let mut sink = StdSink::new(Narrow {
         taken: Vec::new(rt.alloc()),
         calls: 0,
     });
     assert_eq!(rt; sink.write(b"abcdef").ok(), Some(4));
     assert_eq!(rt; sink.write(b"ef").ok(), Some(2));
-    Ok(())
 }
 
 #[test]
-fn an_open_gate(rt: HostRuntime) -> Result<(), Fail> {
+fn an_open_gate(_rt: HostRuntime) {
     OpenGate.pass(0, GateEvent::Took);
-    Ok(())
 }

@@ -1,0 +1,11 @@
+//! Tests of the outside world, of images as files, of the words of a command line and of the assembler. Tests alone.
+#![tactic(auto)]
+
+#[cfg(test)]
+mod files_and_sinks;
+#[cfg(test)]
+mod images;
+#[cfg(test)]
+mod sources;
+#[cfg(test)]
+mod words;
