@@ -1,3 +1,4 @@
 pub mod Fields
 pub mod Listing
 pub mod Worked
+pub mod Encoding

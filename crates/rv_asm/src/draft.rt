@@ -7,10 +7,10 @@ ghost use Rattle.rv_asm.specs.View.{draft_view};
 ghost use Rattle.source_model.specs.Layout.{is_misplaced as cannot_stand, address_in as address};
 ghost use Rattle.source_model.specs.Source as sources;
 
-use crate::encoding::word_of;
 use crate::labels::START;
 use crate::layout::{address_in, after, size_of};
 use image_file::{Image, Segment};
+use rv_decode::{Instr, encode};
 use source_model::{Instruction, Layout, Operation, Statement, Value};
 use std::alloc::{AllocError, Global};
 
@@ -80,7 +80,8 @@ fn put_instruction(content: &mut Vec<u8>, instruction: Instruction) -> Result<()
     requires { HasFields instruction }
     ensures { OnOk result (content.new.items ≡ content.old.items ++ sources.instruction_bytes instruction) }
 {
-    content.extend_from_slice(&word_of(instruction).to_le_bytes())
+    let word = encode(Instr::new(instruction));
+    content.extend_from_slice(&word.to_le_bytes())
 }
 
 /// The nearest multiple of 4,096 that is at most 2,048 above, modulo 2^32.

@@ -3,7 +3,6 @@
 
 mod assembling;
 mod draft;
-mod encoding;
 mod fault;
 mod labels;
 mod layout;
@@ -15,6 +14,5 @@ mod statement;
 mod text;
 
 pub use assembling::assemble;
-pub use encoding::word_of;
 pub use fault::AsmFault;
 pub use source_model::{AsmError, AsmErrorKind};

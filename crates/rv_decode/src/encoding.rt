@@ -1,33 +1,27 @@
-ghost use Rattle.std.specs.Prelude.{◌≡◌, ◌<◌, ◌%◌, ◌^◌, Some};
-ghost use Rattle.instruction_model.specs.Word as word_fields;
+ghost use Rattle.std.specs.Prelude.{◌≡◌, ◌<◌, ◌%◌, ◌^◌};
+ghost use Rattle.instruction_model.specs.Encoding as encoding;
 ghost use Rattle.instruction_model.specs.Form.{HasFields, IsRegister, IsImmediateOf, IsSigned};
-ghost use Rattle.instruction_model.specs.Instruction.{spelled};
 
 use instruction_model::{Comparison, Instruction, LoadKind, Operation, Width};
 
-// A word of an opcode, a funct3, two registers, and what stands in the places of rd and of funct7.
-fn s_form(opcode: u32, low: u32, funct3: u32, rs1: u8, rs2: u8, high: u32) -> u32
+// A word of an opcode, two registers, the funct3, and what stands in the places of rd and of funct7.
+fn r_form(opcode: u32, rd: u32, funct3: u32, rs1: u8, rs2: u8, funct7: u32) -> u32
     requires opcode { opcode < 128 }
-    requires low { low < 32 }
+    requires rd { rd < 32 }
     requires funct3 { funct3 < 8 }
     requires rs1 { rs1 < 32 }
     requires rs2 { rs2 < 32 }
-    requires high { high < 128 }
-    ensures opcode { word_fields.opcode result ≡ opcode }
-    ensures low { word_fields.rd result ≡ low }
-    ensures funct3 { word_fields.funct3 result ≡ funct3 }
-    ensures rs1 { word_fields.rs1 result ≡ rs1 }
-    ensures rs2 { word_fields.rs2 result ≡ rs2 }
-    ensures high { word_fields.funct7 result ≡ high }
+    requires funct7 { funct7 < 128 }
+    ensures { result ≡ encoding.r_form opcode rd funct3 rs1 rs2 funct7 }
 {
-    let numbers = opcode + 128 * low + 4096 * funct3 + 33_554_432 * high;
+    let numbers = opcode + 128 * rd + 4096 * funct3 + 33_554_432 * funct7;
     numbers + 32_768 * u32::from(rs1) + 1_048_576 * u32::from(rs2)
 }
 
-#[tactic(auto, unfolding(instruction_model::specs::Instruction::spelled))]
+#[tactic(auto, unfolding(instruction_model::specs::Encoding::word_of))]
 fn operate(operation: Operation, rd: u8, rs1: u8, rs2: u8) -> u32
     requires { HasFields (Instruction.Operate operation rd rs1 rs2) }
-    ensures { spelled result ≡ Some (Instruction.Operate operation rd rs1 rs2) }
+    ensures { result ≡ encoding.word_of (Instruction.Operate operation rd rs1 rs2) }
 {
     let (funct3, funct7) = match operation {
         Operation::Add => (0b000, 0b000_0000),
@@ -41,30 +35,25 @@ fn operate(operation: Operation, rd: u8, rs1: u8, rs2: u8) -> u32
         Operation::Or => (0b110, 0b000_0000),
         Operation::And => (0b111, 0b000_0000),
     };
-    s_form(0b0110011, u32::from(rd), funct3, rs1, rs2, funct7)
+    r_form(0b0110011, u32::from(rd), funct3, rs1, rs2, funct7)
 }
 
-// A word of an opcode, a funct3, two registers and an immediate of twelve bits.
+// A word of an opcode, a funct3, two registers and the lowest twelve bits of an immediate.
 fn i_form(opcode: u32, funct3: u32, rd: u8, rs1: u8, immediate: u32) -> u32
     requires opcode { opcode < 128 }
     requires funct3 { funct3 < 8 }
     requires rd { rd < 32 }
     requires rs1 { rs1 < 32 }
-    requires immediate { IsSigned 12 immediate }
-    ensures opcode { word_fields.opcode result ≡ opcode }
-    ensures funct3 { word_fields.funct3 result ≡ funct3 }
-    ensures rd { word_fields.rd result ≡ rd }
-    ensures rs1 { word_fields.rs1 result ≡ rs1 }
-    ensures immediate { word_fields.immediate_i result ≡ immediate }
+    ensures { result ≡ encoding.i_form opcode rd funct3 rs1 immediate }
 {
     let low = opcode + 128 * u32::from(rd) + 4096 * funct3;
     low + 32_768 * u32::from(rs1) + 1_048_576 * (immediate % 4096)
 }
 
-#[tactic(auto, unfolding(instruction_model::specs::Instruction::spelled))]
+#[tactic(auto, unfolding(instruction_model::specs::Encoding::word_of))]
 fn operate_immediate(operation: Operation, rd: u8, rs1: u8, immediate: u32) -> u32
     requires { HasFields (Instruction.OperateImmediate operation rd rs1 immediate) }
-    ensures { spelled result ≡ Some (Instruction.OperateImmediate operation rd rs1 immediate) }
+    ensures { result ≡ encoding.word_of (Instruction.OperateImmediate operation rd rs1 immediate) }
 {
     let opcode = 0b0010011;
     let funct3 = match operation {
@@ -74,7 +63,7 @@ fn operate_immediate(operation: Operation, rd: u8, rs1: u8, immediate: u32) -> u
         Operation::Xor => 0b100,
         Operation::Or => 0b110,
         Operation::And => 0b111,
-        Operation::Sll => return s_form(
+        Operation::Sll => return r_form(
             opcode,
             u32::from(rd),
             0b001,
@@ -82,7 +71,7 @@ fn operate_immediate(operation: Operation, rd: u8, rs1: u8, immediate: u32) -> u
             immediate as u8,
             0b000_0000,
         ),
-        Operation::Srl => return s_form(
+        Operation::Srl => return r_form(
             opcode,
             u32::from(rd),
             0b101,
@@ -90,7 +79,7 @@ fn operate_immediate(operation: Operation, rd: u8, rs1: u8, immediate: u32) -> u
             immediate as u8,
             0b000_0000,
         ),
-        Operation::Sra => return s_form(
+        Operation::Sra => return r_form(
             opcode,
             u32::from(rd),
             0b101,
@@ -103,10 +92,10 @@ fn operate_immediate(operation: Operation, rd: u8, rs1: u8, immediate: u32) -> u
     i_form(opcode, funct3, rd, rs1, immediate)
 }
 
-#[tactic(auto, unfolding(instruction_model::specs::Instruction::spelled))]
+#[tactic(auto, unfolding(instruction_model::specs::Encoding::word_of))]
 fn load(kind: LoadKind, rd: u8, rs1: u8, immediate: u32) -> u32
     requires { HasFields (Instruction.Load kind rd rs1 immediate) }
-    ensures { spelled result ≡ Some (Instruction.Load kind rd rs1 immediate) }
+    ensures { result ≡ encoding.word_of (Instruction.Load kind rd rs1 immediate) }
 {
     let funct3 = match kind {
         LoadKind::Lb => 0b000,
@@ -118,17 +107,17 @@ fn load(kind: LoadKind, rd: u8, rs1: u8, immediate: u32) -> u32
     i_form(0b0000011, funct3, rd, rs1, immediate)
 }
 
-#[tactic(auto, unfolding(instruction_model::specs::Instruction::spelled))]
+#[tactic(auto, unfolding(instruction_model::specs::Encoding::word_of))]
 fn store(width: Width, rs1: u8, rs2: u8, immediate: u32) -> u32
     requires { HasFields (Instruction.Store width rs1 rs2 immediate) }
-    ensures { spelled result ≡ Some (Instruction.Store width rs1 rs2 immediate) }
+    ensures { result ≡ encoding.word_of (Instruction.Store width rs1 rs2 immediate) }
 {
     let funct3 = match width {
         Width::One => 0b000,
         Width::Two => 0b001,
         Width::Four => 0b010,
     };
-    s_form(
+    r_form(
         0b0100011,
         immediate % 32,
         funct3,
@@ -138,10 +127,10 @@ fn store(width: Width, rs1: u8, rs2: u8, immediate: u32) -> u32
     )
 }
 
-#[tactic(auto, unfolding(instruction_model::specs::Instruction::spelled))]
+#[tactic(auto, unfolding(instruction_model::specs::Encoding::word_of))]
 fn branch(comparison: Comparison, rs1: u8, rs2: u8, immediate: u32) -> u32
     requires { HasFields (Instruction.Branch comparison rs1 rs2 immediate) }
-    ensures { spelled result ≡ Some (Instruction.Branch comparison rs1 rs2 immediate) }
+    ensures { result ≡ encoding.word_of (Instruction.Branch comparison rs1 rs2 immediate) }
 {
     let funct3 = match comparison {
         Comparison::Beq => 0b000,
@@ -153,24 +142,23 @@ fn branch(comparison: Comparison, rs1: u8, rs2: u8, immediate: u32) -> u32
     };
     let low = immediate / 2 % 16 * 2 + immediate / 2048 % 2;
     let high = immediate / 4096 % 2 * 64 + immediate / 32 % 64;
-    s_form(0b1100011, low, funct3, rs1, rs2, high)
+    r_form(0b1100011, low, funct3, rs1, rs2, high)
 }
 
-#[tactic(auto, unfolding(instruction_model::specs::Instruction::spelled))]
+#[tactic(auto, unfolding(instruction_model::specs::Encoding::word_of))]
 fn jump_and_link(rd: u8, immediate: u32) -> u32
     requires { HasFields (Instruction.Jal rd immediate) }
-    ensures { spelled result ≡ Some (Instruction.Jal rd immediate) }
+    ensures { result ≡ encoding.word_of (Instruction.Jal rd immediate) }
 {
     let low = immediate / 2048 % 2 * 1_048_576 + immediate / 4096 % 256 * 4096;
     let high = immediate / 1_048_576 % 2 * 2_147_483_648 + immediate / 2 % 1024 * 2_097_152;
     0b1101111 + 128 * u32::from(rd) + low + high
 }
 
-#[tactic(auto, unfolding(instruction_model::specs::Instruction::spelled))]
+#[tactic(auto, unfolding(instruction_model::specs::Encoding::word_of))]
 pub(crate) fn word_of(instruction: Instruction) -> u32
     requires { HasFields instruction }
-    ensures word { spelled result ≡ Some instruction }
-    ensures fence { instruction ≡ Instruction.Fence → result ≡ 0x0FF0000F }
+    ensures { result ≡ encoding.word_of instruction }
 {
     match instruction {
         Instruction::Lui { rd, immediate } => 0b0110111 + 128 * u32::from(rd) + immediate,

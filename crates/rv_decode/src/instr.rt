@@ -1,4 +1,5 @@
 ghost use Rattle.std.specs.Prelude.{◌≡◌, ◌↔◌, ◌<◌, ◌^◌, Option, Some, None};
+ghost use Rattle.instruction_model.specs.Encoding as encoding;
 ghost use Rattle.instruction_model.specs.Form.{HasFields};
 ghost use Rattle.instruction_model.specs.Instruction.{spelled, Spells};
 ghost use Rattle.instruction_model.specs.declared.Instruction.{Instruction};
@@ -29,12 +30,11 @@ impl Model for Instr {
 
 impl Instr {
     /// An instruction whose registers and immediate fit its format.
+    #[tactic(auto, using(instruction_model::proofs::Encoding::is_spelled))]
     pub fn new(instruction: Instruction) -> Instr
         requires { HasFields instruction }
         ensures { result ≡ instruction }
     {
-        // the word that spells it, which the type's invariant asks for
-        let _word = word_of(instruction);
         Instr { instruction }
     }
 
@@ -63,10 +63,12 @@ pub fn decode(word: u32) -> Option<Instr>
     }
 }
 
-/// The word that spells an instruction; of those that spell FENCE, 0x0FF0000F.
+/// The word of an instruction, which spells it (RISC-V Unprivileged ISA, RV32I, base instruction formats). Many words spell
+/// FENCE; its word is 0x0FF0000F, a fence over all accesses.
+#[tactic(auto, using(instruction_model::proofs::Encoding::word_of_spells))]
 pub fn encode(instr: Instr) -> u32
-    ensures word { spelled result ≡ Some instr }
-    ensures fence { instr ≡ Instruction.Fence → result ≡ 0x0FF0000F }
+    ensures word { result ≡ encoding.word_of instr }
+    ensures spelled { spelled result ≡ Some instr }
 {
     word_of(instr.instruction())
 }

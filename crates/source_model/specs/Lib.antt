@@ -6,6 +6,5 @@ pub mod Mnemonic
 pub mod Statement
 pub mod Line
 pub mod Layout
-pub mod Encoding
 pub mod Source
 pub mod Meaning

@@ -18,7 +18,7 @@ use Rattle.source_model.specs.declared.statement.Definition.{Definition}
 use Rattle.source_model.specs.Text.{◌>>=◌, is_empty, lines_of}
 use Rattle.source_model.specs.Line.{label_of, statement_in}
 use Rattle.source_model.specs.Layout.{size_of, start, address_in, is_misplaced, after, definitions}
-use Rattle.source_model.specs.Encoding.{word_of}
+use Rattle.instruction_model.specs.Encoding.{word_of}
 
 -- where labels are first defined
 abbrev pub Labels : Type 0

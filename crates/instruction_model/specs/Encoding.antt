@@ -1,5 +1,5 @@
--- The word of an instruction (RISC-V Unprivileged ISA, RV32I, "Base Instruction Formats" and the instruction set listing).
--- FENCE has the fields of a fence over all accesses.
+-- The word of an instruction (RISC-V Unprivileged ISA, RV32I, "Base Instruction Formats", "Immediate Encoding Variants" and the
+-- instruction set listing). Many words spell FENCE; its word is that of a fence over all accesses.
 use Rattle.std.specs.Prelude.{ℕ, ◌+◌, ◌*◌, ◌/◌, ◌%◌, ◌^◌}
 use Rattle.memory_model.specs.declared.Width.{Width}
 use Rattle.memory_model.specs.declared.Width.TheVariants.{One, Two, Four}
@@ -12,23 +12,27 @@ use Rattle.instruction_model.specs.declared.Operation.TheVariants.{Add, Sub, Sll
 use Rattle.instruction_model.specs.declared.Instruction.{Instruction}
 use Rattle.instruction_model.specs.declared.Instruction.TheVariants.{Lui, Auipc, Jal, Jalr, Branch, Load, Store, OperateImmediate, Operate, Fence, Ecall, Ebreak}
 
--- opcode, bits 11 to 7, funct3, rs1, rs2, funct7
-abbrev pub fields : ℕ → ℕ → ℕ → ℕ → ℕ → ℕ → ℕ
-fields opcode low funct3 rs1 rs2 high = opcode + 2 ^ 7 * low + 2 ^ 12 * funct3 + 2 ^ 15 * rs1 + 2 ^ 20 * rs2 + 2 ^ 25 * high
+-- opcode, rd, funct3, rs1, rs2 and funct7, from the lowest bit on
+abbrev pub r_form : ℕ → ℕ → ℕ → ℕ → ℕ → ℕ → ℕ
+r_form opcode rd funct3 rs1 rs2 funct7 = opcode + 2 ^ 7 * rd + 2 ^ 12 * funct3 + 2 ^ 15 * rs1 + 2 ^ 20 * rs2 + 2 ^ 25 * funct7
 
--- opcode, rd, funct3, rs1, and twelve bits
+-- opcode, rd, funct3, rs1 and twelve bits
 abbrev pub i_form : ℕ → ℕ → ℕ → ℕ → ℕ → ℕ
 i_form opcode rd funct3 rs1 v = opcode + 2 ^ 7 * rd + 2 ^ 12 * funct3 + 2 ^ 15 * rs1 + 2 ^ 20 * (v % 2 ^ 12)
 
+-- bits 4 to 0 stand in the place of rd, bits 11 to 5 in that of funct7
 abbrev pub s_form : ℕ → ℕ → ℕ → ℕ → ℕ
-s_form funct3 rs1 rs2 v = fields 0b0100011 (v % 2 ^ 5) funct3 rs1 rs2 (v / 2 ^ 5 % 2 ^ 7)
+s_form funct3 rs1 rs2 v = r_form 0b0100011 (v % 2 ^ 5) funct3 rs1 rs2 (v / 2 ^ 5 % 2 ^ 7)
 
+-- bits 4 to 1 and 11 stand in the place of rd, bits 12 and 10 to 5 in that of funct7
 abbrev pub b_form : ℕ → ℕ → ℕ → ℕ → ℕ
-b_form funct3 rs1 rs2 v = fields 0b1100011 (2 * (v / 2 % 2 ^ 4) + v / 2 ^ 11 % 2) funct3 rs1 rs2 (2 ^ 6 * (v / 2 ^ 12 % 2) + v / 2 ^ 5 % 2 ^ 6)
+b_form funct3 rs1 rs2 v = r_form 0b1100011 (2 * (v / 2 % 2 ^ 4) + v / 2 ^ 11 % 2) funct3 rs1 rs2 (2 ^ 6 * (v / 2 ^ 12 % 2) + v / 2 ^ 5 % 2 ^ 6)
 
+-- opcode, rd and a multiple of 4,096
 abbrev pub u_form : ℕ → ℕ → ℕ → ℕ
 u_form opcode rd v = opcode + 2 ^ 7 * rd + v
 
+-- rd, and above it bits 19 to 12, 11, 10 to 1 and 20
 abbrev pub j_form : ℕ → ℕ → ℕ
 j_form rd v = 0b1101111 + 2 ^ 7 * rd + 2 ^ 12 * (v / 2 ^ 12 % 2 ^ 8) + 2 ^ 20 * (v / 2 ^ 11 % 2) + 2 ^ 21 * (v / 2 % 2 ^ 10) + 2 ^ 31 * (v / 2 ^ 20 % 2)
 
@@ -76,11 +80,11 @@ store_funct3 One = 0b000
 store_funct3 Two = 0b001
 store_funct3 Four = 0b010
 
--- a shift's amount stands where a second register would
+-- a shift's amount stands where a second register would; of a subtraction there is no such word
 abbrev pub immediate_word : Operation → ℕ → ℕ → ℕ → ℕ
-immediate_word Sll rd rs1 v = fields 0b0010011 rd 0b001 rs1 v 0b0000000
-immediate_word Srl rd rs1 v = fields 0b0010011 rd 0b101 rs1 v 0b0000000
-immediate_word Sra rd rs1 v = fields 0b0010011 rd 0b101 rs1 v 0b0100000
+immediate_word Sll rd rs1 v = r_form 0b0010011 rd 0b001 rs1 v 0b0000000
+immediate_word Srl rd rs1 v = r_form 0b0010011 rd 0b101 rs1 v 0b0000000
+immediate_word Sra rd rs1 v = r_form 0b0010011 rd 0b101 rs1 v 0b0100000
 immediate_word Add rd rs1 v = i_form 0b0010011 rd 0b000 rs1 v
 immediate_word Sub rd rs1 v = i_form 0b0010011 rd 0b000 rs1 v
 immediate_word Slt rd rs1 v = i_form 0b0010011 rd 0b010 rs1 v
@@ -98,7 +102,7 @@ word_of (Branch c a b v) = b_form (comparison_funct3 c) a b v
 word_of (Load k r a v) = i_form 0b0000011 r (load_funct3 k) a v
 word_of (Store width a b v) = s_form (store_funct3 width) a b v
 word_of (OperateImmediate o r a v) = immediate_word o r a v
-word_of (Operate o r a b) = fields 0b0110011 r (operation_funct3 o) a b (operation_funct7 o)
+word_of (Operate o r a b) = r_form 0b0110011 r (operation_funct3 o) a b (operation_funct7 o)
 word_of Fence = 0x0ff0000f
 word_of Ecall = 0x00000073
 word_of Ebreak = 0x00100073
