@@ -1,10 +1,13 @@
 -- Worked words, and worked operations on corner operands.
 use Rattle.std.proofs.Common.{◌≡◌, Some, None, refl}
+use Rattle.memory_model.specs.declared.Width.TheVariants.{Four}
 use Rattle.instruction_model.specs.Instruction.{spelled}
 use Rattle.instruction_model.specs.Word.{immediate_b, immediate_i, immediate_j}
 use Rattle.instruction_model.specs.Arithmetic.{operated}
 use Rattle.instruction_model.specs.declared.Operation.TheVariants.{Add, Sub, Slt, Sltu, Sra}
-use Rattle.instruction_model.specs.declared.Instruction.TheVariants.{OperateImmediate, Fence}
+use Rattle.instruction_model.specs.declared.Comparison.TheVariants.{Beq}
+use Rattle.instruction_model.specs.declared.Instruction.TheVariants.{Jal, Branch, Store, OperateImmediate, Fence}
+use Rattle.instruction_model.specs.Encoding.{word_of}
 
 addi_0 : spelled 0x00000013 ≡ Some (OperateImmediate Add 0 0 0)
 unfolding spelled
@@ -60,3 +63,25 @@ branch_back = refl
 
 jump_back : immediate_j 0xFFDFF06F ≡ 0xFFFFFFFC
 jump_back = refl
+
+-- addi x0, x0, 0 and srai x0, x0, 0
+word_of_addi : word_of (OperateImmediate Add 0 0 0) ≡ 0x00000013
+unfolding word_of
+word_of_addi = refl
+
+word_of_srai : word_of (OperateImmediate Sra 0 0 0) ≡ 0x40005013
+unfolding word_of
+word_of_srai = refl
+
+-- sw ra, 12(sp)
+word_of_store : word_of (Store Four 2 1 12) ≡ 0x00112623
+unfolding word_of
+word_of_store = refl
+
+word_of_branch_back : word_of (Branch Beq 0 0 0xFFFFFFFC) ≡ 0xFE000EE3
+unfolding word_of
+word_of_branch_back = refl
+
+word_of_jump_back : word_of (Jal 0 0xFFFFFFFC) ≡ 0xFFDFF06F
+unfolding word_of
+word_of_jump_back = refl
