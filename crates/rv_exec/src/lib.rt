@@ -9,4 +9,4 @@ mod stepping;
 pub use bus::{Bus, Fault, StoreFault};
 pub use regs::Regs;
 pub use rv_decode::Width;
-pub use stepping::{Stepped, step};
+pub use stepping::{Stepped, perform, step};

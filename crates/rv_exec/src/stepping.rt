@@ -119,7 +119,7 @@ fn finish(regs: &mut Regs, rd: u8, value: u32) -> Result<Stepped, AllocError>
 }
 
 #[inline(always)]
-fn perform<B: Bus>(
+pub fn perform<B: Bus>(
     regs: &mut Regs,
     bus: &mut B,
     instruction: Instruction,

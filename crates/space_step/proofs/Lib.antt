@@ -6,3 +6,5 @@ pub mod Stretches
 pub mod CallEvents
 pub mod Following
 pub mod Advancing
+pub mod Caching
+pub mod Outliving

@@ -1,10 +1,13 @@
 -- A stretch of instructions, one instruction after another.
-use Rattle.std.proofs.Common.{ℕ, ◌+◌, Bool, Ok, add-one}
+use Rattle.std.proofs.Common.{◌≡◌, ℕ, zero, suc, ◌+◌, ◌-◌, ◌≤◌, ◌<◌, Bool, Ok, add-one, arith}
+use Rattle.std.proofs.Math.Nat.{add-suc, add-zero}
 use Rattle.memory_model.specs.Memory.{Memory, with_number}
 use Rattle.instruction_model.specs.Outcome.{Registers, Outcome, goes, stores, calls, traps, view_of, outcome}
 use Rattle.rv_exec.specs.declared.stepping.Stepped.TheVariants.{Next}
 use Rattle.rv_exec.specs.Steps.{Steps}
-use Rattle.space_step.specs.Stretch.{IsDone, Executes}
+use Rattle.space_step.specs.declared.stretch.End.{End}
+use Rattle.space_step.specs.declared.stretch.End.TheVariants as ends
+use Rattle.space_step.specs.Stretch.{IsDone, Executes, Ends}
 
 step_is_done : (takes : Bool) (o : Outcome) (r s : Registers) (m n : Memory) → Steps with_number takes o (Ok Next) r m s n → IsDone o m s n
 step_is_done takes (goes t) r s m n h = h
@@ -15,3 +18,13 @@ step_is_done takes (traps number value) r s m n h = absurd h
 pub executes_more : (count : ℕ) (r q s : Registers) (m k n : Memory) (takes : Bool) → Executes count r m q k
     → Steps with_number takes (outcome (view_of k) q) (Ok Next) q k s n → Executes (count + 1) r m s n
 executes_more count r q s m k n takes h step = rw add-one (q, k, h, step_is_done takes _ q s k n step)
+
+pub executes_on : (a b : ℕ) (r q s : Registers) (m k n : Memory) → Executes a r m q k → Executes b q k s n → Executes (a + b) r m s n
+executes_on a zero r q s m k n f g = rw add-zero (rw g.0 (rw g.1 f))
+executes_on a (suc b) r q s m k n f g = rw add-suc (g.0, g.1, executes_on a b r q g.0 m k g.1 f g.2, g.3)
+
+pub ends_on : (a b budget : ℕ) (e : End) (o : Outcome) → a ≤ budget → Ends e b (budget - a) o → Ends e (a + b) budget o
+ends_on a b budget ends.Budget o h f = omega (arith, h, f)
+ends_on a b budget ends.Call o h f = (omega (arith, h, f.0), f.1)
+ends_on a b budget (ends.Trap number value) o h f = (omega (arith, h, f.0), f.1)
+ends_on a b budget ends.Memory o h f = omega (arith, h, f)

@@ -2,11 +2,14 @@
 #![tactic(auto)]
 
 mod calling;
+mod decode_cache;
 mod event;
 mod paying;
 mod peeking;
 mod run;
 mod running;
+mod source;
+mod stepping;
 mod stretch;
 
 pub use event::Next;

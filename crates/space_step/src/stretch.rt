@@ -1,8 +1,11 @@
-ghost use Rattle.std.specs.Prelude.{◌≡◌, ◌≤◌};
+ghost use Rattle.std.specs.Prelude.{◌≡◌, ◌≤◌, ◌<◌, ◌+◌, ◌^◌};
 ghost use Rattle.instruction_model.specs.Outcome.{view_of, outcome};
 ghost use Rattle.space_step.specs.Stretch.{Executes, Ends};
 
-use rv_exec::{Regs, Stepped, step};
+use crate::decode_cache::{DecodeCache, ENTRIES, Entry};
+use crate::source::{Source, Uncached};
+use crate::stepping::step_from;
+use rv_exec::{Regs, Stepped};
 use space_mem::Mem;
 
 /// Why a stretch of instructions has ended.
@@ -25,9 +28,18 @@ pub(crate) struct Stretch {
     pub(crate) end: End,
 }
 
-/// Executes instructions, at most as many as the budget, up to a call or a trap.
+// How many instructions a stretch decodes each time, before it has a cache: to make an empty one takes as long as a hundred.
+const UNCACHED: u32 = 1000;
+
+// Executes instructions from a source, at most as many as the budget, up to a call or a trap.
 #[inline(never)]
-pub(crate) fn execute(registers: &mut Regs, memory: &mut Mem, budget: u32) -> Stretch
+fn execute_from<S: Source>(
+    source: &mut S,
+    registers: &mut Regs,
+    memory: &mut Mem,
+    budget: u32,
+) -> Stretch
+    requires { S.agrees source.old (view_of memory.old) }
     ensures within { result.count ≤ budget }
     ensures done { Executes result.count registers.old memory.old registers.new memory.new }
     ensures end { Ends result.end result.count budget (outcome (view_of memory.new) registers.new) }
@@ -35,7 +47,7 @@ pub(crate) fn execute(registers: &mut Regs, memory: &mut Mem, budget: u32) -> St
     // a copy, so that pc can stand in a register of the machine
     let mut working = *registers;
     for count in 0..budget {
-        let end = match step(&mut working, memory) {
+        let end = match step_from(source, &mut working, memory) {
             Ok(Stepped::Next) => continue,
             Ok(Stepped::Call) => End::Call,
             Ok(Stepped::Trap { cause, value }) => End::Trap {
@@ -52,4 +64,47 @@ pub(crate) fn execute(registers: &mut Regs, memory: &mut Mem, budget: u32) -> St
         count: budget,
         end: End::Budget,
     }
+}
+
+// Executes instructions with a cache of their own.
+#[inline(never)]
+fn execute_cached(registers: &mut Regs, memory: &mut Mem, budget: u32) -> Stretch
+    ensures within { result.count ≤ budget }
+    ensures done { Executes result.count registers.old memory.old registers.new memory.new }
+    ensures end { Ends result.end result.count budget (outcome (view_of memory.new) registers.new) }
+{
+    // made in place: a function that gave it back would copy it
+    let mut cache = DecodeCache {
+        entries: [Entry::empty(); ENTRIES],
+    };
+    execute_from(&mut cache, registers, memory, budget)
+}
+
+// A stretch of a later budget, after so many instructions.
+fn after(done: u32, rest: Stretch) -> Stretch
+    requires { done + rest.count < 2 ^ 32 }
+    ensures { result ≡ record { count = done + rest.count; end = rest.end } }
+{
+    Stretch {
+        count: done + rest.count,
+        end: rest.end,
+    }
+}
+
+/// Executes instructions, at most as many as the budget, up to a call or a trap.
+#[tactic(auto, using(crate::proofs::Stretches::executes_on, crate::proofs::Stretches::ends_on))]
+pub(crate) fn execute(registers: &mut Regs, memory: &mut Mem, budget: u32) -> Stretch
+    ensures within { result.count ≤ budget }
+    ensures done { Executes result.count registers.old memory.old registers.new memory.new }
+    ensures end { Ends result.end result.count budget (outcome (view_of memory.new) registers.new) }
+{
+    if budget <= UNCACHED {
+        return execute_from(&mut Uncached, registers, memory, budget);
+    }
+    let first = execute_from(&mut Uncached, registers, memory, UNCACHED);
+    if first.count < UNCACHED {
+        return first;
+    }
+    let rest = execute_cached(registers, memory, budget - first.count);
+    after(first.count, rest)
 }

@@ -1,0 +1,19 @@
+-- What stands at an address: an instruction or a trap, whatever the other registers hold.
+use Rattle.std.specs.Prelude.{◌≡◌, ℕ, ◌%◌}
+use Rattle.memory_model.specs.Memory.{Memory, width_bytes, with_number}
+use Rattle.memory_model.specs.declared.Width.{Width}
+use Rattle.instruction_model.specs.declared.Instruction.{Instruction}
+use Rattle.instruction_model.specs.declared.Instruction.TheVariants.{Store}
+use Rattle.instruction_model.specs.Outcome.{View, Registers, traps, view_of, outcome, perform, register, offset}
+
+-- where pc is this address, the outcome is that of the instruction
+abbrev pub StandsAt : View → ℕ → Instruction → Type 0
+StandsAt v a i = (r : Registers) → r.pc ≡ a → outcome v r ≡ perform i v r
+
+-- where pc is this address, the outcome is the trap
+abbrev pub TrapsAt : View → ℕ → ℕ → ℕ → Type 0
+TrapsAt v a number value = (r : Registers) → r.pc ≡ a → outcome v r ≡ traps number value
+
+-- what is so of memory however an instruction, if it is a store, stores
+abbrev pub Outlives : (View → Type 0) → Memory → Registers → Instruction → Type 0
+Outlives P m r i = (w : Width) (a b n value : ℕ) → i ≡ Store w a b n → offset (register r a) n % width_bytes w ≡ 0 → P (view_of (with_number m (offset (register r a) n) w value))

@@ -1,0 +1,74 @@
+ghost use Rattle.std.specs.Prelude.{◌≡◌, ℕ, ◌%◌, IfOk, IfErr};
+ghost use Rattle.memory_model.specs.Memory.{Memory, width_bytes, with_number};
+ghost use Rattle.memory_model.specs.declared.Width.{Width};
+ghost use Rattle.instruction_model.specs.Form.{HasFields};
+ghost use Rattle.instruction_model.specs.Outcome.{View, view_of};
+ghost use Rattle.space_step.specs.Source.{StandsAt, TrapsAt};
+
+use rv_decode::{Instruction, decode};
+use space_mem::Mem;
+
+/// A trap: its number and its value (RISC-V Privileged ISA, "Machine Cause").
+#[derive(Clone, Copy, Debug, PartialEq, Eq)]
+pub(crate) struct Trap {
+    pub(crate) number: u8,
+    pub(crate) value: u32,
+}
+
+/// Where a stretch takes its instructions from.
+pub(crate) trait Source {
+    // whether what the source keeps is so of a memory that is seen like this
+    ghost agrees: { Self → View → Type 0 };
+
+    /// The instruction at an address, or the trap that stands there.
+    fn instruction_at(&mut self, memory: &Mem, at: u32) -> Result<Instruction, Trap>
+        requires { agrees self.old (view_of memory.now) }
+        ensures agrees { agrees self.new (view_of memory.now) }
+        ensures fields { IfOk result (λ i. HasFields i) }
+        ensures instruction { IfOk result (λ i. StandsAt (view_of memory.now) at i) }
+        ensures trap { IfErr result (λ t. TrapsAt (view_of memory.now) at t.number t.value) };
+
+    /// Keeps the word of an address no longer, so that a store there changes nothing that is kept.
+    fn forget(&mut self, at: u32)
+        ensures before { (v : View) → agrees self.old v → agrees self.new v }
+        ensures after { (m : Memory) (w : Width) (value : ℕ) → at % width_bytes w ≡ 0 → agrees self.old (view_of m) → agrees self.new (view_of (with_number m at w value)) };
+}
+
+/// Each instruction is decoded each time.
+#[derive(Drop)]
+pub(crate) struct Uncached;
+
+impl Source for Uncached {
+    ghost use Rattle.std.specs.Prelude.{⊤};
+
+    ghost agrees = { λ s v. ⊤ };
+
+    #[inline(always)]
+    #[tactic(auto, unfolding(instruction_model::specs::Outcome::outcome))]
+    fn instruction_at(&mut self, memory: &Mem, at: u32) -> Result<Instruction, Trap> {
+        if at % 4 != 0 {
+            return Err(Trap {
+                number: 0,
+                value: at,
+            });
+        }
+        match memory.fetch(at) {
+            Some(word) => match decode(word) {
+                Some(instr) => Ok(instr.instruction()),
+                None => Err(Trap {
+                    number: 2,
+                    value: word,
+                }),
+            },
+            None => Err(Trap {
+                number: 1,
+                value: at,
+            }),
+        }
+    }
+
+    #[inline(always)]
+    fn forget(&mut self, at: u32) {
+        let _at = at;
+    }
+}

@@ -1,0 +1,48 @@
+ghost use Rattle.std.specs.Prelude.{◌≡◌, true};
+ghost use Rattle.memory_model.specs.Memory.{Memory, with_number};
+ghost use Rattle.instruction_model.specs.Form.{HasFields};
+ghost use Rattle.instruction_model.specs.Outcome.{View, view_of, outcome};
+ghost use Rattle.rv_exec.specs.Steps.{Steps};
+ghost use Rattle.space_step.specs.Source.{Outlives};
+
+use crate::source::Source;
+use rv_decode::Instruction;
+use rv_exec::{Regs, Stepped, perform};
+use space_mem::Mem;
+use std::alloc::AllocError;
+
+// Has the source forget the word that an instruction stores to, if it is a store.
+#[inline(always)]
+fn forget_stored<S: Source>(source: &mut S, regs: &Regs, instruction: Instruction)
+    requires { HasFields instruction }
+    ensures before { (v : View) → S.agrees source.old v → S.agrees source.new v }
+    ensures after { (m : Memory) → S.agrees source.old (view_of m) → Outlives (S.agrees source.new) m regs.now instruction }
+{
+    if let Instruction::Store { rs1, immediate, .. } = instruction {
+        source.forget(regs.register(rs1).wrapping_add(immediate));
+    }
+}
+
+/// The instruction at pc, from a source: this is the one place that executes an instruction. A call and a trap change nothing.
+/// Only a store may fail, for want of memory, and then nothing changes.
+#[inline(always)]
+pub(crate) fn step_from<S: Source>(
+    source: &mut S,
+    regs: &mut Regs,
+    memory: &mut Mem,
+) -> Result<Stepped, AllocError>
+    requires { S.agrees source.old (view_of memory.old) }
+    ensures steps { Steps with_number true (outcome (view_of memory.old) regs.old) result regs.old memory.old regs.new memory.new }
+    ensures agrees { S.agrees source.new (view_of memory.new) }
+{
+    match source.instruction_at(memory, regs.pc) {
+        Ok(instruction) => {
+            forget_stored(source, regs, instruction);
+            perform(regs, memory, instruction)
+        }
+        Err(trap) => Ok(Stepped::Trap {
+            cause: trap.number,
+            value: trap.value,
+        }),
+    }
+}

@@ -1,0 +1,5 @@
+//! Tests of spaces that cross crates.
+#![tactic(auto)]
+
+#[cfg(test)]
+mod stretches;
