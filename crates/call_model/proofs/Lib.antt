@@ -1,3 +1,4 @@
+pub mod Numbers
 pub mod Accepted
 pub mod Kept
 pub mod Words

@@ -1,6 +1,7 @@
 -- The options of Put and Get (OSDI 2010, "Efficient System-Enforced Deterministic Parallelism", the section on the kernel
 -- interface), as bits of a0, and what they ask of one another and of ranges of memory.
 use Rattle.std.specs.Prelude.{◌≡◌, ◌≤◌, ℕ, ◌+◌, ◌/◌, ◌%◌, ◌^◌, ◌==◌, Bool, not, ◌&&◌, ◌||◌, nat_lt, bit_and}
+use Rattle.call_model.specs.Limits.{page_size, last_block}
 
 abbrev pub regs : ℕ
 regs = 1
@@ -20,21 +21,29 @@ start = 64
 abbrev pub limited : ℕ
 limited = 128
 
+-- the bits of the permission
+abbrev pub permission_bits : ℕ
+permission_bits = 0x3000
+
+-- all bits that may be set
+abbrev pub known : ℕ
+known = 0x30D7
+
 -- one of these bits is among the options
 abbrev pub has : ℕ → ℕ → Bool
 has bits options = not (bit_and options bits == 0)
 
--- bits 12 and 13
+-- bits 12 and 13, as a number from 0 to 3
 abbrev pub permission : ℕ → ℕ
 permission options = options / 4096 % 4
 
 -- a bit that is no option and not of the permission
 abbrev pub has_unknown : ℕ → Bool
-has_unknown options = not (bit_and options 0x30D7 == options)
+has_unknown options = not (bit_and options known == options)
 
 -- permission bits without Perm; both of Copy and Zero
 abbrev pub has_clash : ℕ → Bool
-has_clash options = (has 0x3000 options && not (has perm options)) || (has copy options && has zeroing options)
+has_clash options = (has permission_bits options && not (has perm options)) || (has copy options && has zeroing options)
 
 -- Limit without Start
 unfoldable pub bad_put_options : ℕ → Bool
@@ -48,14 +57,14 @@ bad_get_options options = has_unknown options || (has_clash options || (has star
 abbrev pub passes_end : ℕ → ℕ → Bool
 passes_end address size = nat_lt (2 ^ 32) (address + size)
 
--- no range of whole pages: an address or a size that is no multiple of 4,096, or an end above the memory's
+-- no range of whole pages: an address or a size that is no multiple of a page's, or an end above the memory's
 abbrev pub is_no_range : ℕ → ℕ → Bool
-is_no_range address size = not (address % 4096 == 0) || (not (size % 4096 == 0) || passes_end address size)
+is_no_range address size = not (address % page_size == 0) || (not (size % page_size == 0) || passes_end address size)
 
 -- whole pages that end within memory
 pub record IsRange (address size : ℕ) : Type 0 where
-  pub first : address % 4096 ≡ 0
-  pub whole : size % 4096 ≡ 0
+  pub first : address % page_size ≡ 0
+  pub whole : size % page_size ≡ 0
   pub within : address + size ≤ 2 ^ 32
 
 -- with Copy, Zero or Perm the destination, with Copy the source too
@@ -65,4 +74,4 @@ bad_ranges options source destination size =
 
 -- with Regs: an address that is no multiple of 4, or from which on there are not 136 bytes
 unfoldable pub bad_block : ℕ → ℕ → Bool
-bad_block options block = has regs options && (not (block % 4 == 0) || nat_lt 0xFFFFFF78 block)
+bad_block options block = has regs options && (not (block % 4 == 0) || nat_lt last_block block)

@@ -1,32 +1,40 @@
 -- The call that registers name, or the first test that they fail.
-use Rattle.std.specs.Prelude.{◌≡◌, ℕ, ◌+◌, ◌^◌, ◌≤◌, Bool, false, if◌then◌else◌, List, Option, Some, None, Result, Ok, Err}
+use Rattle.std.specs.Prelude.{◌≡◌, ℕ, ◌+◌, ◌^◌, ◌≤◌, Bool, false, List, Option, Some, None, Result, Ok, Err}
+use Rattle.call_model.specs.declared.Kind.{Kind}
+use Rattle.call_model.specs.declared.Kind.TheVariants as kinds
 use Rattle.call_model.specs.declared.Transfer.{Transfer}
 use Rattle.call_model.specs.declared.Call.{Call}
 use Rattle.call_model.specs.declared.Call.TheVariants.{Put, Get, Ret, ConsoleOut}
 use Rattle.call_model.specs.declared.Badcall.{Badcall}
+use Rattle.call_model.specs.Kinds.{kind_of}
+use Rattle.call_model.specs.Limits.{longest_piece}
 use Rattle.call_model.specs.Options.{bad_put_options, bad_get_options, bad_ranges, bad_block}
-use Rattle.call_model.specs.Tests.{argument, is_put, is_get, is_ret, first_failing}
+use Rattle.call_model.specs.Tests.{argument, first_failing}
 
 -- a0 to a6
 abbrev pub transfer : List ℕ → Transfer
 transfer x = record { options = argument x 0; child = argument x 1; block = argument x 2; source = argument x 3; destination = argument x 4; size = argument x 5; limit = argument x 6 }
 
--- the call of registers that fail no test
-unfoldable pub named : List ℕ → Call
-named x =
-    if is_put x then Put (transfer x)
-    else if is_get x then Get (transfer x)
-    else if is_ret x then Ret (argument x 0)
-    else ConsoleOut (argument x 1) (argument x 2)
+-- the call of a kind, with registers that fail no test
+abbrev pub named : Kind → List ℕ → Call
+named kinds.Put x = Put (transfer x)
+named kinds.Get x = Get (transfer x)
+named kinds.Ret x = Ret (argument x 0)
+named kinds.ConsoleOut x = ConsoleOut (argument x 1) (argument x 2)
 
 -- the call, or the number of the first test that fails
 abbrev pub answered : Option ℕ → Call → Result Call Badcall
 answered None call = Ok call
 answered (Some n) call = Err (record { 0 = n })
 
+-- the same of what a7 says; test 1 is that it is the number of a kind
+abbrev pub read_as : Option Kind → List ℕ → Bool → ℕ → Result Call Badcall
+read_as None x root depth = Err (record { 0 = 1 })
+read_as (Some kind) x root depth = answered (first_failing kind x root depth) (named kind x)
+
 -- what registers say, at the root or below it, at this depth
 abbrev pub read : List ℕ → Bool → ℕ → Result Call Badcall
-read x root depth = answered (first_failing x root depth) (named x)
+read x root depth = read_as (kind_of (argument x 7)) x root depth
 
 -- what the tests keep of Put and Get, whose options have to stand together
 pub record IsTransfer (t : Transfer) : Type 0 where
@@ -38,4 +46,4 @@ abbrev pub IsAccepted : Call → Type 0
 IsAccepted (Put t) = (bad_put_options t.options ≡ false) × IsTransfer t
 IsAccepted (Get t) = (bad_get_options t.options ≡ false) × IsTransfer t
 IsAccepted (Ret value) = Unit {0}
-IsAccepted (ConsoleOut addr len) = (addr + len ≤ 2 ^ 32) × (len ≤ 65536)
+IsAccepted (ConsoleOut addr len) = (addr + len ≤ 2 ^ 32) × (len ≤ longest_piece)

@@ -15,6 +15,15 @@ pub struct Transfer {
     pub limit: u32,
 }
 
+/// The kind of a call, one for each number that register a7 may have.
+#[derive(Clone, Copy, Debug, PartialEq, Eq)]
+pub enum Kind {
+    Put,
+    Get,
+    Ret,
+    ConsoleOut,
+}
+
 /// A call of a space.
 #[derive(Clone, Copy, Debug, PartialEq, Eq)]
 pub enum Call {

@@ -1,113 +1,76 @@
 -- What the next event of a space tells: a call that meets a child is one that may, of a top that may pay; a local event keeps a top
 -- sound, and so do many.
-use Rattle.std.proofs.Common.{◌≡◌, ℕ, zero, suc, ◌-◌, ◌≤◌, ◌<◌, Bool, true, false, ◌||◌, if◌then◌else◌, List, Option, Some, None, Result, Ok, Err, refl, sym, ap, ◌∙◌, subst, arith}
+use Rattle.std.proofs.Common.{◌≡◌, ℕ, zero, suc, ◌-◌, ◌≤◌, ◌<◌, ◌==◌, nat_lt, Bool, false, List, Option, Some, None, Result, Ok, Err, refl, sym, ap, ◌∙◌, subst, arith}
 use Rattle.std.proofs.lemmas.Bool.Decides.{nat_tests}
 use Rattle.memory_model.specs.Memory.{may_read, first_without}
 use Rattle.instruction_model.specs.Outcome.{view_of, Outcome, goes, stores, calls, traps, outcome}
 use Rattle.call_model.specs.declared.Call.{Call}
 use Rattle.call_model.specs.declared.Call.TheVariants as named
 use Rattle.call_model.specs.declared.Badcall as refusal
-use Rattle.call_model.specs.Tests.{argument, is_put, is_get, is_ret, is_transfer, unknown_number, wrong_options, wrong_child, wrong_range, outside_root, too_long, too_deep, first_failing}
+use Rattle.call_model.specs.declared.Kind.{Kind}
+use Rattle.call_model.specs.declared.Kind.TheVariants as kinds
+use Rattle.call_model.specs.Limits.{greatest_child, greatest_depth}
+use Rattle.call_model.specs.Kinds.{kind_of}
+use Rattle.call_model.specs.Tests.{argument, wrong_child, too_deep, first_failing}
 use Rattle.call_model.specs.Reading as reading
-use Rattle.call_model.specs.Reading.{transfer, answered, read, IsAccepted}
-use Rattle.call_model.proofs.Accepted.{named_accepted, named_child}
+use Rattle.call_model.specs.Reading.{answered, read_as, read, IsAccepted}
+use Rattle.call_model.proofs.Accepted.{Passes, passes, named_accepted}
 use Rattle.space_model.specs.declared.Status.{Status}
 use Rattle.space_model.specs.declared.Status.TheVariants.{Running, Stopped}
 use Rattle.space_model.specs.Space.{Top, Devices}
 use Rattle.space_model.specs.Sound.{has_devices, IsSoundTop}
 use Rattle.space_model.specs.Change.{paid}
 use Rattle.space_model.specs.Meeting.{MayMeet}
-use Rattle.space_model.specs.Event.{Effect, becomes, asks, Next, rests, moves, meets, charged, output, console_out, by_reading, call, after_outcome, instruction, limited, fuelled, by_status, next, Follows, IsNotLocal, MayPay}
+use Rattle.space_model.specs.Event.{Effect, becomes, asks, Next, rests, moves, meets, charged, with_devices, output, console_out, effect_of, by_reading, call, after_outcome, instruction, limited, fuelled, by_status, next, Follows, IsNotLocal, MayPay}
 
-later : (c : Bool) (n : ℕ) (o : Option ℕ) → (if c then Some n else o) ≡ None → (c ≡ false) × (o ≡ None)
-later true n o h = cc
-later false n o h = (refl, h)
+fits : (n : ℕ) → nat_lt greatest_child n ≡ false → n < 65536
+fits n h = grind (arith, nat_tests)
 
--- registers that fail no test do not ask for a child below the last level
-named_deep : (x : List ℕ) (root : Bool) (depth : ℕ) → first_failing x root depth ≡ None → too_deep x depth ≡ false
-named_deep x root depth h =
-    let h1 = later (unknown_number x) 1 _ h in
-    let h2 = later (wrong_options x) 2 _ h1.1 in
-    let h3 = later (wrong_child x) 3 _ h2.1 in
-    let h4 = later (wrong_range x) 4 _ h3.1 in
-    let h6 = later (outside_root x root) 6 _ h4.1 in
-    let h7 = later (too_long x) 7 _ h6.1 in
-    (later (too_deep x depth) 8 _ h7.1).0
+-- a child below the last level is not asked for
+shallow : (levels : ℕ) → (greatest_depth - levels == greatest_depth) ≡ false → 1 ≤ levels
+shallow levels h = grind (arith, nat_tests)
 
-fits : (x : List ℕ) → wrong_child x ≡ false → is_transfer x ≡ true → argument x 1 < 65536
-unfolding wrong_child
-fits x h e = grind (arith, nat_tests)
+-- no call of a device is asked for
+device_asks : (t : Top) (o : Option Devices) (f : Devices → Effect) (k : Call) → ((d : Devices) → f d ≡ asks k → ⊥) → with_devices t o f ≡ asks k → ⊥
+device_asks t None f k none e = cc
+device_asks t (Some d) f k none e = none d e
 
-shallow : (x : List ℕ) (levels : ℕ) → too_deep x (8 - levels) ≡ false → is_put x ≡ true → 1 ≤ levels
-unfolding too_deep
-shallow x levels h e = grind (arith, nat_tests)
-
--- which calls name a child, and that it may be met
-abbrev Meets : ℕ → List ℕ → Call → Type 0
-Meets levels x (named.Put y) = (1 ≤ levels) × (y.child < 65536)
-Meets levels x (named.Get y) = y.child < 65536
-Meets levels x (named.Ret value) = Unit {0}
-Meets levels x (named.ConsoleOut addr len) = Unit {0}
-
-named_meets_by : (levels : ℕ) (x : List ℕ) (p g r : Bool) → (p ≡ true → (1 ≤ levels) × (argument x 1 < 65536)) → (g ≡ true → argument x 1 < 65536)
-    → Meets levels x (if p then named.Put (transfer x) else if g then named.Get (transfer x) else if r then named.Ret (argument x 0) else named.ConsoleOut (argument x 1) (argument x 2))
-named_meets_by levels x true g r put get = put refl
-named_meets_by levels x false true r put get = get refl
-named_meets_by levels x false false true put get = tt
-named_meets_by levels x false false false put get = tt
-
-named_meets : (levels : ℕ) (x : List ℕ) (root : Bool) → first_failing x root (8 - levels) ≡ None → Meets levels x (reading.named x)
-unfolding reading.named
-named_meets levels x root h =
-    let child = named_child x root (8 - levels) h in
-    let deep = named_deep x root (8 - levels) h in
-    named_meets_by levels x (is_put x) (is_get x) (is_ret x)
-    (λ e. (shallow x levels deep e, fits x child (rw e refl)))
-    (λ e. fits x child (either (is_put x) (is_get x) e))
-  where
-    either : (p g : Bool) → g ≡ true → (p || g) ≡ true
-    either true g e = refl
-    either false g e = e
-
--- a reading that gives a call
-read_is : (o : Option ℕ) (c k : Call) → answered o c ≡ Ok k → (o ≡ None) × (c ≡ k)
-read_is None c k e = (refl, cc)
-read_is (Some n) c k e = cc
-
--- no console out asks
 output_asks : (t : Top) (d : Devices) (addr len : ℕ) (o : Option ℕ) (k : Call) → output t d addr len o ≡ asks k → ⊥
 output_asks t d addr len (Some a) k e = cc
 output_asks t d addr len None k e = cc
 
-console_asks : (t : Top) (addr len : ℕ) (o : Option Devices) (k : Call) → console_out t addr len o ≡ asks k → ⊥
-console_asks t addr len None k e = cc
-console_asks t addr len (Some d) k e = output_asks t d addr len (first_without (may_read t.memory) addr len) k e
+console_asks : (t : Top) (addr len : ℕ) (k : Call) → effect_of t (named.ConsoleOut addr len) ≡ asks k → ⊥
+console_asks t addr len k e = device_asks t t.devices (console_out t addr len) k (λ d. output_asks t d addr len (first_without (may_read t.memory) addr len) k) e
 
--- a call that is asked for was read, and meets a child
-abbrev IsMeeting : Call → Type 0
-IsMeeting (named.Put x) = Unit {0}
-IsMeeting (named.Get x) = Unit {0}
-IsMeeting (named.Ret value) = ⊥
-IsMeeting (named.ConsoleOut addr len) = ⊥
+-- the call that is asked for is the call itself
+asked : (t : Top) (c k : Call) → effect_of t c ≡ asks k → c ≡ k
+asked t (named.ConsoleOut addr len) k e = absurd (console_asks t addr len k e)
+asked t c k e = cc
 
-asked : (t : Top) (r : Result Call refusal.Badcall) (k : Call) → by_reading t r ≡ asks k → (r ≡ Ok k) × IsMeeting k
-asked t (Err test) k e = cc
-asked t (Ok (named.Put x)) k e = let same : named.Put x ≡ k = cc in (ap Ok same, subst IsMeeting same tt)
-asked t (Ok (named.Get x)) k e = let same : named.Get x ≡ k = cc in (ap Ok same, subst IsMeeting same tt)
-asked t (Ok (named.Ret value)) k e = cc
-asked t (Ok (named.ConsoleOut addr len)) k e = absurd (console_asks t addr len t.devices k e)
+-- of registers that fail no test, it may meet its child
+named_meets : (levels : ℕ) (t : Top) (kind : Kind) (x : List ℕ) (root : Bool) (k : Call) → Passes kind x root (greatest_depth - levels) → effect_of t (reading.named kind x) ≡ asks k → MayMeet levels (reading.named kind x)
+unfolding wrong_child too_deep
+named_meets levels t kinds.Put x root k p e = (shallow levels p.below, fits (argument x 1) p.child)
+named_meets levels t kinds.Get x root k p e = fits (argument x 1) p.child
+named_meets levels t kinds.Ret x root k p e = cc
+named_meets levels t kinds.ConsoleOut x root k p e = absurd (console_asks t (argument x 1) (argument x 2) k e)
+
+answer_asks : (levels : ℕ) (t : Top) (kind : Kind) (x : List ℕ) (root : Bool) (k : Call) (o : Option ℕ) → first_failing kind x root (greatest_depth - levels) ≡ o
+    → by_reading t (answered o (reading.named kind x)) ≡ asks k → MayMeet levels k × IsAccepted k
+answer_asks levels t kind x root k (Some n) is e = cc
+answer_asks levels t kind x root k None is e =
+    let same = asked t (reading.named kind x) k e in
+    (subst (MayMeet levels) same (named_meets levels t kind x root k (passes kind x root (greatest_depth - levels) is) e), subst IsAccepted same (named_accepted kind x root (greatest_depth - levels) is))
+
+reading_asks : (levels : ℕ) (t : Top) (o : Option Kind) (x : List ℕ) (root : Bool) (k : Call) → by_reading t (read_as o x root (greatest_depth - levels)) ≡ asks k → MayMeet levels k × IsAccepted k
+reading_asks levels t None x root k e = cc
+reading_asks levels t (Some kind) x root k e = answer_asks levels t kind x root k _ refl e
 
 outcome_asks : (levels : ℕ) (t : Top) (o : Outcome) (k : Call) → after_outcome levels t o ≡ asks k → call levels t ≡ asks k
 outcome_asks levels t (goes r) k e = cc
 outcome_asks levels t (stores r at width value) k e = cc
 outcome_asks levels t calls k e = e
 outcome_asks levels t (traps number value) k e = cc
-
-may_meet : (levels : ℕ) (x : List ℕ) (k : Call) → Meets levels x k → IsMeeting k → MayMeet levels k
-may_meet levels x (named.Put y) h m = h
-may_meet levels x (named.Get y) h m = h
-may_meet levels x (named.Ret value) h m = m
-may_meet levels x (named.ConsoleOut addr len) h m = m
 
 -- what is known of a call that is next
 pub record IsCall (levels : ℕ) (t : Top) (k : Call) (u : Top) : Type 0 where
@@ -118,12 +81,7 @@ pub record IsCall (levels : ℕ) (t : Top) (k : Call) (u : Top) : Type 0 where
 
 instruction_asks : (levels : ℕ) (t : Top) (k : Call) → instruction levels t ≡ asks k → MayMeet levels k × IsAccepted k
 instruction_asks levels t k e =
-    let x = t.registers.x in
-    let root = has_devices t.devices in
-    let a = asked t (read x root (8 - levels)) k (outcome_asks levels t (outcome (view_of t.memory) t.registers) k e) in
-    let r = read_is (first_failing x root (8 - levels)) (reading.named x) k a.0 in
-    let m = subst (Meets levels x) r.1 (named_meets levels x root r.0) in
-    (may_meet levels x k m a.1, subst IsAccepted r.1 (named_accepted x root (8 - levels) r.0))
+    reading_asks levels t (kind_of (argument t.registers.x 7)) t.registers.x (has_devices t.devices) k (outcome_asks levels t (outcome (view_of t.memory) t.registers) k e)
 
 charged_meets : (t : Top) (m : Effect) (k : Call) (u : Top) → charged t m ≡ meets k u → (m ≡ asks k) × (u ≡ paid t t)
 charged_meets t (becomes v) k u e = cc
@@ -156,25 +114,27 @@ abbrev KeepsDevices : Top → Effect → Type 0
 KeepsDevices t (becomes u) = has_devices u.devices ≡ has_devices t.devices
 KeepsDevices t (asks k) = Unit {0}
 
+device_keeps : (t : Top) (o : Option Devices) (f : Devices → Effect) → t.devices ≡ o → ((d : Devices) → t.devices ≡ Some d → KeepsDevices t (f d)) → KeepsDevices t (with_devices t o f)
+device_keeps t None f is kept = refl
+device_keeps t (Some d) f is kept = kept d is
+
 output_keeps : (t : Top) (d : Devices) (addr len : ℕ) (o : Option ℕ) → t.devices ≡ Some d → KeepsDevices t (output t d addr len o)
 output_keeps t d addr len (Some a) is = refl
 output_keeps t d addr len None is = rw is refl
 
-console_keeps : (t : Top) (addr len : ℕ) (o : Option Devices) → t.devices ≡ o → KeepsDevices t (console_out t addr len o)
-console_keeps t addr len None is = refl
-console_keeps t addr len (Some d) is = output_keeps t d addr len (first_without (may_read t.memory) addr len) is
+effect_keeps : (t : Top) (c : Call) → KeepsDevices t (effect_of t c)
+effect_keeps t (named.Ret value) = refl
+effect_keeps t (named.ConsoleOut addr len) = device_keeps t t.devices (console_out t addr len) refl (λ d. output_keeps t d addr len (first_without (may_read t.memory) addr len))
+effect_keeps t c = tt
 
 reading_keeps : (t : Top) (r : Result Call refusal.Badcall) → KeepsDevices t (by_reading t r)
 reading_keeps t (Err test) = refl
-reading_keeps t (Ok (named.Put x)) = tt
-reading_keeps t (Ok (named.Get x)) = tt
-reading_keeps t (Ok (named.Ret value)) = refl
-reading_keeps t (Ok (named.ConsoleOut addr len)) = console_keeps t addr len t.devices refl
+reading_keeps t (Ok c) = effect_keeps t c
 
 outcome_keeps : (levels : ℕ) (t : Top) (o : Outcome) → KeepsDevices t (after_outcome levels t o)
 outcome_keeps levels t (goes r) = refl
 outcome_keeps levels t (stores r at width value) = refl
-outcome_keeps levels t calls = reading_keeps t (read t.registers.x (has_devices t.devices) (8 - levels))
+outcome_keeps levels t calls = reading_keeps t (read t.registers.x (has_devices t.devices) (greatest_depth - levels))
 outcome_keeps levels t (traps number value) = refl
 
 -- a local event keeps a top sound

@@ -5,6 +5,7 @@ use Rattle.instruction_model.specs.Outcome.{view_of, Outcome, goes, stores, call
 use Rattle.call_model.specs.declared.Call.{Call}
 use Rattle.call_model.specs.declared.Call.TheVariants as named
 use Rattle.call_model.specs.declared.Badcall as refusal
+use Rattle.call_model.specs.Limits.{greatest_depth}
 use Rattle.call_model.specs.Reading.{read}
 use Rattle.space_model.specs.declared.Status.{Status}
 use Rattle.space_model.specs.declared.Status.TheVariants.{Running, Stopped}
@@ -30,6 +31,11 @@ abbrev pub charged : Top → Effect → Next
 charged t (becomes u) = moves (paid t u)
 charged t (asks k) = meets k (paid t t)
 
+-- what a call of a device does; the tests on registers let it through where there are devices alone
+abbrev pub with_devices : Top → Option Devices → (Devices → Effect) → Effect
+with_devices t None effect = becomes (stop t Badcall 6)
+with_devices t (Some d) effect = effect d
+
 -- the bytes of a range are appended to the console
 abbrev pub with_output : Top → Devices → List ℕ → Top
 with_output t d bytes = record t { devices = Some (record d { console = d.console ++ bytes }) }
@@ -38,22 +44,24 @@ abbrev pub output : Top → Devices → ℕ → ℕ → Option ℕ → Effect
 output t d addr len (Some a) = becomes (stop t LoadFault a)
 output t d addr len None = becomes (succeeded (with_output t d (bytes_from t.memory addr len)))
 
--- console out of a range, which has to be readable; the tests on registers let it through where there are devices alone
-abbrev pub console_out : Top → ℕ → ℕ → Option Devices → Effect
-console_out t addr len None = becomes (stop t Badcall 6)
-console_out t addr len (Some d) = output t d addr len (first_without (may_read t.memory) addr len)
+-- console out of a range, which has to be readable
+abbrev pub console_out : Top → ℕ → ℕ → Devices → Effect
+console_out t addr len d = output t d addr len (first_without (may_read t.memory) addr len)
 
--- what a call does that meets no child; the others are asked for
+-- what a call does; one that meets children is asked for
+abbrev pub effect_of : Top → Call → Effect
+effect_of t (named.Ret value) = becomes (stop (succeeded t) Ret value)
+effect_of t (named.ConsoleOut addr len) = with_devices t t.devices (console_out t addr len)
+effect_of t call = asks call
+
+-- what registers come to that name a call, or fail a test
 abbrev pub by_reading : Top → Result Call refusal.Badcall → Effect
 by_reading t (Err test) = becomes (stop t Badcall test.0)
-by_reading t (Ok (named.Put x)) = asks (named.Put x)
-by_reading t (Ok (named.Get x)) = asks (named.Get x)
-by_reading t (Ok (named.Ret value)) = becomes (stop (succeeded t) Ret value)
-by_reading t (Ok (named.ConsoleOut addr len)) = console_out t addr len t.devices
+by_reading t (Ok call) = effect_of t call
 
 -- ECALL with so many levels of children left below: the call that the registers name, or the first test that they fail
 abbrev pub call : ℕ → Top → Effect
-call levels t = by_reading t (read t.registers.x (has_devices t.devices) (8 - levels))
+call levels t = by_reading t (read t.registers.x (has_devices t.devices) (greatest_depth - levels))
 
 abbrev pub after_outcome : ℕ → Top → Outcome → Effect
 after_outcome levels t (goes r) = becomes (record t { registers = r })

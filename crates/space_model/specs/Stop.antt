@@ -1,5 +1,6 @@
 -- Causes and statuses: the number and the word of each cause.
-use Rattle.std.specs.Prelude.{◌≡◌, ℕ, List, Option, Some, None, ◌==◌, Bool, true, false, refl, codes, if◌then◌else◌}
+use Rattle.std.specs.Prelude.{◌≡◌, ℕ, List, [], ◌∷◌, Option, Some, None, unwrap_or, ◌==◌, Bool, true, false, refl, codes}
+use Rattle.std.specs.List.{find}
 use Rattle.std.specs.Coded.{Coded, coded_ℕ, coded_option, coded×, code_by}
 use Rattle.space_model.specs.declared.Status.{Status}
 use Rattle.space_model.specs.declared.Status.TheVariants.{Running, Stopped}
@@ -22,11 +23,14 @@ cause_number Fuel = 19
 cause_number Ret = 20
 cause_number Fresh = 21
 
+abbrev pub causes : List Cause
+causes =
+    FetchMisaligned ∷ FetchFault ∷ Illegal ∷ Breakpoint ∷ LoadMisaligned ∷ LoadFault ∷ StoreMisaligned ∷ StoreFault
+    ∷ Badcall ∷ Conflict ∷ Limit ∷ Fuel ∷ Ret ∷ Fresh ∷ []
+
+-- the cause that has this number; where there is none, that of a space that has never run
 abbrev pub cause_of : ℕ → Cause
-cause_of n =
-    if n == 0 then FetchMisaligned else if n == 1 then FetchFault else if n == 2 then Illegal else if n == 3 then Breakpoint
-    else if n == 4 then LoadMisaligned else if n == 5 then LoadFault else if n == 6 then StoreMisaligned else if n == 7 then StoreFault
-    else if n == 16 then Badcall else if n == 17 then Conflict else if n == 18 then Limit else if n == 19 then Fuel else if n == 20 then Ret else Fresh
+cause_of n = unwrap_or (find (λ c. n == cause_number c) causes) Fresh
 
 pub cause_of-cause_number : (c : Cause) → cause_of (cause_number c) ≡ c
 cause_of-cause_number FetchMisaligned = refl

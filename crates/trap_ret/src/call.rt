@@ -3,11 +3,12 @@ ghost use Rattle.call_model.specs.Tests as table;
 ghost use Rattle.call_model.specs.Reading as reading;
 ghost use Rattle.call_model.specs.Reading.{IsAccepted};
 
-use crate::tests_on_registers::{
-    argument, is_get, is_put, is_ret, outside_root, too_deep, too_long, unknown_number,
-    wrong_block, wrong_child, wrong_options, wrong_range,
+use crate::checks::{
+    argument, outside_root, too_deep, too_long, wrong_block, wrong_child, wrong_options,
+    wrong_range,
 };
-use call_model::{Badcall, Call, Transfer};
+use crate::kinds::kind_of;
+use call_model::{Badcall, Call, Kind, Transfer};
 use std::marker::Model;
 
 /// A call that passed the tests on registers. Options of Put and Get stand together; with Copy, Zero or Perm the destination
@@ -58,51 +59,45 @@ fn transfer(x: &[u32; 32]) -> Transfer
     }
 }
 
-// The number of the first test that fails.
-fn first_failing(x: &[u32; 32], is_root: bool, depth: u8) -> Option<u8>
-    ensures { result ≡ table.first_failing x.now is_root depth }
+// The number of the first test that a call of this kind fails.
+fn first_failing(kind: Kind, x: &[u32; 32], is_root: bool, depth: u8) -> Option<u8>
+    ensures { result ≡ table.first_failing kind x.now is_root depth }
 {
-    if unknown_number(x) {
-        Some(1)
-    } else if wrong_options(x) {
+    if wrong_options(kind, x) {
         Some(2)
-    } else if wrong_child(x) {
+    } else if wrong_child(kind, x) {
         Some(3)
-    } else if wrong_range(x) {
+    } else if wrong_range(kind, x) {
         Some(4)
-    } else if outside_root(x, is_root) {
+    } else if outside_root(kind, is_root) {
         Some(6)
-    } else if too_long(x) {
+    } else if too_long(kind, x) {
         Some(7)
-    } else if too_deep(x, depth) {
+    } else if too_deep(kind, depth) {
         Some(8)
-    } else if wrong_block(x) {
+    } else if wrong_block(kind, x) {
         Some(9)
     } else {
         None
     }
 }
 
-// The call of registers that fail no test.
-#[tactic(auto, unfolding(call_model::specs::Reading::named, call_model::specs::Tests::unknown_number, call_model::specs::Tests::wrong_child))]
-fn named(x: &[u32; 32]) -> Call
-    requires number { table.unknown_number x.now ≡ false }
-    requires child { table.wrong_child x.now ≡ false }
-    ensures { result ≡ reading.named x.now }
+// The call of a kind, with registers that fail no test.
+#[tactic(auto, unfolding(call_model::specs::Tests::wrong_child))]
+fn named(kind: Kind, x: &[u32; 32]) -> Call
+    requires { table.wrong_child kind x.now ≡ false }
+    ensures { result ≡ reading.named kind x.now }
 {
-    if is_put(x) {
-        Call::Put(transfer(x))
-    } else if is_get(x) {
-        Call::Get(transfer(x))
-    } else if is_ret(x) {
-        Call::Ret {
+    match kind {
+        Kind::Put => Call::Put(transfer(x)),
+        Kind::Get => Call::Get(transfer(x)),
+        Kind::Ret => Call::Ret {
             value: argument(x, 0),
-        }
-    } else {
-        Call::ConsoleOut {
+        },
+        Kind::ConsoleOut => Call::ConsoleOut {
             addr: argument(x, 1),
             len: argument(x, 2),
-        }
+        },
     }
 }
 
@@ -118,12 +113,17 @@ fn named(x: &[u32; 32]) -> Call
 /// 7. console out of more than 65,536 bytes;
 /// 8. Put at depth 8;
 /// 9. a register block at no multiple of 4, or above 0xFFFFFF78.
-#[tactic(auto, using(call_model::proofs::Accepted::named_accepted, call_model::proofs::Accepted::named_number, call_model::proofs::Accepted::named_child))]
+#[tactic(auto, using(call_model::proofs::Accepted::named_accepted, call_model::proofs::Accepted::named_child))]
 pub fn read_call(x: &[u32; 32], is_root: bool, depth: u8) -> Result<AcceptedCall, Badcall>
     ensures { result ≡ reading.read x.now is_root depth }
 {
-    match first_failing(x, is_root, depth) {
+    let Some(kind) = kind_of(argument(x, 7)) else {
+        return Err(Badcall(1));
+    };
+    match first_failing(kind, x, is_root, depth) {
         Some(number) => Err(Badcall(number)),
-        None => Ok(AcceptedCall { call: named(x) }),
+        None => Ok(AcceptedCall {
+            call: named(kind, x),
+        }),
     }
 }

@@ -4,8 +4,10 @@
 mod block;
 mod call;
 mod causes;
+mod checks;
+mod kinds;
+pub mod limits;
 pub mod options;
-mod tests_on_registers;
 
 pub use block::{read_block, reread_block, rewrite_block, write_block};
 pub use call::{AcceptedCall, read_call};

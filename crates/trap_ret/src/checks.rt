@@ -2,22 +2,9 @@ ghost use Rattle.std.specs.Prelude.{◌≡◌, ◌+◌, ◌<◌};
 ghost use Rattle.call_model.specs.Options as options_of;
 ghost use Rattle.call_model.specs.Tests as table;
 
+use crate::limits::{GREATEST_CHILD, GREATEST_DEPTH, LAST_BLOCK, LONGEST_PIECE, PAGE_SIZE};
 use crate::options::{COPY, KNOWN, LIMIT, PERM, PERMISSION, REGS, START, ZERO, has};
-
-const PUT: u32 = 1;
-
-const GET: u32 = 2;
-
-const RET: u32 = 3;
-
-const CONSOLE_OUT: u32 = 4;
-
-// The deepest level of a space.
-const DEEPEST: u8 = 8;
-// The longest piece that one call writes to the console.
-const LONGEST: u32 = 65_536;
-// The highest address from which on there are 136 bytes.
-const HIGHEST_BLOCK: u32 = 0xFFFF_FF78;
+use call_model::Kind;
 
 /// Argument `number` of a call, below 8: register a0 and those above it.
 #[inline(always)]
@@ -63,7 +50,7 @@ fn passes_end(address: u32, size: u32) -> bool
 fn is_no_range(address: u32, size: u32) -> bool
     ensures { result ≡ options_of.is_no_range address size }
 {
-    address % 4096 != 0 || size % 4096 != 0 || passes_end(address, size)
+    address % PAGE_SIZE != 0 || size % PAGE_SIZE != 0 || passes_end(address, size)
 }
 
 #[tactic(auto, unfolding(call_model::specs::Options::bad_ranges))]
@@ -78,106 +65,89 @@ fn bad_ranges(options: u32, source: u32, destination: u32, size: u32) -> bool
 fn bad_block(options: u32, block: u32) -> bool
     ensures { result ≡ options_of.bad_block options block }
 {
-    has(options, REGS) && (block % 4 != 0 || block > HIGHEST_BLOCK)
-}
-
-pub(crate) fn is_put(x: &[u32; 32]) -> bool
-    ensures { result ≡ table.is_put x.now }
-{
-    argument(x, 7) == PUT
-}
-
-pub(crate) fn is_get(x: &[u32; 32]) -> bool
-    ensures { result ≡ table.is_get x.now }
-{
-    argument(x, 7) == GET
-}
-
-pub(crate) fn is_ret(x: &[u32; 32]) -> bool
-    ensures { result ≡ table.is_ret x.now }
-{
-    argument(x, 7) == RET
-}
-
-fn is_console_out(x: &[u32; 32]) -> bool
-    ensures { result ≡ table.is_console_out x.now }
-{
-    argument(x, 7) == CONSOLE_OUT
-}
-
-fn is_transfer(x: &[u32; 32]) -> bool
-    ensures { result ≡ table.is_transfer x.now }
-{
-    is_put(x) || is_get(x)
-}
-
-/// Test 1: a7 is no call number.
-#[tactic(auto, unfolding(call_model::specs::Tests::unknown_number))]
-pub(crate) fn unknown_number(x: &[u32; 32]) -> bool
-    ensures { result ≡ table.unknown_number x.now }
-{
-    !(is_transfer(x) || is_ret(x) || is_console_out(x))
+    has(options, REGS) && (block % 4 != 0 || block > LAST_BLOCK)
 }
 
 /// Test 2: options that do not stand, or do not stand together.
 #[tactic(auto, unfolding(call_model::specs::Tests::wrong_options))]
-pub(crate) fn wrong_options(x: &[u32; 32]) -> bool
-    ensures { result ≡ table.wrong_options x.now }
+pub(crate) fn wrong_options(kind: Kind, x: &[u32; 32]) -> bool
+    ensures { result ≡ table.wrong_options kind x.now }
 {
-    (is_put(x) && bad_put_options(argument(x, 0))) || (is_get(x) && bad_get_options(argument(x, 0)))
+    match kind {
+        Kind::Put => bad_put_options(argument(x, 0)),
+        Kind::Get => bad_get_options(argument(x, 0)),
+        _ => false,
+    }
 }
 
-/// Test 3: a child number above 65,535.
+/// Test 3: a child number above the greatest.
 #[tactic(auto, unfolding(call_model::specs::Tests::wrong_child))]
-pub(crate) fn wrong_child(x: &[u32; 32]) -> bool
-    ensures { result ≡ table.wrong_child x.now }
+pub(crate) fn wrong_child(kind: Kind, x: &[u32; 32]) -> bool
+    ensures { result ≡ table.wrong_child kind x.now }
 {
-    is_transfer(x) && argument(x, 1) > 65_535
+    match kind {
+        Kind::Put | Kind::Get => argument(x, 1) > GREATEST_CHILD,
+        _ => false,
+    }
 }
 
 /// Test 4: a range of Put or Get, or the bytes of console out.
 #[tactic(auto, unfolding(call_model::specs::Tests::wrong_range))]
-pub(crate) fn wrong_range(x: &[u32; 32]) -> bool
-    ensures { result ≡ table.wrong_range x.now }
+pub(crate) fn wrong_range(kind: Kind, x: &[u32; 32]) -> bool
+    ensures { result ≡ table.wrong_range kind x.now }
 {
-    (is_transfer(x)
-        && bad_ranges(
+    match kind {
+        Kind::Put | Kind::Get => bad_ranges(
             argument(x, 0),
             argument(x, 3),
             argument(x, 4),
             argument(x, 5),
-        ))
-        || (is_console_out(x) && passes_end(argument(x, 1), argument(x, 2)))
+        ),
+        Kind::ConsoleOut => passes_end(argument(x, 1), argument(x, 2)),
+        _ => false,
+    }
 }
 
 /// Test 6: a call of a device outside the root.
 #[tactic(auto, unfolding(call_model::specs::Tests::outside_root))]
-pub(crate) fn outside_root(x: &[u32; 32], is_root: bool) -> bool
-    ensures { result ≡ table.outside_root x.now is_root }
+pub(crate) fn outside_root(kind: Kind, is_root: bool) -> bool
+    ensures { result ≡ table.outside_root kind is_root }
 {
-    is_console_out(x) && !is_root
+    match kind {
+        Kind::ConsoleOut => !is_root,
+        _ => false,
+    }
 }
 
-/// Test 7: a length above 65,536.
+/// Test 7: a length above the longest.
 #[tactic(auto, unfolding(call_model::specs::Tests::too_long))]
-pub(crate) fn too_long(x: &[u32; 32]) -> bool
-    ensures { result ≡ table.too_long x.now }
+pub(crate) fn too_long(kind: Kind, x: &[u32; 32]) -> bool
+    ensures { result ≡ table.too_long kind x.now }
 {
-    is_console_out(x) && argument(x, 2) > LONGEST
+    match kind {
+        Kind::ConsoleOut => argument(x, 2) > LONGEST_PIECE,
+        _ => false,
+    }
 }
 
-/// Test 8: Put at depth 8.
+/// Test 8: a child that would be deeper than the deepest.
 #[tactic(auto, unfolding(call_model::specs::Tests::too_deep))]
-pub(crate) fn too_deep(x: &[u32; 32], depth: u8) -> bool
-    ensures { result ≡ table.too_deep x.now depth }
+pub(crate) fn too_deep(kind: Kind, depth: u8) -> bool
+    ensures { result ≡ table.too_deep kind depth }
 {
-    is_put(x) && depth == DEEPEST
+    match kind {
+        Kind::Put => depth == GREATEST_DEPTH,
+        _ => false,
+    }
 }
 
 /// Test 9: a register block that does not stand in memory.
 #[tactic(auto, unfolding(call_model::specs::Tests::wrong_block))]
-pub(crate) fn wrong_block(x: &[u32; 32]) -> bool
-    ensures { result ≡ table.wrong_block x.now }
+pub(crate) fn wrong_block(kind: Kind, x: &[u32; 32]) -> bool
+    ensures { result ≡ table.wrong_block kind x.now }
 {
-    is_transfer(x) && bad_block(argument(x, 0), argument(x, 2))
+    match kind {
+        Kind::Put | Kind::Get => bad_block(argument(x, 0), argument(x, 2)),
+        _ => false,
+    }
 }

@@ -1,0 +1,18 @@
+-- The kinds of calls and their numbers in register a7.
+use Rattle.std.specs.Prelude.{ℕ, ◌==◌, List, [], ◌∷◌, Option}
+use Rattle.std.specs.List.{find}
+use Rattle.call_model.specs.declared.Kind.{Kind}
+use Rattle.call_model.specs.declared.Kind.TheVariants.{Put, Get, Ret, ConsoleOut}
+
+abbrev pub number_of : Kind → ℕ
+number_of Put = 1
+number_of Get = 2
+number_of Ret = 3
+number_of ConsoleOut = 4
+
+abbrev pub kinds : List Kind
+kinds = Put ∷ Get ∷ Ret ∷ ConsoleOut ∷ []
+
+-- the kind of call that has this number, if there is one
+abbrev pub kind_of : ℕ → Option Kind
+kind_of n = find (λ k. n == number_of k) kinds

@@ -1,0 +1,22 @@
+-- The numbers that bound what a call may name.
+use Rattle.std.specs.Prelude.{ℕ}
+
+-- the greatest number of a child
+abbrev pub greatest_child : ℕ
+greatest_child = 65535
+
+-- the depth of the deepest spaces; the root is at depth 0
+abbrev pub greatest_depth : ℕ
+greatest_depth = 8
+
+-- the bytes of a page
+abbrev pub page_size : ℕ
+page_size = 4096
+
+-- the most bytes that one call writes
+abbrev pub longest_piece : ℕ
+longest_piece = 65536
+
+-- the last address from which on there are the 136 bytes of a register block
+abbrev pub last_block : ℕ
+last_block = 0xFFFFFF78

@@ -1,0 +1,17 @@
+ghost use Rattle.std.specs.Prelude.{◌≡◌};
+ghost use Rattle.call_model.specs.Kinds as table;
+
+use call_model::Kind;
+
+/// The kind of call that has this number, if there is one.
+pub(crate) fn kind_of(number: u32) -> Option<Kind>
+    ensures { result ≡ table.kind_of number }
+{
+    match number {
+        1 => Some(Kind::Put),
+        2 => Some(Kind::Get),
+        3 => Some(Kind::Ret),
+        4 => Some(Kind::ConsoleOut),
+        _ => None,
+    }
+}

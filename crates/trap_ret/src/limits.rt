@@ -1,0 +1,16 @@
+//! The numbers that bound what a call may name.
+
+/// The greatest number of a child.
+pub const GREATEST_CHILD: u32 = 65_535;
+
+/// The depth of the deepest spaces; the root is at depth 0.
+pub const GREATEST_DEPTH: u8 = 8;
+
+/// The bytes of a page.
+pub const PAGE_SIZE: u32 = 4096;
+
+/// The most bytes that one call writes.
+pub const LONGEST_PIECE: u32 = 65_536;
+
+/// The last address from which on there are the 136 bytes of a register block.
+pub const LAST_BLOCK: u32 = 0xFFFF_FF78;
