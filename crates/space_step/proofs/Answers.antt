@@ -10,10 +10,10 @@ use Rattle.call_model.specs.Reading.{read}
 use Rattle.space_model.specs.Sound.{has_devices}
 use Rattle.space_model.specs.Space.{Top, Devices}
 use Rattle.space_model.specs.Change.{paid}
-use Rattle.space_model.specs.Event.{Effect, becomes, asks, charged, output, console_out, by_reading, call, after_outcome, instruction, MayPay}
+use Rattle.space_model.specs.Event.{Effect, becomes, asks, charged, with_devices, output, console_out, effect_of, by_reading, call, after_outcome, instruction, MayPay}
 use Rattle.space_step.specs.declared.event.Next.{Next}
 use Rattle.space_step.specs.declared.event.Next.TheVariants as answers
-use Rattle.space_step.specs.Steps.{IsNext, answer_to}
+use Rattle.space_step.specs.Steps.{IsNext, answer_of, answer_to}
 use Rattle.space_step.specs.Stretch.{is_call}
 use Rattle.space_step.proofs.Events.{next_pays}
 
@@ -33,16 +33,18 @@ output_is_local : (t : Top) (d : Devices) (addr len : ℕ) (o : Option ℕ) → 
 output_is_local t d addr len (Some a) = (_, refl)
 output_is_local t d addr len None = (_, refl)
 
-console_is_local : (t : Top) (addr len : ℕ) (o : Option Devices) → IsEffect answers.Local (console_out t addr len o)
-console_is_local t addr len None = (_, refl)
-console_is_local t addr len (Some d) = output_is_local t d addr len (first_without (may_read t.memory) addr len)
+device_is_local : (t : Top) (o : Option Devices) (f : Devices → Effect) → ((d : Devices) → IsEffect answers.Local (f d)) → IsEffect answers.Local (with_devices t o f)
+device_is_local t None f local = (_, refl)
+device_is_local t (Some d) f local = local d
 
-pub reading_is : (t : Top) (r : Result Call refusal.Badcall) → IsEffect (answer_to r) (by_reading t r)
+call_is : (t : Top) (c : Call) → IsEffect (answer_of c) (effect_of t c)
+call_is t (named.Ret value) = (_, refl)
+call_is t (named.ConsoleOut addr len) = device_is_local t t.devices (console_out t addr len) (λ d. output_is_local t d addr len (first_without (may_read t.memory) addr len))
+call_is t c = refl
+
+reading_is : (t : Top) (r : Result Call refusal.Badcall) → IsEffect (answer_to r) (by_reading t r)
 reading_is t (Err test) = (_, refl)
-reading_is t (Ok (named.Put x)) = refl
-reading_is t (Ok (named.Get x)) = refl
-reading_is t (Ok (named.Ret value)) = (_, refl)
-reading_is t (Ok (named.ConsoleOut addr len)) = console_is_local t addr len t.devices
+reading_is t (Ok c) = call_is t c
 
 -- where the instruction may be paid for, its effect is next
 pub next_is_effect : (levels : ℕ) (t : Top) (a : Next) → MayPay t → IsEffect a (instruction levels t) → IsNext levels a t

@@ -33,13 +33,16 @@ answer event.rests = answers.Stopped
 answer (event.moves t) = answers.Local
 answer (event.meets k t) = answers.Meet k
 
--- the answer to what a call does
+-- the answer to a call: a local event, or a call that meets children
+abbrev pub answer_of : Call → Next
+answer_of (named.Ret value) = answers.Local
+answer_of (named.ConsoleOut addr len) = answers.Local
+answer_of call = answers.Meet call
+
+-- the answer to registers that name a call, or fail a test
 abbrev pub answer_to : Result Call refusal.Badcall → Next
 answer_to (Err test) = answers.Local
-answer_to (Ok (named.Put x)) = answers.Meet (named.Put x)
-answer_to (Ok (named.Get x)) = answers.Meet (named.Get x)
-answer_to (Ok (named.Ret value)) = answers.Local
-answer_to (Ok (named.ConsoleOut addr len)) = answers.Local
+answer_to (Ok call) = answer_of call
 
 -- fuel, use and limit are the same
 pub record PaysNothing (old new : Top) : Type 0 where

@@ -28,7 +28,7 @@ fn write_console(top: &mut Top, alloc: Global, addr: u32, len: u32) -> Result<()
 // Console out of a range of memory.
 fn console_out(top: &mut Top, addr: u32, len: u32) -> Result<(), AllocError>
     requires { addr + len ≤ 2 ^ 32 }
-    ensures { Does (event.console_out top.old addr len top.old.devices) result top.old top.new }
+    ensures { Does (event.with_devices top.old top.old.devices (event.console_out top.old addr len)) result top.old top.new }
 {
     let Some(devices) = &top.devices else {
         top.stop(Cause::Badcall, 6);
@@ -44,23 +44,32 @@ fn console_out(top: &mut Top, addr: u32, len: u32) -> Result<(), AllocError>
     Ok(())
 }
 
-// What a call does, by what registers say, but for what it costs. A call that meets a child is left to do.
-fn act(top: &mut Top, reading: Result<AcceptedCall, Badcall>) -> Result<Next, AllocError>
-    requires { IfOk reading IsAccepted }
+// What a call does, but for what it costs. A call that meets children is left to do.
+fn act(top: &mut Top, accepted: AcceptedCall) -> Result<Next, AllocError>
+    ensures { Acts (event.effect_of top.old accepted) result top.old top.new }
+{
+    match accepted.call() {
+        Call::Ret { value } => {
+            top.succeed();
+            top.stop(Cause::Ret, value);
+        }
+        Call::ConsoleOut { addr, len } => console_out(top, addr, len)?,
+        _ => return Ok(Next::Meet(accepted)),
+    }
+    Ok(Next::Local)
+}
+
+// The same of what registers say, which may fail a test.
+fn act_as_read(top: &mut Top, reading: Result<AcceptedCall, Badcall>) -> Result<Next, AllocError>
     ensures { Acts (event.by_reading top.old reading) result top.old top.new }
 {
     match reading {
-        Err(Badcall(test)) => top.stop(Cause::Badcall, u32::from(test)),
-        Ok(accepted) => match accepted.call() {
-            Call::Put(_) | Call::Get(_) => return Ok(Next::Meet(accepted)),
-            Call::Ret { value } => {
-                top.succeed();
-                top.stop(Cause::Ret, value);
-            }
-            Call::ConsoleOut { addr, len } => console_out(top, addr, len)?,
-        },
+        Ok(accepted) => act(top, accepted),
+        Err(Badcall(test)) => {
+            top.stop(Cause::Badcall, u32::from(test));
+            Ok(Next::Local)
+        }
     }
-    Ok(Next::Local)
 }
 
 /// The ECALL at pc of a space that may pay for it, at a depth of at most 8: a local event, which is done and paid for, or a
@@ -74,7 +83,7 @@ pub(crate) fn call(top: &mut Top, depth: u8) -> Result<Next, AllocError>
     ensures { Steps (8 - depth) result top.old top.new }
 {
     let reading = read_call(&top.registers.x, top.has_devices(), depth);
-    match act(top, reading)? {
+    match act_as_read(top, reading)? {
         Next::Local => {
             top.pay(1);
             Ok(Next::Local)

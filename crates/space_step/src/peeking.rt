@@ -2,7 +2,7 @@ ghost use Rattle.std.specs.Prelude.{◌≡◌, ◌-◌, ◌≤◌};
 ghost use Rattle.instruction_model.specs.Outcome.{view_of, outcome};
 ghost use Rattle.space_model.specs.Sound.{has_devices};
 ghost use Rattle.call_model.specs.Reading.{read};
-ghost use Rattle.space_step.specs.Steps.{IsNext, answer_to};
+ghost use Rattle.space_step.specs.Steps.{IsNext, answer_of, answer_to};
 ghost use Rattle.space_step.specs.Stretch.{is_call};
 
 use crate::event::Next;
@@ -12,7 +12,7 @@ use rv_exec::Regs;
 use space_mem::Mem;
 use space_model::Status;
 use space_tree::Top;
-use trap_ret::{Call, read_call};
+use trap_ret::{AcceptedCall, Call, read_call};
 
 // Whether an ECALL stands at pc and is next.
 #[tactic(auto, unfolding(instruction_model::specs::Outcome::outcome))]
@@ -31,15 +31,22 @@ fn is_at_call(registers: &Regs, memory: &Mem) -> bool
     }
 }
 
-// What a call is to a space at a depth: a local event, or a call that meets a child.
+// What a call is: a local event, or a call that meets children.
+fn answer_of(accepted: AcceptedCall) -> Next
+    ensures { result ≡ answer_of accepted }
+{
+    match accepted.call() {
+        Call::Ret { .. } | Call::ConsoleOut { .. } => Next::Local,
+        _ => Next::Meet(accepted),
+    }
+}
+
+// What an ECALL is to a space at a depth.
 fn answer_to_call(top: &Top, depth: u8) -> Next
     ensures { result ≡ answer_to (read top.now.registers.x (has_devices top.now.devices) depth) }
 {
     match read_call(&top.registers.x, top.has_devices(), depth) {
-        Ok(accepted) => match accepted.call() {
-            Call::Put(_) | Call::Get(_) => Next::Meet(accepted),
-            Call::Ret { .. } | Call::ConsoleOut { .. } => Next::Local,
-        },
+        Ok(accepted) => answer_of(accepted),
         Err(_) => Next::Local,
     }
 }
