@@ -1,9 +1,6 @@
 -- What is next of a space, as calls answer it.
 use Rattle.std.specs.Prelude.{◌≡◌, ℕ, Result, Ok, Err}
 use Rattle.std.specs.declared.alloc.AllocError.{AllocError}
-use Rattle.call_model.specs.declared.Call.TheVariants as named
-use Rattle.call_model.specs.declared.Call.{Call}
-use Rattle.call_model.specs.declared.Badcall as refusal
 use Rattle.space_step.specs.declared.event.Next.{Next}
 use Rattle.space_step.specs.declared.event.Next.TheVariants as answers
 use Rattle.space_model.specs.Space.{Top}
@@ -33,16 +30,16 @@ answer event.rests = answers.Stopped
 answer (event.moves t) = answers.Local
 answer (event.meets k t) = answers.Meet k
 
--- the answer to a call: a local event, or a call that meets children
-abbrev pub answer_of : Call → Next
-answer_of (named.Ret value) = answers.Local
-answer_of (named.ConsoleOut addr len) = answers.Local
-answer_of call = answers.Meet call
+-- an effect that meets no child
+abbrev pub IsLocal : event.Effect → Type 0
+IsLocal (event.becomes t) = Unit {0}
+IsLocal (event.asks call) = ⊥
 
--- the answer to registers that name a call, or fail a test
-abbrev pub answer_to : Result Call refusal.Badcall → Next
-answer_to (Err test) = answers.Local
-answer_to (Ok call) = answer_of call
+-- the answer to an effect: a local event, or a call that meets children
+abbrev pub IsAnswer : Next → event.Effect → Type 0
+IsAnswer answers.Local effect = IsLocal effect
+IsAnswer (answers.Meet k) effect = effect ≡ event.asks k
+IsAnswer answers.Stopped effect = ⊥
 
 -- fuel, use and limit are the same
 pub record PaysNothing (old new : Top) : Type 0 where

@@ -1,8 +1,10 @@
 ghost use Rattle.std.specs.Prelude.{◌≡◌, ◌-◌, ◌≤◌};
 ghost use Rattle.instruction_model.specs.Outcome.{view_of, outcome};
 ghost use Rattle.space_model.specs.Sound.{has_devices};
+ghost use Rattle.space_model.specs.Space as model;
 ghost use Rattle.call_model.specs.Reading.{read};
-ghost use Rattle.space_step.specs.Steps.{IsNext, answer_of, answer_to};
+ghost use Rattle.space_model.specs.Event.{effect_of, by_reading};
+ghost use Rattle.space_step.specs.Steps.{IsNext, IsAnswer};
 ghost use Rattle.space_step.specs.Stretch.{is_call};
 
 use crate::event::Next;
@@ -32,8 +34,9 @@ fn is_at_call(registers: &Regs, memory: &Mem) -> bool
 }
 
 // What a call is: a local event, or a call that meets children.
+#[tactic(auto, using(crate::proofs::Answers::console_is_local))]
 fn answer_of(accepted: AcceptedCall) -> Next
-    ensures { result ≡ answer_of accepted }
+    ensures { (t : model.Top) → IsAnswer result (effect_of t accepted) }
 {
     match accepted.call() {
         Call::Ret { .. } | Call::ConsoleOut { .. } => Next::Local,
@@ -43,7 +46,7 @@ fn answer_of(accepted: AcceptedCall) -> Next
 
 // What an ECALL is to a space at a depth.
 fn answer_to_call(top: &Top, depth: u8) -> Next
-    ensures { result ≡ answer_to (read top.now.registers.x (has_devices top.now.devices) depth) }
+    ensures { IsAnswer result (by_reading top.now (read top.now.registers.x (has_devices top.now.devices) depth)) }
 {
     match read_call(&top.registers.x, top.has_devices(), depth) {
         Ok(accepted) => answer_of(accepted),
@@ -52,7 +55,6 @@ fn answer_to_call(top: &Top, depth: u8) -> Next
 }
 
 // What is next of a space that runs.
-#[tactic(auto, using(crate::proofs::Answers::call_is_next, crate::proofs::Answers::no_call_is_next))]
 fn peek_running(top: &Top, depth: u8) -> Next
     requires depth { depth ≤ 8 }
     requires running { top.now.status ≡ Status.Running }
