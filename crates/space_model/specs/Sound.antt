@@ -1,6 +1,7 @@
--- What holds of every space that is reached: no space is deeper than 8, numbers of children rise and are below 65,536, fuel and used
--- add to one number in all, and the root alone has devices.
+-- What holds of every space that is reached: no space is deeper than the greatest depth, numbers of children rise and are below
+-- 65,536, fuel and used add to one number in all, and the root alone has devices.
 use Rattle.std.specs.Prelude.{◌≡◌, ℕ, zero, suc, ◌+◌, ◌^◌, ◌<◌, ◌≤◌, Option, Some, None, Bool, true, false}
+use Rattle.call_model.specs.Limits.{greatest_depth}
 use Rattle.space_model.specs.Space.{Space, space, Children, none, child, Top, Devices}
 
 abbrev pub has_devices : Option Devices → Bool
@@ -25,4 +26,4 @@ abbrev mutual
 
 -- a whole tree, from its root on
 abbrev pub IsSound : Space → Type 0
-IsSound s = (fuel : ℕ) × ((1 ≤ fuel) × (fuel < 2 ^ 32) × IsSoundAt 8 true fuel s)
+IsSound s = (fuel : ℕ) × ((1 ≤ fuel) × (fuel < 2 ^ 32) × IsSoundAt greatest_depth true fuel s)

@@ -24,12 +24,6 @@ abbrev pub Steps : ℕ → Result Next AllocError → Top → Top → Type 0
 Steps levels (Ok n) old new = Answers levels n old new
 Steps levels (Err e) old new = new ≡ old
 
--- the answer to what is next
-abbrev pub answer : event.Next → Next
-answer event.rests = answers.Stopped
-answer (event.moves t) = answers.Local
-answer (event.meets k t) = answers.Meet k
-
 -- an effect that meets no child
 abbrev pub IsLocal : event.Effect → Type 0
 IsLocal (event.becomes t) = Unit {0}
