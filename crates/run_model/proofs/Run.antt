@@ -1,13 +1,14 @@
 -- How a space runs until it stops, over what its children do when they are waited for: by its next events, and until it has stopped.
-use Rattle.std.proofs.Common.{◌≡◌, ℕ, zero, suc, ◌≤◌, Bool, true, false, cond, Option, Some, None, refl, sym, ap, ◌∙◌, subst, arith}
+use Rattle.std.proofs.Common.{◌≡◌, ℕ, zero, suc, ◌≤◌, Bool, true, false, cond, List, Option, Some, None, refl, sym, ap, ◌∙◌, subst, arith}
 use Rattle.call_model.specs.declared.Transfer.{Transfer}
 use Rattle.call_model.specs.declared.Call.{Call}
 use Rattle.call_model.specs.declared.Call.TheVariants.{Put, Get, Ret, ConsoleOut}
 use Rattle.space_model.specs.Stop.{is_stopped}
 use Rattle.space_model.specs.Space.{Space, space, Children, Top, top_of, children_of, find, over}
-use Rattle.memory_model.specs.Memory.{may_read, may_write}
-use Rattle.space_model.specs.Call.{itself, first_top, seen_of, apply_meeting}
-use Rattle.space_model.specs.Meeting.{awaits, meet, refused, put_meeting, get_meeting}
+use Rattle.space_model.specs.declared.Refusal.{Refusal}
+use Rattle.space_model.specs.Call.{Seen, Meeting, itself, first_top, seen_of, apply_meeting}
+use Rattle.space_model.specs.Meeting.{awaits, meet, or_fresh, refusals, first_refusal, action, unless_refused}
+use Rattle.space_model.proofs.Parts.{caller_alike}
 use Rattle.space_model.specs.Event.{Next, rests, moves, meets, next, Follows}
 use Rattle.space_model.proofs.Children.{over_missing, over-at}
 use Rattle.run_model.specs.Demand.{Meaning, run_for, wait_for, wait_for_child, go_on, meaning, run, of_children, left_of}
@@ -30,19 +31,20 @@ run_on-follows f levels zero t u cs is = ap (λ v. run_on f levels (space v cs))
 run_on-follows f levels (suc n) t u cs is = run_on-moves f levels t is.0 cs is.1 ∙ run_on-follows f levels n is.0 u cs is.2
 
 -- a call changes nothing of what its caller has paid
-put_fuel : (x : Transfer) (u : Top) (cs : Children) (o : Option Top) (a : Option ℕ) → (top_of (apply_meeting (put_meeting x u o a) cs)).fuel ≡ u.fuel
-put_fuel x u cs o (Some a) = refl
-put_fuel x u cs o None = refl
+action_fuel : (k : Call) (u : Top) (seen : List Seen) (cs : Children) → (top_of (apply_meeting (action k u seen) cs)).fuel ≡ u.fuel
+action_fuel (Put x) u seen cs = refl
+action_fuel (Get x) u seen cs = (caller_alike x (or_fresh u (first_top seen)) u).fuel
+action_fuel (Ret value) u seen cs = refl
+action_fuel (ConsoleOut addr len) u seen cs = refl
 
-get_fuel : (x : Transfer) (u : Top) (cs : Children) (o : Option Top) (a : Option ℕ) → (top_of (apply_meeting (get_meeting x u o a) cs)).fuel ≡ u.fuel
-get_fuel x u cs o (Some a) = refl
-get_fuel x u cs o None = refl
+unless_fuel : (o : Option Refusal) (u : Top) (m : Meeting) (cs : Children) → (top_of (apply_meeting m cs)).fuel ≡ u.fuel → (top_of (apply_meeting (unless_refused o u m) cs)).fuel ≡ u.fuel
+unless_fuel None u m cs acts = acts
+unless_fuel (Some r) u m cs acts = refl
 
-pub meet_fuel : (k : Call) (u : Top) (cs : Children) → (top_of (meet k u cs)).fuel ≡ u.fuel
-meet_fuel (Put x) u cs = put_fuel x u cs (first_top (seen_of (awaits (Put x)) cs)) (refused x (may_read u.memory))
-meet_fuel (Get x) u cs = get_fuel x u cs (first_top (seen_of (awaits (Get x)) cs)) (refused x (may_write u.memory))
-meet_fuel (Ret value) u cs = refl
-meet_fuel (ConsoleOut addr len) u cs = refl
+pub meet_fuel : (levels : ℕ) (k : Call) (u : Top) (cs : Children) → (top_of (meet levels k u cs)).fuel ≡ u.fuel
+meet_fuel levels k u cs =
+    let seen = seen_of (awaits k) cs in
+    unless_fuel (first_refusal (refusals levels k u seen)) u (action k u seen) cs (action_fuel k u seen cs)
 
 -- a call takes one unit
 pub call_costs : (levels : ℕ) (t u : Top) (k : Call) → next levels t ≡ meets k u → suc u.fuel ≡ t.fuel
@@ -50,13 +52,13 @@ call_costs levels t u k e = subst (CostsOrEnds levels t) e (next_costs levels t)
 
 -- after a call, once the children that it waits for have run, it goes on
 pub run_on-meets : (f : Meaning) (levels : ℕ) (t u : Top) (k : Call) (cs : Children) → next levels t ≡ meets k u
-    → run_on f levels (space t cs) ≡ run_on f levels (meet k u (wait_for f (awaits k) cs).children)
+    → run_on f levels (space t cs) ≡ run_on f levels (meet levels k u (wait_for f (awaits k) cs).children)
 unfolding run_for
 run_on-meets f levels t u k cs e =
     let cs' = (wait_for f (awaits k) cs).children in
-    let turns : t.fuel ≡ suc (top_of (meet k u cs')).fuel = sym (call_costs levels t u k e) ∙ ap suc (sym (meet_fuel k u cs')) in
-    let first : (run_for f levels (suc t.fuel) (space t cs)).space ≡ (run_for f levels t.fuel (meet k u cs')).space = rw e refl in
-    first ∙ ap (λ n. (run_for f levels n (meet k u cs')).space) turns
+    let turns : t.fuel ≡ suc (top_of (meet levels k u cs')).fuel = sym (call_costs levels t u k e) ∙ ap suc (sym (meet_fuel levels k u cs')) in
+    let first : (run_for f levels (suc t.fuel) (space t cs)).space ≡ (run_for f levels t.fuel (meet levels k u cs')).space = rw e refl in
+    first ∙ ap (λ n. (run_for f levels n (meet levels k u cs')).space) turns
 
 -- what becomes of the child that Put or Get waits for
 wait_one : (f : Meaning) (n : ℕ) (cs : Children) (o : Option Space) → find n cs ≡ o
@@ -106,7 +108,7 @@ runs_out f levels zero s h = left_none (is_stopped (top_of s).status) (top_of s)
 runs_out f levels (suc n) s h = go (next levels (top_of s)) refl (runs_out f levels n)
   where
     go : (x : Next) → next levels (top_of s) ≡ x → ((r : Space) → left_of (top_of r) ≤ n → is_stopped (top_of (run_for f levels n r).space).status ≡ true)
-        → is_stopped (top_of (go_on x s f (run_for f levels n)).space).status ≡ true
+        → is_stopped (top_of (go_on levels x s f (run_for f levels n)).space).status ≡ true
     go rests e rec = rests_stopped levels (top_of s) e
     go (moves u) e rec =
         let fewer = left_falls levels (top_of s) u e in
@@ -114,9 +116,9 @@ runs_out f levels (suc n) s h = go (next levels (top_of s)) refl (runs_out f lev
         rec (space u (children_of s)) few
     go (meets k u) e rec =
         let t = top_of s in
-        let after = meet k u (wait_for f (awaits k) (children_of s)).children in
+        let after = meet levels k u (wait_for f (awaits k) (children_of s)).children in
         let costs = call_costs levels t u k e in
-        let fuel = meet_fuel k u (wait_for f (awaits k) (children_of s)).children in
+        let fuel = meet_fuel levels k u (wait_for f (awaits k) (children_of s)).children in
         let now = running_left (is_stopped t.status) (suc t.fuel) (not_stopped levels t (meets k u) e (λ z. cc) (is_stopped t.status) refl) in
         let later = left_at_most (is_stopped (top_of after).status) (suc (top_of after).fuel) in
         let few : left_of (top_of after) ≤ n = omega arith in

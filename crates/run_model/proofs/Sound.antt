@@ -29,7 +29,7 @@ wait_for_sound f levels fuel (a ∷ others) cs kept ok =
     wait_for_sound f levels fuel others (wait_for_child f a cs (find a.number cs)).children kept (wait_for_child_sound f levels fuel a cs (find a.number cs) kept ok refl)
 
 -- a call that is next keeps its caller sound
-pub next_meets_sound : (levels : ℕ) (root : Bool) (fuel : ℕ) (t u : Top) (k : Call) (cs : Children) → next levels t ≡ meets k u → IsSoundTop fuel root t → AreSound levels fuel 0 cs → IsSoundAt levels root fuel (meet k u cs)
+pub next_meets_sound : (levels : ℕ) (root : Bool) (fuel : ℕ) (t u : Top) (k : Call) (cs : Children) → next levels t ≡ meets k u → IsSoundTop fuel root t → AreSound levels fuel 0 cs → IsSoundAt levels root fuel (meet levels k u cs)
 next_meets_sound levels root fuel t u k cs e top ok =
     let call = next_meets levels t k u e in
     rw call.paid (meet_sound levels root fuel k t cs call.may call.pays.fuel (top, ok))
@@ -39,7 +39,7 @@ unfolding run_for
 run_for_sound f levels root fuel zero s kept ok = ok
 run_for_sound f levels root fuel (suc n) (space t cs) kept ok = go (next levels t) refl (λ r h. run_for_sound f levels root fuel n r kept h)
   where
-    go : (x : Next) → next levels t ≡ x → ((r : Space) → IsSoundAt levels root fuel r → IsSoundAt levels root fuel (run_for f levels n r).space) → IsSoundAt levels root fuel (go_on x (space t cs) f (run_for f levels n)).space
+    go : (x : Next) → next levels t ≡ x → ((r : Space) → IsSoundAt levels root fuel r → IsSoundAt levels root fuel (run_for f levels n r).space) → IsSoundAt levels root fuel (go_on levels x (space t cs) f (run_for f levels n)).space
     go rests e rec = ok
     go (moves u) e rec = rec (space u cs) (next_sound levels fuel root t u e ok.0, ok.1)
     go (meets k u) e rec = rec _ (next_meets_sound levels root fuel t u k (wait_for f (awaits k) cs).children e ok.0 (wait_for_sound f levels fuel (awaits k) cs kept ok.1))
@@ -70,7 +70,7 @@ unfolding boot
 boot_sound i d fuel low high = (fuel, (low, high, (record { sum = omega arith; devices = refl }, tt)))
 
 -- an event at a path
-pub event_sound : (levels : ℕ) (root : Bool) (fuel : ℕ) (t : Top) (cs : Children) (x : Next) → next levels t ≡ x → IsSoundAt levels root fuel (space t cs) → IsSoundAt levels root fuel (event x (space t cs))
+pub event_sound : (levels : ℕ) (root : Bool) (fuel : ℕ) (t : Top) (cs : Children) (x : Next) → next levels t ≡ x → IsSoundAt levels root fuel (space t cs) → IsSoundAt levels root fuel (event levels x (space t cs))
 event_sound levels root fuel t cs rests e ok = ok
 event_sound levels root fuel t cs (moves u) e ok = (next_sound levels fuel root t u e ok.0, ok.1)
 event_sound levels root fuel t cs (meets k u) e ok = next_meets_sound levels root fuel t u k cs e ok.0 ok.1

@@ -35,19 +35,19 @@ wait_for f (a ∷ others) cs = and_then (wait_for_child f a cs (find a.number cs
 abbrev pub with_events : ℕ → Ran → Ran
 with_events n r = record { space = r.space; events = n + r.events }
 
--- the caller after a call, and the events until then
-abbrev pub met : Call → Top → Waited → (Space → Ran) → Ran
-met k t w again = with_events (w.events + 1) (again (meet k t w.children))
+-- the caller after a call, with so many levels of children left below it, and the events until then
+abbrev pub met : ℕ → Call → Top → Waited → (Space → Ran) → Ran
+met levels k t w again = with_events (w.events + 1) (again (meet levels k t w.children))
 
-abbrev pub go_on : Next → Space → Meaning → (Space → Ran) → Ran
-go_on rests s f again = record { space = s; events = 0 }
-go_on (moves t) s f again = with_events 1 (again (space t (children_of s)))
-go_on (meets k t) s f again = met k t (wait_for f (awaits k) (children_of s)) again
+abbrev pub go_on : ℕ → Next → Space → Meaning → (Space → Ran) → Ran
+go_on levels rests s f again = record { space = s; events = 0 }
+go_on levels (moves t) s f again = with_events 1 (again (space t (children_of s)))
+go_on levels (meets k t) s f again = met levels k t (wait_for f (awaits k) (children_of s)) again
 
 -- a space runs until it stops, over what its children do when they are waited for, for at most so many events of its own
 unfoldable pub run_for : Meaning → ℕ → ℕ → Space → Ran
 run_for f levels zero s = record { space = s; events = 0 }
-run_for f levels (suc n) s = go_on (next levels (top_of s)) s f (run_for f levels n)
+run_for f levels (suc n) s = go_on levels (next levels (top_of s)) s f (run_for f levels n)
 
 -- every child, whole
 abbrev pub everyone : Children → List Await

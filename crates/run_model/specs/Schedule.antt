@@ -23,10 +23,11 @@ may_happen rests cs = false
 may_happen (moves t) cs = true
 may_happen (meets k t) cs = are_ready (awaits k) cs
 
-abbrev pub event : Next → Space → Space
-event rests s = s
-event (moves t) s = space t (children_of s)
-event (meets k t) s = meet k t (children_of s)
+-- what becomes of a space by the event that is next, with so many levels of children left below it
+abbrev pub event : ℕ → Next → Space → Space
+event levels rests s = s
+event levels (moves t) s = space t (children_of s)
+event levels (meets k t) s = meet levels k t (children_of s)
 
 abbrev pub on_child : (Space → Bool) → Option Space → Bool
 on_child f None = false
@@ -39,7 +40,7 @@ enabled (n ∷ p) levels s = on_child (enabled p (pred levels)) (find n (childre
 
 -- the event at a path, where a space stands there
 abbrev pub step : List ℕ → ℕ → Space → Space
-step [] levels s = event (next levels (top_of s)) s
+step [] levels s = event levels (next levels (top_of s)) s
 step (n ∷ p) levels s = under (over n (step p (pred levels))) s
 
 -- the event at a path where it may happen, else nothing

@@ -1,4 +1,5 @@
 pub mod Entries
 pub mod Children
+pub mod Parts
 pub mod Sound
 pub mod Next

@@ -1,20 +1,22 @@
 -- What looking up, changing and putting a child, at a path too, and what a call does to a space keep of a sound tree.
 -- Forms for callers: `find_sound` is of a child that was found, `over_sound` and `put_sound` of one that was changed or put,
 -- `with_top_sound` and `with_space_sound` of what stands at a path, and `meet_sound` of a call.
-use Rattle.std.proofs.Common.{◌≡◌, ℕ, zero, suc, pred, ◌-◌, ◌==◌, ◌≤◌, ◌<◌, ◌≢◌, Bool, true, false, cond, List, [], ◌∷◌, length, get_or, Option, Some, None, refl, subst, arith, nat_lt}
+use Rattle.std.proofs.Common.{◌≡◌, ℕ, zero, suc, pred, ◌+◌, ◌-◌, ◌==◌, ◌≤◌, ◌<◌, ◌≢◌, Bool, true, false, cond, List, [], ◌∷◌, length, get_or, Option, Some, None, refl, ap, ap₂, ◌∙◌, subst, arith, nat_lt}
 use Rattle.std.proofs.lemmas.Bool.Decides.{nat_tests}
 use Rattle.std.specs.Prelude.{option_map}
-use Rattle.memory_model.specs.Memory.{may_read, may_write}
 use Rattle.call_model.specs.declared.Transfer.{Transfer}
 use Rattle.call_model.specs.declared.Call.{Call}
 use Rattle.call_model.specs.declared.Call.TheVariants.{Put, Get, Ret, ConsoleOut}
+use Rattle.space_model.specs.declared.Refusal.{Refusal}
 use Rattle.space_model.specs.Space.{Space, space, Children, none, child, Top, top_of, children_of, find, over, has, enter, put_child}
-use Rattle.space_model.specs.Sound.{IsSoundTop, IsSoundAt, AreSound}
+use Rattle.space_model.specs.Sound.{has_devices, IsSoundTop, IsSoundAt, AreSound}
 use Rattle.space_model.specs.Path.{with_top, with_space, is_root}
 use Rattle.space_model.specs.Change.{paid}
-use Rattle.space_model.specs.Call.{below, apply_meeting}
+use Rattle.space_model.specs.Call.{Meeting, below, seen_of, apply_meeting}
+use Rattle.space_model.specs.Part.{child_after, caller_after}
 use Rattle.space_model.specs.Event.{MayPay}
-use Rattle.space_model.specs.Meeting.{MayMeet, meet, child_after, or_fresh, put_meeting, get_meeting, refused}
+use Rattle.space_model.specs.Meeting.{MayMeet, awaits, meet, or_fresh, refusals, first_refusal, action, unless_refused}
+use Rattle.space_model.proofs.Parts.{IsAlike, child_alike, caller_alike}
 
 same_number : (n m : ℕ) → (n == m) ≡ true → n ≡ m
 same_number n m e = grind (arith, nat_tests)
@@ -116,37 +118,52 @@ with_space_sound (n ∷ m ∷ p) levels root fuel r (space t cs) long fit new ok
 pub paid_sound : (fuel : ℕ) (root : Bool) (t u : Top) → 0 < t.fuel → IsSoundTop fuel root t → IsSoundTop fuel root u → IsSoundTop fuel root (paid t u)
 paid_sound fuel root t u some old new = let total = old.sum in record { sum = omega arith; devices = new.devices }
 
+-- a top with a sound one's fuel, use and devices
+alike_sound : (fuel : ℕ) (root : Bool) (t u : Top) → IsAlike t u → IsSoundTop fuel root t → IsSoundTop fuel root u
+alike_sound fuel root t u a ok = record { sum = ap₂ (λ m n. m + n) a.fuel a.used ∙ ok.sum; devices = ap has_devices a.devices ∙ ok.devices }
+
 -- the child of a Put stays as sound as it was, and a fresh one is sound
 child_sound : (levels : ℕ) (root : Bool) (fuel : ℕ) (x : Transfer) (u : Top) (o : Option Space) → IsSoundTop fuel root u
     → ((c : Space) → o ≡ Some c → IsSoundAt levels false fuel c) → IsSoundAt levels false fuel (space (child_after x u (or_fresh u (option_map top_of o))) (below o))
-child_sound levels root fuel x u None top found = let total = top.sum in (record { sum = omega arith; devices = refl }, tt)
-child_sound levels root fuel x u (Some (space t cs)) top found = let ok = found (space t cs) refl in (record { sum = ok.0.sum; devices = ok.0.devices }, ok.1)
+child_sound levels root fuel x u None top found =
+    let total = top.sum in
+    let c = or_fresh u None in
+    let ok : IsSoundTop fuel false c = record { sum = omega arith; devices = refl } in
+    (alike_sound fuel false c (child_after x u c) (child_alike x u c) ok, tt)
+child_sound levels root fuel x u (Some (space t cs)) top found = let ok = found (space t cs) refl in (alike_sound fuel false t (child_after x u t) (child_alike x u t) ok.0, ok.1)
 
 -- the same of any sound children
 pub found_sound : (levels fuel n : ℕ) (cs : Children) → AreSound levels fuel 0 cs → (c : Space) → find n cs ≡ Some c → IsSoundAt (pred levels) false fuel c
 found_sound zero fuel n cs ok c is = let none = no_child fuel 0 n cs ok in cc
 found_sound (suc levels) fuel n cs ok c is = (find_sound levels fuel 0 n cs c ok is).1
 
-put_meets_sound : (levels : ℕ) (root : Bool) (fuel : ℕ) (x : Transfer) (u : Top) (cs : Children) (o : Option ℕ) → 1 ≤ levels → x.child < 65536 → IsSoundTop fuel root u → AreSound levels fuel 0 cs
-    → IsSoundAt levels root fuel (apply_meeting (put_meeting x u (option_map top_of (find x.child cs)) o) cs)
-put_meets_sound levels root fuel x u cs (Some a) some high top ok = (record { sum = top.sum; devices = top.devices }, ok)
-put_meets_sound levels root fuel x u cs None some high top ok = (
+-- what a call of a sound caller does that no test stops
+action_sound : (levels : ℕ) (root : Bool) (fuel : ℕ) (k : Call) (u : Top) (cs : Children) → MayMeet levels k → IsSoundTop fuel root u → AreSound levels fuel 0 cs
+    → IsSoundAt levels root fuel (apply_meeting (action k u (seen_of (awaits k) cs)) cs)
+action_sound levels root fuel (Put x) u cs may top ok = (
   record { sum = top.sum; devices = top.devices },
-  put_sound levels fuel x.child _ cs some ok high (child_sound (pred levels) root fuel x u (find x.child cs) top (found_sound levels fuel x.child cs ok)),
+  put_sound levels fuel x.child _ cs may.0 ok may.1 (child_sound (pred levels) root fuel x u (find x.child cs) top (found_sound levels fuel x.child cs ok)),
 )
+action_sound levels root fuel (Get x) u cs may top ok =
+    let c = or_fresh u (option_map top_of (find x.child cs)) in
+    let after = alike_sound fuel root u (caller_after x c u) (caller_alike x c u) top in
+    (record { sum = after.sum; devices = after.devices }, ok)
+action_sound levels root fuel (Ret value) u cs may top ok = absurd may
+action_sound levels root fuel (ConsoleOut addr len) u cs may top ok = absurd may
 
-get_meets_sound : (levels : ℕ) (root : Bool) (fuel : ℕ) (x : Transfer) (u : Top) (cs : Children) (o : Option ℕ) → IsSoundTop fuel root u → AreSound levels fuel 0 cs
-    → IsSoundAt levels root fuel (apply_meeting (get_meeting x u (option_map top_of (find x.child cs)) o) cs)
-get_meets_sound levels root fuel x u cs (Some a) top ok = (record { sum = top.sum; devices = top.devices }, ok)
-get_meets_sound levels root fuel x u cs None top ok = (record { sum = top.sum; devices = top.devices }, ok)
+-- a caller that stops is as sound as it was
+unless_sound : (levels : ℕ) (root : Bool) (fuel : ℕ) (o : Option Refusal) (u : Top) (m : Meeting) (cs : Children) → IsSoundTop fuel root u → AreSound levels fuel 0 cs
+    → IsSoundAt levels root fuel (apply_meeting m cs) → IsSoundAt levels root fuel (apply_meeting (unless_refused o u m) cs)
+unless_sound levels root fuel None u m cs top ok acts = acts
+unless_sound levels root fuel (Some r) u m cs top ok acts = (record { sum = top.sum; devices = top.devices }, ok)
 
 -- a call of a sound caller that pays for it
-pub meet_sound : (levels : ℕ) (root : Bool) (fuel : ℕ) (k : Call) (t : Top) (cs : Children) → MayMeet levels k → 0 < t.fuel → IsSoundAt levels root fuel (space t cs) → IsSoundAt levels root fuel (meet k (paid t t) cs)
-meet_sound levels root fuel (Put x) t cs may some ok = put_meets_sound levels root fuel x (paid t t) cs (refused x (may_read t.memory)) may.0 may.1 (paid_sound fuel root t t some ok.0 ok.0) ok.1
-meet_sound levels root fuel (Get x) t cs may some ok = get_meets_sound levels root fuel x (paid t t) cs (refused x (may_write t.memory)) (paid_sound fuel root t t some ok.0 ok.0) ok.1
-meet_sound levels root fuel (Ret value) t cs may some ok = absurd may
-meet_sound levels root fuel (ConsoleOut addr len) t cs may some ok = absurd may
+pub meet_sound : (levels : ℕ) (root : Bool) (fuel : ℕ) (k : Call) (t : Top) (cs : Children) → MayMeet levels k → 0 < t.fuel → IsSoundAt levels root fuel (space t cs) → IsSoundAt levels root fuel (meet levels k (paid t t) cs)
+meet_sound levels root fuel k t cs may some ok =
+    let top = paid_sound fuel root t t some ok.0 ok.0 in
+    let seen = seen_of (awaits k) cs in
+    unless_sound levels root fuel (first_refusal (refusals levels k (paid t t) seen)) (paid t t) (action k (paid t t) seen) cs top ok.1 (action_sound levels root fuel k (paid t t) cs may top ok.1)
 
 -- the same of a space as a call of code has it
-pub meeting_sound : (levels : ℕ) (root : Bool) (fuel : ℕ) (k : Call) (s : Space) → MayMeet levels k → MayPay (top_of s) → IsSoundAt levels root fuel s → IsSoundAt levels root fuel (meet k (paid (top_of s) (top_of s)) (children_of s))
+pub meeting_sound : (levels : ℕ) (root : Bool) (fuel : ℕ) (k : Call) (s : Space) → MayMeet levels k → MayPay (top_of s) → IsSoundAt levels root fuel s → IsSoundAt levels root fuel (meet levels k (paid (top_of s) (top_of s)) (children_of s))
 meeting_sound levels root fuel k (space t cs) may pays ok = meet_sound levels root fuel k t cs may pays.fuel ok

@@ -5,5 +5,6 @@ pub mod Path
 pub mod Change
 pub mod Block
 pub mod Call
+pub mod Part
 pub mod Meeting
 pub mod Event

@@ -1,17 +1,19 @@
--- What Put and Get do once the child that they name has stopped (OSDI 2010, "Efficient System-Enforced Deterministic Parallelism",
--- the section on the kernel interface: the options Regs, Copy, Zero, Perm, Start and Limit of Put and Get).
-use Rattle.std.specs.Prelude.{ℕ, ◌+◌, ◌/◌, List, [], ◌∷◌, Option, Some, None, Bool, if◌then◌else◌, replicate, ◌≤◌, ◌<◌}
-use Rattle.memory_model.specs.Memory.{Memory, no_memory, may_read, may_write, first_without, with_permissions}
-use Rattle.memory_model.specs.Ranges.{with_zeros, with_copies}
+-- What calls that meet children do once the children that they wait for are ready (OSDI 2010, "Efficient System-Enforced Deterministic
+-- Parallelism", the section on the kernel interface). A meeting is its tests, in their order, and what it does where none of them stops the
+-- caller; so all tests come before any change.
+use Rattle.std.specs.Prelude.{ℕ, ◌+◌, List, [], ◌∷◌, Option, Some, None, option_map, Bool, if◌then◌else◌, replicate, ◌≤◌, ◌<◌}
+use Rattle.memory_model.specs.Memory.{no_memory, may_read, may_write, first_without}
 use Rattle.call_model.specs.declared.Transfer.{Transfer}
 use Rattle.call_model.specs.declared.Call.{Call}
-use Rattle.call_model.specs.declared.Call.TheVariants.{Put, Get, Ret, ConsoleOut}
-use Rattle.call_model.specs.Options.{has, regs, copy, zeroing, perm, start, limited, permission}
+use Rattle.call_model.specs.declared.Call.TheVariants.{Put, Get}
+use Rattle.call_model.specs.Options.{has, regs}
+use Rattle.space_model.specs.declared.Cause.{Cause}
 use Rattle.space_model.specs.declared.Cause.TheVariants.{LoadFault, StoreFault, Fresh}
-use Rattle.space_model.specs.declared.Status.TheVariants.{Running, Stopped}
+use Rattle.space_model.specs.declared.Status.TheVariants.{Stopped}
+use Rattle.space_model.specs.declared.Refusal.{Refusal}
 use Rattle.space_model.specs.Space.{Space, Children, Top}
 use Rattle.space_model.specs.Change.{stop, succeeded}
-use Rattle.space_model.specs.Block.{registers_at, with_block}
+use Rattle.space_model.specs.Part.{child_after, caller_after}
 use Rattle.space_model.specs.Call.{Await, itself, Seen, change, Meeting, seen_of, first_top, apply_meeting}
 
 -- a space that has never run, with so much fuel
@@ -32,71 +34,50 @@ abbrev pub or_fresh : Top → Option Top → Top
 or_fresh t None = fresh (t.fuel + t.used)
 or_fresh t (Some c) = c
 
--- bytes and permissions of the destination's range: copied from a source, or bytes 0, or as they are
-abbrev pub moved : Transfer → Memory → Memory → Memory
-moved x source m =
-    if has copy x.options then with_copies m source (x.source / 4096) (x.destination / 4096) (x.size / 4096)
-    else if has zeroing x.options then with_zeros m (x.destination / 4096) (x.size / 4096)
-    else m
-
--- then the permission of the destination's range
-abbrev pub transferred : Transfer → Memory → Memory → Memory
-transferred x source m =
-    if has perm x.options then with_permissions (moved x source m) (x.destination / 4096) (x.size / 4096) (permission x.options)
-    else moved x source m
-
--- the child after a Put of this caller
-abbrev pub child_after : Transfer → Top → Top → Top
-child_after x t c = record {
-  registers = if has regs x.options then registers_at t.memory x.block else c.registers;
-  memory = transferred x t.memory c.memory;
-  snapshot = c.snapshot;
-  limit = if has start x.options then (if has limited x.options then Some x.limit else None) else c.limit;
-  fuel = c.fuel;
-  used = c.used;
-  status = if has start x.options then Running else c.status;
-  devices = c.devices;
-}
-
--- the caller's memory after a Get of this child
-abbrev pub memory_after : Transfer → Top → Memory → Memory
-memory_after x c m =
-    if has regs x.options then with_block (transferred x c.memory m) x.block c
-    else transferred x c.memory m
-
--- with Regs, the least address of the register block that lacks a right
-abbrev pub refused : Transfer → (ℕ → Bool) → Option ℕ
-refused x right = if has regs x.options then first_without right x.block 136 else None
-
-abbrev pub put_meeting : Transfer → Top → Option Top → Option ℕ → Meeting
-put_meeting x t o (Some a) = record { caller = stop t LoadFault a; edits = [] }
-put_meeting x t o None = record { caller = succeeded t; edits = change x.child (child_after x t (or_fresh t o)) ∷ [] }
-
-abbrev pub get_meeting : Transfer → Top → Option Top → Option ℕ → Meeting
-get_meeting x t o (Some a) = record { caller = stop t StoreFault a; edits = [] }
-get_meeting x t o None = record { caller = succeeded (record t { memory = memory_after x (or_fresh t o) t.memory }); edits = [] }
-
 -- the children that a call waits for, in this order
 abbrev pub awaits : Call → List Await
 awaits (Put x) = record { number = x.child; reach = itself } ∷ []
 awaits (Get x) = record { number = x.child; reach = itself } ∷ []
-awaits (Ret value) = []
-awaits (ConsoleOut addr len) = []
+awaits k = []
 
--- what a call does, of a caller that has paid for it, by what it sees of the children that it waits for, in their order
-abbrev pub meeting : Call → Top → List Seen → Meeting
-meeting (Put x) t seen = put_meeting x t (first_top seen) (refused x (may_read t.memory))
-meeting (Get x) t seen = get_meeting x t (first_top seen) (refused x (may_write t.memory))
-meeting (Ret value) t seen = record { caller = t; edits = [] }
-meeting (ConsoleOut addr len) t seen = record { caller = t; edits = [] }
+-- with Regs, the least address of the register block that lacks a right
+abbrev pub block_refusal : Transfer → Cause → (ℕ → Bool) → Option Refusal
+block_refusal x cause right = if has regs x.options then option_map (λ a. record { cause = cause; value = a }) (first_without right x.block 136) else None
+
+-- the tests of a call in their order, each with what it stops the caller for, where it does; of a caller with so many levels of children
+-- left below it, by what it sees of the children that it waits for
+abbrev pub refusals : ℕ → Call → Top → List Seen → List (Option Refusal)
+refusals levels (Put x) t seen = block_refusal x LoadFault (may_read t.memory) ∷ []
+refusals levels (Get x) t seen = block_refusal x StoreFault (may_write t.memory) ∷ []
+refusals levels k t seen = []
+
+-- the first that stops the caller
+abbrev pub first_refusal : List (Option Refusal) → Option Refusal
+first_refusal [] = None
+first_refusal (None ∷ others) = first_refusal others
+first_refusal (Some r ∷ others) = Some r
+
+-- what a call does that no test stops, in the order of its parts
+abbrev pub action : Call → Top → List Seen → Meeting
+action (Put x) t seen = record { caller = succeeded t; edits = change x.child (child_after x t (or_fresh t (first_top seen))) ∷ [] }
+action (Get x) t seen = record { caller = succeeded (caller_after x (or_fresh t (first_top seen)) t); edits = [] }
+action k t seen = record { caller = t; edits = [] }
+
+-- the caller stops, and nothing else changes; or the call acts
+abbrev pub unless_refused : Option Refusal → Top → Meeting → Meeting
+unless_refused None t acts = acts
+unless_refused (Some r) t acts = record { caller = stop t r.cause r.value; edits = [] }
+
+-- what a call does, of a caller that has paid for it, with so many levels of children left below the caller
+abbrev pub meeting : ℕ → Call → Top → List Seen → Meeting
+meeting levels k t seen = unless_refused (first_refusal (refusals levels k t seen)) t (action k t seen)
 
 -- the space after a call, once the children that it waits for are ready
-abbrev pub meet : Call → Top → Children → Space
-meet k t cs = apply_meeting (meeting k t (seen_of (awaits k) cs)) cs
+abbrev pub meet : ℕ → Call → Top → Children → Space
+meet levels k t cs = apply_meeting (meeting levels k t (seen_of (awaits k) cs)) cs
 
 -- a call that may meet a child, with so many levels of children left below its caller
 abbrev pub MayMeet : ℕ → Call → Type 0
 MayMeet levels (Put x) = (1 ≤ levels) × (x.child < 65536)
 MayMeet levels (Get x) = x.child < 65536
-MayMeet levels (Ret value) = ⊥
-MayMeet levels (ConsoleOut addr len) = ⊥
+MayMeet levels k = ⊥

@@ -42,3 +42,10 @@ pub enum Status {
     /// It has none until it is started again.
     Stopped { cause: Cause, value: u32 },
 }
+
+/// What stops the caller of a call that meets children, before the call has done anything.
+#[derive(Clone, Copy, Debug, PartialEq, Eq)]
+pub struct Refusal {
+    pub cause: Cause,
+    pub value: u32,
+}

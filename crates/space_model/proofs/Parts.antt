@@ -1,0 +1,52 @@
+-- What the parts of calls leave as it is: fuel, use and devices. A new part owes one line here.
+use Rattle.std.proofs.Common.{◌≡◌, ℕ, Bool, true, false, List, [], ◌∷◌, refl, ◌∙◌}
+use Rattle.call_model.specs.declared.Transfer.{Transfer}
+use Rattle.call_model.specs.Options.{has}
+use Rattle.space_model.specs.Space.{Top}
+use Rattle.space_model.specs.Part.{Part, optional, with_parts, put_parts, get_parts, child_after, caller_after}
+
+-- a top with the fuel, the use and the devices of another
+pub record IsAlike (t u : Top) : Type 0 where
+  pub fuel : u.fuel ≡ t.fuel
+  pub used : u.used ≡ t.used
+  pub devices : u.devices ≡ t.devices
+
+alike_itself : (t : Top) → IsAlike t t
+alike_itself t = record { fuel = refl; used = refl; devices = refl }
+
+alike_then : (t u v : Top) → IsAlike t u → IsAlike u v → IsAlike t v
+alike_then t u v a b = record { fuel = b.fuel ∙ a.fuel; used = b.used ∙ a.used; devices = b.devices ∙ a.devices }
+
+-- each of these parts leaves them
+abbrev AllKeep : List (ℕ × Part) → Type 0
+AllKeep [] = Unit {0}
+AllKeep (p ∷ ps) = ((t : Top) → IsAlike t (p.1 t)) × AllKeep ps
+
+optional_keeps : (asked : Bool) (p : Part) → ((t : Top) → IsAlike t (p t)) → (t : Top) → IsAlike t (optional asked p t)
+optional_keeps true p h t = h t
+optional_keeps false p h t = alike_itself t
+
+all_keep : (options : ℕ) (ps : List (ℕ × Part)) → AllKeep ps → (t : Top) → IsAlike t (with_parts options ps t)
+all_keep options [] h t = alike_itself t
+all_keep options (p ∷ ps) h t =
+    let u = optional (has p.0 options) p.1 t in
+    alike_then t u (with_parts options ps u) (optional_keeps (has p.0 options) p.1 h.0 t) (all_keep options ps h.1 u)
+
+pub child_alike : (x : Transfer) (t c : Top) → IsAlike c (child_after x t c)
+child_alike x t c =
+    all_keep x.options (put_parts x t) (
+      λ u. record { fuel = refl; used = refl; devices = refl },
+      (
+        λ u. record { fuel = refl; used = refl; devices = refl },
+        (λ u. record { fuel = refl; used = refl; devices = refl }, (λ u. record { fuel = refl; used = refl; devices = refl }, (λ u. record { fuel = refl; used = refl; devices = refl }, tt))),
+      ),
+    )
+    c
+
+pub caller_alike : (x : Transfer) (c t : Top) → IsAlike t (caller_after x c t)
+caller_alike x c t =
+    all_keep x.options (get_parts x c) (
+      λ u. record { fuel = refl; used = refl; devices = refl },
+      (λ u. record { fuel = refl; used = refl; devices = refl }, (λ u. record { fuel = refl; used = refl; devices = refl }, (λ u. record { fuel = refl; used = refl; devices = refl }, tt))),
+    )
+    t
