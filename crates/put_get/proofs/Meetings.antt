@@ -1,57 +1,150 @@
 -- What Put and Get are of a caller that pays.
-use Rattle.std.proofs.Common.{◌≡◌, ℕ, ◌+◌, ◌-◌, ◌<◌, List, Option, Some, None, refl, subst, sym, ◌∙◌, ap, arith, nat_cmp}
-use Rattle.std.specs.Prelude.{Bool, option_map, Result, Ok, Err, OnOk, OnErr}
+use Rattle.std.proofs.Common.{◌≡◌, ℕ, ◌+◌, ◌-◌, ◌<◌, List, [], ◌∷◌, Option, Some, None, refl, subst, sym, ◌∙◌, ap, arith, nat_cmp}
+use Rattle.std.specs.Prelude.{Bool, true, false, option_map, Result, Ok, Err, OnOk, OnErr}
 use Rattle.std.proofs.lemmas.Result.{on_ok_weaker}
 use Rattle.std.specs.BTreeMap.{is_at}
 use Rattle.std.specs.Map.{lookup}
-use Rattle.memory_model.specs.Memory.{may_read}
+use Rattle.memory_model.specs.Memory.{may_read, may_write}
 use Rattle.call_model.specs.declared.Transfer.{Transfer}
 use Rattle.call_model.specs.declared.Call.{Call}
-use Rattle.call_model.specs.declared.Call.TheVariants.{Put}
+use Rattle.call_model.specs.declared.Call.TheVariants.{Put, Get}
+use Rattle.call_model.specs.Options.{has}
+use Rattle.space_model.specs.declared.Refusal.{Refusal}
+use Rattle.space_model.specs.declared.Cause.TheVariants.{LoadFault, StoreFault}
 use Rattle.space_model.specs.Space.{Space, space, Children, Top, top_of, children_of, find, children_from}
-use Rattle.space_model.specs.Change.{paid, succeeded}
-use Rattle.space_model.specs.Call.{edit, change, apply_meeting}
+use Rattle.space_model.specs.Change.{paid, stop, succeeded}
+use Rattle.space_model.specs.Call.{edit, change, seen_of, apply_meeting}
 use Rattle.space_model.specs.Event.{MayPay}
-use Rattle.space_model.specs.Meeting.{fresh, or_fresh, child_after, memory_after, refused, put_meeting, meet, MayMeet}
+use Rattle.space_model.specs.Meeting.{fresh, or_fresh, awaits, block_refusal, first_refusal, action, unless_refused, meet, MayMeet}
+use Rattle.space_model.specs.Part.{Part, optional, with_parts, get_parts, child_after, caller_after}
 use Rattle.space_model.specs.Sound.{IsSoundAt}
 use Rattle.space_model.proofs.Entries.{find_entries}
 use Rattle.space_model.proofs.Sound.{meeting_sound}
+use Rattle.put_get.specs.Meetings.{refusal_of, with_action}
 
 -- a caller that has paid reads the same child
 pub or_fresh-paid : (t : Top) (o : Option Top) → 0 < t.fuel → or_fresh (paid t t) o ≡ or_fresh t o
 or_fresh-paid t None h = let same : (t.fuel - 1) + (t.used + 1) ≡ t.fuel + t.used = omega arith in ap fresh same
 or_fresh-paid t (Some c) h = refl
 
--- the caller's memory after a Get, by what a look-up found
+-- the caller after a Get, by what a look-up found
 abbrev pub with_taken : Transfer → Top → Option Space → Top
-with_taken x t o = record t { memory = memory_after x (or_fresh t (option_map top_of o)) t.memory }
+with_taken x t o = caller_after x (or_fresh t (option_map top_of o)) t
 
-pub taken_there : (x : Transfer) (t u c : Top) (s : Space) (es : List (ℕ × Space)) → Some s ≡ lookup (is_at (nat_cmp x.child)) es → c ≡ top_of s
-    → u ≡ record t { memory = memory_after x c t.memory } → u ≡ with_taken x t (find x.child (children_from es))
-taken_there x t u c s es at top is =
-    is ∙ ap (λ d. record t { memory = memory_after x d t.memory }) top ∙ ap (with_taken x t) (at ∙ find_entries x.child es)
+pub taken_there : (x : Transfer) (t u c : Top) (s : Space) (es : List (ℕ × Space)) → Some s ≡ lookup (is_at (nat_cmp x.child)) es → c ≡ top_of s → u ≡ caller_after x c t
+    → u ≡ with_taken x t (find x.child (children_from es))
+taken_there x t u c s es at top is = is ∙ ap (λ d. caller_after x d t) top ∙ ap (with_taken x t) (at ∙ find_entries x.child es)
 
-pub taken_missing : (x : Transfer) (t u : Top) (es : List (ℕ × Space)) → None ≡ lookup (is_at (nat_cmp x.child)) es
-    → u ≡ record t { memory = memory_after x (fresh (t.fuel + t.used)) t.memory } → u ≡ with_taken x t (find x.child (children_from es))
+pub taken_missing : (x : Transfer) (t u : Top) (es : List (ℕ × Space)) → None ≡ lookup (is_at (nat_cmp x.child)) es → u ≡ caller_after x (fresh (t.fuel + t.used)) t
+    → u ≡ with_taken x t (find x.child (children_from es))
 taken_missing x t u es at is = is ∙ ap (with_taken x t) (at ∙ find_entries x.child es)
 
-pub put_met : (x : Transfer) (s : Space) (t u : Top) (cs ds : Children) → space t cs ≡ s → 0 < (top_of s).fuel → None ≡ refused x (may_read t.memory)
-    → ds ≡ edit (change x.child (child_after x t (or_fresh t (option_map top_of (find x.child cs))))) cs → u ≡ succeeded (paid t t) → space u ds ≡ meet (Put x) (paid (top_of s) (top_of s)) (children_of s)
-put_met x s t u cs ds view some none edited went =
+-- a call with one test is stopped by that test
+one_test : (o : Option Refusal) → o ≡ first_refusal (o ∷ [])
+one_test None = refl
+one_test (Some r) = refl
+
+pub put_test : (levels : ℕ) (x : Transfer) (s : Space) (k : Call) → k ≡ Put x → block_refusal x LoadFault (may_read (top_of s).memory) ≡ refusal_of levels k s
+unfolding refusal_of
+put_test levels x s k is = one_test (block_refusal x LoadFault (may_read (top_of s).memory)) ∙ ap (λ l. refusal_of levels l s) (sym is)
+
+pub get_test : (levels : ℕ) (x : Transfer) (s : Space) (k : Call) → k ≡ Get x → block_refusal x StoreFault (may_write (top_of s).memory) ≡ refusal_of levels k s
+unfolding refusal_of
+get_test levels x s k is = one_test (block_refusal x StoreFault (may_write (top_of s).memory)) ∙ ap (λ l. refusal_of levels l s) (sym is)
+
+-- a part that neither reads nor writes what an event takes
+record Passes (p : Part) : Type 0 where
+  paid : (t : Top) → p (paid t t) ≡ paid (p t) (p t)
+  pays : (t : Top) → MayPay t → MayPay (p t)
+
+abbrev AllPass : List (ℕ × Part) → Type 0
+AllPass [] = Unit {0}
+AllPass (p ∷ ps) = Passes p.1 × AllPass ps
+
+optional_paid : (asked : Bool) (p : Part) (t : Top) → Passes p → optional asked p (paid t t) ≡ paid (optional asked p t) (optional asked p t)
+optional_paid true p t h = h.paid t
+optional_paid false p t h = refl
+
+optional_pays : (asked : Bool) (p : Part) (t : Top) → Passes p → MayPay t → MayPay (optional asked p t)
+optional_pays true p t h pays = h.pays t pays
+optional_pays false p t h pays = pays
+
+parts_paid : (options : ℕ) (ps : List (ℕ × Part)) (t : Top) → AllPass ps → with_parts options ps (paid t t) ≡ paid (with_parts options ps t) (with_parts options ps t)
+parts_paid options [] t h = refl
+parts_paid options (p ∷ ps) t h =
+    ap (with_parts options ps) (optional_paid (has p.0 options) p.1 t h.0) ∙ parts_paid options ps (optional (has p.0 options) p.1 t) h.1
+
+parts_pay : (options : ℕ) (ps : List (ℕ × Part)) (t : Top) → AllPass ps → MayPay t → MayPay (with_parts options ps t)
+parts_pay options [] t h pays = pays
+parts_pay options (p ∷ ps) t h pays = parts_pay options ps (optional (has p.0 options) p.1 t) h.1 (optional_pays (has p.0 options) p.1 t h.0 pays)
+
+-- the parts of a Get
+get_passes : (x : Transfer) (c : Top) → AllPass (get_parts x c)
+get_passes x c = (
+  record { paid = λ t. refl; pays = λ t h. record { running = h.running; fuel = h.fuel; limit = h.limit } },
+  (
+    record { paid = λ t. refl; pays = λ t h. record { running = h.running; fuel = h.fuel; limit = h.limit } },
+    (
+      record { paid = λ t. refl; pays = λ t h. record { running = h.running; fuel = h.fuel; limit = h.limit } },
+      (record { paid = λ t. refl; pays = λ t h. record { running = h.running; fuel = h.fuel; limit = h.limit } }, tt),
+    ),
+  ),
+)
+
+taken_paid : (x : Transfer) (c t : Top) → caller_after x c (paid t t) ≡ paid (caller_after x c t) (caller_after x c t)
+unfolding caller_after
+taken_paid x c t = parts_paid x.options (get_parts x c) t (get_passes x c)
+
+pub taken_pays : (x : Transfer) (c t u : Top) (s : Space) (cs : Children) → space t cs ≡ s → MayPay (top_of s) → u ≡ caller_after x c t → MayPay u
+unfolding caller_after
+taken_pays x c t u s cs view pays is = subst MayPay (sym is) (parts_pay x.options (get_parts x c) t (get_passes x c) (subst (λ r. MayPay (top_of r)) (sym view) pays))
+
+pub put_met : (x : Transfer) (s : Space) (t u : Top) (cs ds : Children) → space t cs ≡ s → 0 < (top_of s).fuel
+    → ds ≡ edit (change x.child (child_after x t (or_fresh t (option_map top_of (find x.child cs))))) cs → u ≡ succeeded (paid t t) → space u ds ≡ with_action (Put x) s
+unfolding with_action child_after
+put_met x s t u cs ds view some edited went =
     let p = paid t t in
     let o = option_map top_of (find x.child cs) in
     let fuel : 0 < t.fuel = subst (λ r. 0 < (top_of r).fuel) (sym view) some in
     ap (λ v. space v ds) went ∙ ap (space (succeeded p)) edited
     ∙ ap (λ c. space (succeeded p) (edit (change x.child (child_after x t c)) cs)) (sym (or_fresh-paid t o fuel))
-    ∙ ap (λ r. apply_meeting (put_meeting x p o r) cs) none ∙ ap (λ r. meet (Put x) (paid (top_of r) (top_of r)) (children_of r)) view
+    ∙ ap (with_action (Put x)) view
+
+pub get_met : (x : Transfer) (s : Space) (t u v : Top) (cs : Children) → space t cs ≡ s → 0 < (top_of s).fuel
+    → u ≡ caller_after x (or_fresh t (option_map top_of (find x.child cs))) t → v ≡ succeeded (paid u u) → space v cs ≡ with_action (Get x) s
+unfolding with_action caller_after
+get_met x s t u v cs view some taken went =
+    let o = option_map top_of (find x.child cs) in
+    let fuel : 0 < t.fuel = subst (λ r. 0 < (top_of r).fuel) (sym view) some in
+    ap (λ w. space w cs) (went ∙ ap (λ w. succeeded (paid w w)) taken ∙ ap succeeded (sym (taken_paid x (or_fresh t o) t)))
+    ∙ ap (λ c. space (succeeded (caller_after x c (paid t t))) cs) (sym (or_fresh-paid t o fuel))
+    ∙ ap (with_action (Get x)) view
+
+-- a meeting whose first test is known
+pub acts_met : (levels : ℕ) (k : Call) (s u : Space) → None ≡ refusal_of levels k s → u ≡ with_action k s → u ≡ meet levels k (paid (top_of s) (top_of s)) (children_of s)
+unfolding with_action refusal_of
+acts_met levels k s u first is =
+    let p = paid (top_of s) (top_of s) in
+    is ∙ ap (λ o. apply_meeting (unless_refused o p (action k p (seen_of (awaits k) (children_of s)))) (children_of s)) first
+
+pub stops_met : (levels : ℕ) (k : Call) (s : Space) (r : Refusal) (t u : Top) (cs : Children) → space t cs ≡ s → Some r ≡ refusal_of levels k s → u ≡ stop (paid t t) r.cause r.value
+    → space u cs ≡ meet levels k (paid (top_of s) (top_of s)) (children_of s)
+unfolding refusal_of
+stops_met levels k s r t u cs view first is =
+    let p = paid (top_of s) (top_of s) in
+    ap (λ v. space v cs) is ∙ ap (λ q. space (stop (paid (top_of q) (top_of q)) r.cause r.value) (children_of q)) view
+    ∙ ap (λ o. apply_meeting (unless_refused o p (action k p (seen_of (awaits k) (children_of s)))) (children_of s)) first
 
 -- the same call by another name
-pub met_as : {E : Type 0} (r : Result (Unit {0}) E) (k l : Call) (s u : Space) → k ≡ l → OnOk r (u ≡ meet k (paid (top_of s) (top_of s)) (children_of s)) → OnOk r (u ≡ meet l (paid (top_of s) (top_of s)) (children_of s))
-met_as r k l s u same met = on_ok_weaker r (λ e. e ∙ ap (λ m. meet m (paid (top_of s) (top_of s)) (children_of s)) same) met
+pub acted_as : {E : Type 0} (r : Result (Unit {0}) E) (k l : Call) (s u : Space) → k ≡ l → OnOk r (u ≡ with_action k s) → OnOk r (u ≡ with_action l s)
+acted_as r k l s u same met = on_ok_weaker r (λ e. e ∙ ap (λ m. with_action m s) same) met
 
 -- a space that met a child, or is as it was, is as sound as it was
+pub met_sound : (levels : ℕ) (k : Call) (s u : Space) → MayMeet levels k → MayPay (top_of s) → u ≡ meet levels k (paid (top_of s) (top_of s)) (children_of s)
+    → (root : Bool) (fuel : ℕ) → IsSoundAt levels root fuel s → IsSoundAt levels root fuel u
+met_sound levels k s u may pays met root fuel sound = subst (IsSoundAt levels root fuel) (sym met) (meeting_sound levels root fuel k s may pays sound)
+
 pub stays_sound : {E : Type 0} (r : Result (Unit {0}) E) (levels : ℕ) (k : Call) (s u : Space) → MayMeet levels k → MayPay (top_of s)
-    → OnOk r (u ≡ meet k (paid (top_of s) (top_of s)) (children_of s)) → OnErr r (u ≡ s) → (root : Bool) (fuel : ℕ) → IsSoundAt levels root fuel s → IsSoundAt levels root fuel u
-stays_sound (Ok done) levels k s u may pays met same root fuel sound =
-    subst (IsSoundAt levels root fuel) (sym met) (meeting_sound levels root fuel k s may pays sound)
+    → OnOk r (u ≡ meet levels k (paid (top_of s) (top_of s)) (children_of s)) → OnErr r (u ≡ s) → (root : Bool) (fuel : ℕ) → IsSoundAt levels root fuel s → IsSoundAt levels root fuel u
+stays_sound (Ok done) levels k s u may pays met same root fuel sound = met_sound levels k s u may pays met root fuel sound
 stays_sound (Err e) levels k s u may pays met same root fuel sound = subst (IsSoundAt levels root fuel) (sym same) sound

@@ -2,15 +2,16 @@ ghost use Rattle.std.specs.Prelude.{◌≡◌};
 ghost use Rattle.space_model.specs.Change.{paid, stop, succeeded};
 ghost use Rattle.space_model.specs.Event.{MayPay};
 
-use space_tree::{Cause, Top};
+use space_model::Refusal;
+use space_tree::Top;
 
 // The caller pays for its call and stops.
-pub fn trap(caller: &mut Top, cause: Cause, value: u32)
+pub fn trap(caller: &mut Top, refusal: Refusal)
     requires { MayPay caller.old }
-    ensures { caller.new ≡ stop (paid caller.old caller.old) cause value }
+    ensures { caller.new ≡ stop (paid caller.old caller.old) refusal.cause refusal.value }
 {
     caller.pay(1);
-    caller.stop(cause, value);
+    caller.stop(refusal.cause, refusal.value);
 }
 
 // The caller pays for its call, which has succeeded.

@@ -1,46 +1,74 @@
-ghost use Rattle.std.specs.Prelude.{◌≡◌, ◌+◌, IfOk, OnOk, OnErr, if◌then◌else◌, Some, None, option_map};
+ghost use Rattle.std.specs.Prelude.{◌≡◌, ◌+◌, IfOk, OnOk, OnErr, option_map};
 ghost use Rattle.call_model.specs.Options as options_of;
 ghost use Rattle.call_model.specs.declared.Call.TheVariants.{Put};
 ghost use Rattle.call_model.specs.Reading.{IsTransfer};
+ghost use Rattle.space_model.specs.Block.{registers_at};
 ghost use Rattle.space_model.specs.Call.{edit, change};
-ghost use Rattle.space_model.specs.Change.{paid};
 ghost use Rattle.space_model.specs.Event.{MayPay};
-ghost use Rattle.space_model.specs.Meeting.{child_after, fresh, or_fresh, meet};
+ghost use Rattle.space_model.specs.Meeting.{fresh, or_fresh};
+ghost use Rattle.space_model.specs.Part.{optional, with_parts, registers_part, start_part, start_limit, child_after};
 ghost use Rattle.space_model.specs.Space.{space, none, children_from, children_of, find, top_of};
-ghost use Rattle.space_model.specs.declared.Status.TheVariants.{Running};
+ghost use Rattle.put_get.specs.Meetings.{with_action};
+ghost use Rattle.put_get.specs.Ranges.{range_parts};
 
-use crate::access::first_unreadable;
-use crate::caller::{succeed, trap};
+use crate::caller::succeed;
 use crate::options::{has_limit, has_regs, has_start};
+use crate::ranges::{change_range, is_one_range};
 use crate::registers::read_registers;
-use crate::transfer::transfer;
-use space_tree::{Cause, Space, Status, Top};
+use space_tree::{Space, Status, Top};
 use std::alloc::{AllocError, Global};
 use std::collections::BTreeMap;
 use trap_ret::Transfer;
 
-// The child runs, with the limit where there is one.
-fn start(x: &Transfer, child: &mut Top)
-    ensures { child.new ≡ record child.old { status = Running; limit = if options_of.has options_of.limited x.now.options then Some x.now.limit else None } }
+// Regs: the child's registers become those of the caller's block, where that is asked for.
+#[tactic(auto, using(crate::proofs::Places::block_end, crate::proofs::Places::block_aligned))]
+fn give_registers(x: &Transfer, caller: &Top, child: &mut Top)
+    requires { IsTransfer x.now }
+    ensures { child.new ≡ optional (options_of.has options_of.regs x.now.options) (registers_part (registers_at caller.now.memory x.now.block)) child.old }
 {
-    child.status = Status::Running;
-    child.limit = has_limit(x).then_some(x.limit);
+    if has_regs(x) {
+        child.registers = read_registers(&caller.memory, x.block);
+    }
+}
+
+// Start: the child runs, with the limit where there is one, where that is asked for.
+fn start(x: &Transfer, child: &mut Top)
+    ensures { child.new ≡ optional (options_of.has options_of.start x.now.options) (start_part (start_limit x.now)) child.old }
+{
+    if has_start(x) {
+        child.status = Status::Running;
+        child.limit = has_limit(x).then_some(x.limit);
+    }
+}
+
+// Changes the destination's range in the child. At an error it is as it was.
+fn give_range(x: &Transfer, caller: &Top, child: &mut Top) -> Result<(), AllocError>
+    requires { IsTransfer x.now }
+    ensures ok { OnOk result (child.new ≡ with_parts x.now.options (range_parts x.now caller.now.memory) child.old) }
+    ensures err { OnErr result (child.new ≡ child.old) }
+{
+    if is_one_range(x) {
+        return change_range(x, &caller.memory, child);
+    }
+    // Of several changes a later one may fail.
+    let before = child.memory.frozen()?;
+    if let Err(error) = change_range(x, &caller.memory, child) {
+        child.memory = before;
+        return Err(error);
+    }
+    Ok(())
 }
 
 // Changes the child as the options ask. At an error it is as it was.
-#[tactic(auto, using(crate::proofs::Places::block_end, crate::proofs::Places::block_aligned))]
 fn give(x: &Transfer, caller: &Top, child: &mut Top) -> Result<(), AllocError>
     requires { IsTransfer x.now }
     ensures ok { OnOk result (child.new ≡ child_after x.now caller.now child.old) }
     ensures err { OnErr result (child.new ≡ child.old) }
 {
-    transfer(x, &caller.memory, &mut child.memory)?;
-    if has_regs(x) {
-        child.registers = read_registers(&caller.memory, x.block);
-    }
-    if has_start(x) {
-        start(x, child);
-    }
+    // What may fail comes first; registers and range pass one another.
+    give_range(x, caller, child)?;
+    give_registers(x, caller, child);
+    start(x, child);
     Ok(())
 }
 
@@ -84,19 +112,14 @@ fn give_child(
     }
 }
 
-// What Put does, once the child is ready, of a caller that has not paid yet. At an error nothing is changed.
+// What Put does that no test stops, of a caller that has not paid yet. At an error nothing is changed.
 pub fn put(alloc: Global, x: &Transfer, space: &mut Space) -> Result<(), AllocError>
     requires transfer { IsTransfer x.now }
     requires pays { MayPay (top_of space.old) }
-    ensures ok { OnOk result (space.new ≡ meet (Put x.now) (paid (top_of space.old) (top_of space.old)) (children_of space.old)) }
+    ensures ok { OnOk result (space.new ≡ with_action (Put x.now) space.old) }
     ensures err { OnErr result (space.new ≡ space.old) }
 {
-    match first_unreadable(x, &space.top) {
-        Some(at) => trap(&mut space.top, Cause::LoadFault, at),
-        None => {
-            give_child(alloc, x, &space.top, &mut space.children)?;
-            succeed(&mut space.top);
-        }
-    }
+    give_child(alloc, x, &space.top, &mut space.children)?;
+    succeed(&mut space.top);
     Ok(())
 }

@@ -33,6 +33,7 @@ all_keep options (p ∷ ps) h t =
     alike_then t u (with_parts options ps u) (optional_keeps (has p.0 options) p.1 h.0 t) (all_keep options ps h.1 u)
 
 pub child_alike : (x : Transfer) (t c : Top) → IsAlike c (child_after x t c)
+unfolding child_after
 child_alike x t c =
     all_keep x.options (put_parts x t) (
       λ u. record { fuel = refl; used = refl; devices = refl },
@@ -44,6 +45,7 @@ child_alike x t c =
     c
 
 pub caller_alike : (x : Transfer) (c t : Top) → IsAlike t (caller_after x c t)
+unfolding caller_after
 caller_alike x c t =
     all_keep x.options (get_parts x c) (
       λ u. record { fuel = refl; used = refl; devices = refl },

@@ -80,9 +80,9 @@ get_parts x c =
     ∷ []
 
 -- the child after a Put of this caller
-abbrev pub child_after : Transfer → Top → Part
+unfoldable pub child_after : Transfer → Top → Part
 child_after x t c = with_parts x.options (put_parts x t) c
 
 -- the caller after a Get of this child
-abbrev pub caller_after : Transfer → Top → Part
+unfoldable pub caller_after : Transfer → Top → Part
 caller_after x c t = with_parts x.options (get_parts x c) t

@@ -1,18 +1,17 @@
 use Rattle.std.proofs.Common.{◌-◌}
-use Rattle.call_model.specs.declared.Call.TheVariants.{Put, Get}
-use Rattle.put_get.proofs.Meetings.{met_as, stays_sound}
+use Rattle.std.proofs.lemmas.Result.{on_ok_weaker}
+use Rattle.put_get.proofs.Meetings.{acts_met, stops_met, met_sound, stays_sound}
 use Rattle.put_get.proofs.meeting.apply.Goals as goal
 
-pub returns-in-Put-clause-ok : goal.returns-in-Put-clause-ok
-returns-in-Put-clause-ok c = met_as c.put.result (Put c.in-Put.x) c.args.call c.args.space.now c.put.new.space c.in-Put.ensures.value c.put.ensures.ok
+pub returns-in-Some-clause-ok : goal.returns-in-Some-clause-ok
+returns-in-Some-clause-ok c = stops_met (8 - c.args.depth) c.args.call c.args.space.now c.in-Some.refusal c.space.inside.top c.trap.new.caller _ c.space.view_is c.in-Some.ensures c.trap.ensures
 
-pub returns-in-Put-clause-sound : goal.returns-in-Put-clause-sound
-returns-in-Put-clause-sound c =
-    stays_sound c.put.result (8 - c.args.depth) c.args.call c.args.space.now c.put.new.space c.requires.may_meet c.requires.may_pay (returns-in-Put-clause-ok c) c.put.ensures.err
+pub returns-in-Some-clause-sound : goal.returns-in-Some-clause-sound
+returns-in-Some-clause-sound c = met_sound (8 - c.args.depth) c.args.call c.args.space.now _ c.requires.may_meet c.requires.may_pay (returns-in-Some-clause-ok c)
 
-pub returns-in-Get-clause-ok : goal.returns-in-Get-clause-ok
-returns-in-Get-clause-ok c = met_as c.get.result (Get c.in-Get.x) c.args.call c.args.space.now c.get.new.space c.in-Get.ensures.value c.get.ensures.ok
+pub returns-in-None-clause-ok : goal.returns-in-None-clause-ok
+returns-in-None-clause-ok c = on_ok_weaker c.act.result (acts_met (8 - c.args.depth) c.args.call c.args.space.now c.act.new.space c.in-None.ensures) c.act.ensures.ok
 
-pub returns-in-Get-clause-sound : goal.returns-in-Get-clause-sound
-returns-in-Get-clause-sound c =
-    stays_sound c.get.result (8 - c.args.depth) c.args.call c.args.space.now c.get.new.space c.requires.may_meet c.requires.may_pay (returns-in-Get-clause-ok c) c.get.ensures.err
+pub returns-in-None-clause-sound : goal.returns-in-None-clause-sound
+returns-in-None-clause-sound c =
+    stays_sound c.act.result (8 - c.args.depth) c.args.call c.args.space.now c.act.new.space c.requires.may_meet c.requires.may_pay (returns-in-None-clause-ok c) c.act.ensures.err
