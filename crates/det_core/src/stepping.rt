@@ -23,7 +23,7 @@ fn try_call(
     requires may_meet { MayMeet (8 - depth) call }
     requires may_pay { MayPay (top_of space.old) }
     ensures ok { IfOk result (λ b. b ≡ are_ready (awaits call) (children_of space.old)) }
-    ensures called { OnOk result (space.new ≡ cond (are_ready (awaits call) (children_of space.old)) (meet call (paid (top_of space.old) (top_of space.old)) (children_of space.old)) space.old) }
+    ensures called { OnOk result (space.new ≡ cond (are_ready (awaits call) (children_of space.old)) (meet (8 - depth) call (paid (top_of space.old) (top_of space.old)) (children_of space.old)) space.old) }
     ensures err { OnErr result (space.new ≡ space.old) }
 {
     let ready = are_ready(call, &space.children);
