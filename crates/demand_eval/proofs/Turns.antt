@@ -6,7 +6,7 @@ use Rattle.call_model.specs.declared.Call.TheVariants.{Put, Get, Ret, ConsoleOut
 use Rattle.space_model.specs.Stop.{is_stopped}
 use Rattle.space_model.specs.Space.{Space, space, Top, Children, none, top_of, children_of, over}
 use Rattle.space_model.specs.Sound.{IsSoundAt, AreSound}
-use Rattle.space_model.specs.Call.{itself}
+use Rattle.space_model.specs.declared.Reach.TheVariants.{Itself}
 use Rattle.space_model.specs.Path.{under}
 use Rattle.space_model.specs.Change.{paid}
 use Rattle.space_model.specs.Meeting.{MayMeet, awaits, meet}
@@ -63,7 +63,7 @@ children_keep zero fuel = λ reach c h. h
 children_keep (suc levels) fuel = λ reach c h. meaning_sound levels reach false fuel c h
 
 -- the child that Put or Get waits for has run; at the last level there is none
-children_at : (levels : ℕ) (root : Bool) (fuel n : ℕ) (t : Top) (cs : Children) → IsSoundAt levels root fuel (space t cs) → over n (λ c. (of_children levels itself c).space) cs ≡ over n (run (pred levels)) cs
+children_at : (levels : ℕ) (root : Bool) (fuel n : ℕ) (t : Top) (cs : Children) → IsSoundAt levels root fuel (space t cs) → over n (λ c. (of_children levels Itself c).space) cs ≡ over n (run (pred levels)) cs
 children_at zero root fuel n t cs ok = let empty : cs ≡ none = no_children fuel 0 cs ok.1 in rw empty refl
 children_at (suc levels) root fuel n t cs ok = refl
 
@@ -102,26 +102,26 @@ left_most : (b : Bool) (n : ℕ) → cond b 0 n ≤ n
 left_most true n = omega arith
 left_most false n = omega arith
 
-call_leaves : (levels : ℕ) (t u : Top) (k : Call) (cs : Children) → next levels t ≡ meets k u → left_of (top_of (meet k u cs)) < left_of t
+call_leaves : (levels : ℕ) (t u : Top) (k : Call) (cs : Children) → next levels t ≡ meets k u → left_of (top_of (meet levels k u cs)) < left_of t
 call_leaves levels t u k cs e =
     let costs = call_costs levels t u k e in
-    let fuel = meet_fuel k u cs in
+    let fuel = meet_fuel levels k u cs in
     let now = left_running (is_stopped t.status) (suc t.fuel) (not_at_rest levels t u k e (is_stopped t.status) refl) in
-    let later = left_most (is_stopped (top_of (meet k u cs)).status) (suc (top_of (meet k u cs)).fuel) in
+    let later = left_most (is_stopped (top_of (meet levels k u cs)).status) (suc (top_of (meet levels k u cs)).fuel) in
     omega arith
 
-met_here : (levels : ℕ) (k : Call) (t : Top) (cs ds : Children) → IsSoundBelow levels (space t cs) → next levels t ≡ meets k (paid t t) → ds ≡ (wait_for (of_children levels) (awaits k) cs).children → GoesOn levels (space t cs) (meet k (paid t t) ds)
+met_here : (levels : ℕ) (k : Call) (t : Top) (cs ds : Children) → IsSoundBelow levels (space t cs) → next levels t ≡ meets k (paid t t) → ds ≡ (wait_for (of_children levels) (awaits k) cs).children → GoesOn levels (space t cs) (meet levels k (paid t t) ds)
 met_here levels k t cs ds ok e is =
     let kept : AreSound levels ok.fuel 0 ds = rw is (wait_for_sound (of_children levels) levels ok.fuel (awaits k) cs (children_keep levels ok.fuel) ok.sound.1) in
-    let same : run_on (of_children levels) levels (space t cs) ≡ run_on (of_children levels) levels (meet k (paid t t) ds) = rw is (run_on-meets (of_children levels) levels t (paid t t) k cs e) in
+    let same : run_on (of_children levels) levels (space t cs) ≡ run_on (of_children levels) levels (meet levels k (paid t t) ds) = rw is (run_on-meets (of_children levels) levels t (paid t t) k cs e) in
     record {
-      same = run-run_on levels (meet k (paid t t) ds) ∙ sym same ∙ sym (run-run_on levels (space t cs));
+      same = run-run_on levels (meet levels k (paid t t) ds) ∙ sym same ∙ sym (run-run_on levels (space t cs));
       sound = record { root = ok.root; fuel = ok.fuel; sound = next_meets_sound levels ok.root ok.fuel t (paid t t) k ds e ok.sound.0 kept };
       fewer = call_leaves levels t (paid t t) k ds e;
     }
 
 -- a call after which a space goes on
-pub met : (levels : ℕ) (k : Call) (s w r : Space) → IsSoundBelow levels s → next levels (top_of s) ≡ meets k (paid (top_of s) (top_of s)) → w ≡ with_awaited levels k s → r ≡ meet k (paid (top_of w) (top_of w)) (children_of w) → GoesOn levels s r
+pub met : (levels : ℕ) (k : Call) (s w r : Space) → IsSoundBelow levels s → next levels (top_of s) ≡ meets k (paid (top_of s) (top_of s)) → w ≡ with_awaited levels k s → r ≡ meet levels k (paid (top_of w) (top_of w)) (children_of w) → GoesOn levels s r
 met levels k (space t cs) w r ok e waited is =
-    let here : r ≡ meet k (paid t t) (wait_for (of_children levels) (awaits k) cs).children = is ∙ ap (λ v. meet k (paid (top_of v) (top_of v)) (children_of v)) waited in
+    let here : r ≡ meet levels k (paid t t) (wait_for (of_children levels) (awaits k) cs).children = is ∙ ap (λ v. meet levels k (paid (top_of v) (top_of v)) (children_of v)) waited in
     rw here (met_here levels k t cs (wait_for (of_children levels) (awaits k) cs).children ok e refl)

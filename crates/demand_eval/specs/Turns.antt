@@ -1,17 +1,22 @@
 -- What a run does to a space, turn by turn.
 use Rattle.std.specs.Prelude.{◌≡◌, ℕ, ◌<◌, Bool, true, false}
 use Rattle.call_model.specs.declared.Call.{Call}
+use Rattle.space_model.specs.declared.Reach.{Reach}
 use Rattle.space_model.specs.Space.{Space, top_of}
 use Rattle.space_model.specs.Sound.{IsSoundAt}
 use Rattle.space_model.specs.Path.{under}
 use Rattle.space_model.specs.Meeting.{awaits}
-use Rattle.run_model.specs.Demand.{run, left_of, wait_for, everyone, of_children}
+use Rattle.run_model.specs.Demand.{meaning, run, left_of, wait_for, everyone, of_children}
 
 -- sound, with so many levels of children left below it, as a root or below one
 pub record IsSoundBelow (levels : ℕ) (s : Space) : Type 0 where
   pub root : Bool
   pub fuel : ℕ
   pub sound : IsSoundAt levels root fuel s
+
+-- what becomes of a space that is waited for, itself or whole
+abbrev pub end_of : ℕ → Reach → Space → Space
+end_of levels reach s = (meaning levels reach s).space
 
 -- with the children that a call waits for as they are once they have run
 abbrev pub with_awaited : ℕ → Call → Space → Space

@@ -2,8 +2,7 @@
 #![tactic(auto)]
 
 mod running;
-mod settling;
 #[cfg(test)]
 mod tests;
 
-pub use settling::settle;
+pub use running::settle;

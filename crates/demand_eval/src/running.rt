@@ -1,62 +1,71 @@
-ghost use Rattle.std.specs.Prelude.{◌≡◌, ◌≤◌, ◌-◌, pred, OnOk, IfOk};
-ghost use Rattle.space_model.specs.Space.{over, top_of};
+ghost use Rattle.std.specs.Prelude.{◌≡◌, ◌≤◌, ◌-◌, map, pred, true, OnOk, IfOk};
+ghost use Rattle.space_model.specs.Space.{over, top_of, is_settled};
+ghost use Rattle.space_model.specs.Sound.{IsSound};
 ghost use Rattle.space_model.specs.Change.{paid};
 ghost use Rattle.space_model.specs.Path.{under};
 ghost use Rattle.space_model.specs.Event as event;
-ghost use Rattle.run_model.specs.Demand.{run};
-ghost use Rattle.demand_eval.specs.Turns.{IsSoundBelow, GoesOn, Turned, with_awaited};
+ghost use Rattle.run_model.specs.Demand.{run, settled};
+ghost use Rattle.demand_eval.specs.Turns.{IsSoundBelow, GoesOn, Turned, end_of, with_awaited, with_everyone};
 
 use put_get::apply;
+use space_model::Reach;
 use space_step::{Next, advance, peek};
 use space_tree::Space;
 use std::alloc::{AllocError, Global};
+use std::collections::BTreeMap;
 use trap_ret::{AcceptedCall, Call};
 
 // For how many events a space runs before it is asked again what is next.
 const STRETCH: u32 = 1 << 20;
 
-// The child of that number, where it is there, runs until it stops.
-#[cycle(run)]
-fn run_child(alloc: Global, space: &mut Space, number: u16, depth: u8) -> Result<(), AllocError>
+// The child of that number, where it is there, runs until it stops, or settles.
+#[cycle(settle)]
+fn wait_for_child(
+    alloc: Global,
+    space: &mut Space,
+    number: u16,
+    reach: Reach,
+    depth: u8,
+) -> Result<(), AllocError>
     requires depth { depth ≤ 8 }
     requires sound { IsSoundBelow (8 - depth) space.old }
-    ensures { OnOk result (space.new ≡ under (over number (run (pred (8 - depth)))) space.old) }
+    ensures { OnOk result (space.new ≡ under (over number (end_of (pred (8 - depth)) reach)) space.old) }
 {
     match space.children.get_mut(&number) {
-        Some(child) => run(alloc, child, depth + 1),
+        Some(child) => finish(alloc, child, reach, depth + 1),
         None => Ok(()),
     }
 }
 
-// The child that a call waits for runs until it stops.
-#[cycle(run)]
-fn run_awaited(alloc: Global, call: Call, space: &mut Space, depth: u8) -> Result<(), AllocError>
+// What a call waits for is ready: a child that it names has run until it stopped.
+#[cycle(settle)]
+fn wait_for(alloc: Global, call: Call, space: &mut Space, depth: u8) -> Result<(), AllocError>
     requires depth { depth ≤ 8 }
     requires sound { IsSoundBelow (8 - depth) space.old }
     ensures { OnOk result (space.new ≡ with_awaited (8 - depth) call space.old) }
 {
     match call {
         Call::Put(transfer) | Call::Get(transfer) => {
-            run_child(alloc, space, transfer.child, depth)
+            wait_for_child(alloc, space, transfer.child, Reach::Itself, depth)
         }
         Call::Ret { .. } | Call::ConsoleOut { .. } => Ok(()),
     }
 }
 
-// The call that is next, once the child that it waits for has run.
-#[cycle(run)]
+// The call that is next, once what it waits for is ready.
+#[cycle(settle)]
 fn meet(alloc: Global, call: AcceptedCall, space: &mut Space, depth: u8) -> Result<(), AllocError>
     requires depth { depth ≤ 8 }
     requires sound { IsSoundBelow (8 - depth) space.old }
     requires next { event.next (8 - depth) (top_of space.old) ≡ event.meets call (paid (top_of space.old) (top_of space.old)) }
     ensures { OnOk result (GoesOn (8 - depth) space.old space.new) }
 {
-    run_awaited(alloc, call.call(), space, depth)?;
+    wait_for(alloc, call.call(), space, depth)?;
     apply(alloc, call, depth, space)
 }
 
 // Local events, and then the call that is next, if there is one. It says whether the space has stopped.
-#[cycle(run)]
+#[cycle(settle)]
 fn turn(alloc: Global, space: &mut Space, depth: u8) -> Result<bool, AllocError>
     requires depth { depth ≤ 8 }
     requires sound { IsSoundBelow (8 - depth) space.old }
@@ -73,10 +82,9 @@ fn turn(alloc: Global, space: &mut Space, depth: u8) -> Result<bool, AllocError>
     }
 }
 
-/// Runs a space at a depth of at most 8 until it stops. A child runs when the space waits for it. Its one error is want of
-/// memory; the space is then somewhere on its way.
-#[cycle(run)]
-pub(crate) fn run(alloc: Global, space: &mut Space, depth: u8) -> Result<(), AllocError>
+// A space at a depth of at most 8 runs until it stops. At an error it is somewhere on its way.
+#[cycle(settle)]
+fn run(alloc: Global, space: &mut Space, depth: u8) -> Result<(), AllocError>
     requires depth { depth ≤ 8 }
     requires sound { IsSoundBelow (8 - depth) space.old }
     ensures { OnOk result (space.new ≡ run (8 - depth) space.old) }
@@ -87,4 +95,52 @@ pub(crate) fn run(alloc: Global, space: &mut Space, depth: u8) -> Result<(), All
             return Ok(());
         }
     }
+}
+
+// The numbers of the children, in rising order.
+fn numbers(alloc: Global, children: &BTreeMap<u16, Space>) -> Result<Vec<u16>, AllocError>
+    ensures { IfOk result (λ numbers. numbers.items ≡ map (λ e. e.0) children.now.entries) }
+{
+    children.keys().copied().collect(alloc)
+}
+
+// Every child settles, in the order of their numbers.
+#[cycle(settle)]
+fn settle_children(alloc: Global, space: &mut Space, depth: u8) -> Result<(), AllocError>
+    requires depth { depth ≤ 8 }
+    requires sound { IsSoundBelow (8 - depth) space.old }
+    ensures { OnOk result (space.new ≡ with_everyone (8 - depth) space.old) }
+{
+    let numbers = numbers(alloc, &space.children)?;
+    for number in &numbers {
+        wait_for_child(alloc, space, *number, Reach::Whole, depth)?;
+    }
+    Ok(())
+}
+
+// A space at a depth of at most 8 runs until it stops; waited for whole, each of its children settles then.
+#[cycle(settle)]
+fn finish(alloc: Global, space: &mut Space, reach: Reach, depth: u8) -> Result<(), AllocError>
+    requires depth { depth ≤ 8 }
+    requires sound { IsSoundBelow (8 - depth) space.old }
+    ensures { OnOk result (space.new ≡ end_of (8 - depth) reach space.old) }
+{
+    run(alloc, space, depth)?;
+    match reach {
+        Reach::Itself => Ok(()),
+        Reach::Whole => settle_children(alloc, space, depth),
+    }
+}
+
+/// Runs a whole tree until no space in it runs, one space at a time: each one when its parent waits for it (OSDI 2010, "Efficient
+/// System-Enforced Deterministic Parallelism", the section on the kernel interface: Put and Get wait for the child to stop), and
+/// at the end those that nobody waited for. The one error is want of memory; the tree is given up then.
+pub fn settle(alloc: Global, mut space: Space) -> Result<Space, AllocError>
+    requires { IsSound space }
+    ensures meaning { IfOk result (λ s. s ≡ settled space) }
+    ensures settled { IfOk result (λ s. is_settled s ≡ true) }
+    ensures sound { IfOk result IsSound }
+{
+    finish(alloc, &mut space, Reach::Whole, 0)?;
+    Ok(space)
 }

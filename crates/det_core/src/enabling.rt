@@ -1,5 +1,5 @@
 ghost use Rattle.std.specs.Prelude.{◌≡◌, ◌-◌, ◌≤◌};
-ghost use Rattle.space_model.specs.Call.{itself};
+ghost use Rattle.space_model.specs.declared.Reach.TheVariants.{Itself};
 ghost use Rattle.space_model.specs.Meeting.{awaits};
 ghost use Rattle.space_model.specs.Event.{next};
 ghost use Rattle.space_model.specs.Space.{top_of, children_of, children_from, find};
@@ -13,7 +13,7 @@ use trap_ret::Call;
 // Whether the child of this number, which a call awaits itself, is missing or has stopped.
 #[tactic(auto, using(space_model::proofs::Entries::find_entries))]
 fn is_ready(children: &BTreeMap<u16, Space>, number: u16) -> bool
-    ensures { result ≡ is_ready itself (find number (children_from children.now.entries)) }
+    ensures { result ≡ is_ready Itself (find number (children_from children.now.entries)) }
 {
     match children.get(&number) {
         Some(child) => child.top.is_stopped(),

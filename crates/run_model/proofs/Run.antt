@@ -6,7 +6,8 @@ use Rattle.call_model.specs.declared.Call.TheVariants.{Put, Get, Ret, ConsoleOut
 use Rattle.space_model.specs.Stop.{is_stopped}
 use Rattle.space_model.specs.Space.{Space, space, Children, Top, top_of, children_of, find, over}
 use Rattle.space_model.specs.declared.Refusal.{Refusal}
-use Rattle.space_model.specs.Call.{Seen, Meeting, itself, first_top, seen_of, apply_meeting}
+use Rattle.space_model.specs.declared.Reach.TheVariants.{Itself}
+use Rattle.space_model.specs.Call.{Seen, Meeting, first_top, seen_of, apply_meeting}
 use Rattle.space_model.specs.Meeting.{awaits, meet, or_fresh, refusals, first_refusal, action, unless_refused}
 use Rattle.space_model.proofs.Parts.{caller_alike}
 use Rattle.space_model.specs.Event.{Next, rests, moves, meets, next, Follows}
@@ -62,21 +63,21 @@ run_on-meets f levels t u k cs e =
 
 -- what becomes of the child that Put or Get waits for
 wait_one : (f : Meaning) (n : ℕ) (cs : Children) (o : Option Space) → find n cs ≡ o
-    → (wait_for_child f (record { number = n; reach = itself }) cs o).children ≡ over n (λ c. (f itself c).space) cs
-wait_one f n cs None at = sym (over_missing n (λ c. (f itself c).space) cs at)
-wait_one f n cs (Some c) at = over-at n (λ d. (f itself c).space) (λ d. (f itself d).space) c cs at refl
+    → (wait_for_child f (record { number = n; reach = Itself }) cs o).children ≡ over n (λ c. (f Itself c).space) cs
+wait_one f n cs None at = sym (over_missing n (λ c. (f Itself c).space) cs at)
+wait_one f n cs (Some c) at = over-at n (λ d. (f Itself c).space) (λ d. (f Itself d).space) c cs at refl
 
-pub wait_for-put : (f : Meaning) (x : Transfer) (cs : Children) → (wait_for f (awaits (Put x)) cs).children ≡ over x.child (λ c. (f itself c).space) cs
+pub wait_for-put : (f : Meaning) (x : Transfer) (cs : Children) → (wait_for f (awaits (Put x)) cs).children ≡ over x.child (λ c. (f Itself c).space) cs
 wait_for-put f x cs = wait_one f x.child cs (find x.child cs) refl
 
-pub wait_for-get : (f : Meaning) (x : Transfer) (cs : Children) → (wait_for f (awaits (Get x)) cs).children ≡ over x.child (λ c. (f itself c).space) cs
+pub wait_for-get : (f : Meaning) (x : Transfer) (cs : Children) → (wait_for f (awaits (Get x)) cs).children ≡ over x.child (λ c. (f Itself c).space) cs
 wait_for-get f x cs = wait_one f x.child cs (find x.child cs) refl
 
 -- where it is missing, nothing does
 pub wait_for-missing : (f : Meaning) (x : Transfer) (cs : Children) → find x.child cs ≡ None
     → ((wait_for f (awaits (Put x)) cs).children ≡ cs) × ((wait_for f (awaits (Get x)) cs).children ≡ cs)
 wait_for-missing f x cs at =
-    let same = over_missing x.child (λ c. (f itself c).space) cs at in
+    let same = over_missing x.child (λ c. (f Itself c).space) cs at in
     (wait_for-put f x cs ∙ same, wait_for-get f x cs ∙ same)
 
 -- the run of a space is its run over its children's own

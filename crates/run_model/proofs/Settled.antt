@@ -5,7 +5,7 @@ use Rattle.space_model.specs.Stop.{is_stopped}
 use Rattle.space_model.specs.Space.{Space, space, Children, none, child, top_of, children_of, find, has, over, is_settled, are_settled}
 use Rattle.space_model.specs.Sound.{IsSoundAt, AreSound, IsSound}
 use Rattle.space_model.specs.Path.{under}
-use Rattle.space_model.specs.Call.{whole}
+use Rattle.space_model.specs.declared.Reach.TheVariants.{Whole}
 use Rattle.space_model.proofs.Sound.{no_children}
 use Rattle.run_model.specs.Demand.{Meaning, wait_for, wait_for_child, everyone, unmoved, meaning, run, settle, settled}
 use Rattle.run_model.proofs.Run.{run-stops}
@@ -45,24 +45,24 @@ over_first n f s rest = grind (arith, nat_tests)
 
 -- every child of rising number is awaited once
 everyone-join : (f : Meaning) (levels fuel least : ℕ) (p cs : Children) → AreSound levels fuel least cs → ((m : ℕ) → least ≤ m → has m p ≡ false)
-    → (wait_for f (everyone cs) (join p cs)).children ≡ join p (each (λ c. (f whole c).space) cs)
+    → (wait_for f (everyone cs) (join p cs)).children ≡ join p (each (λ c. (f Whole c).space) cs)
 everyone-join f levels fuel least p none ok before = refl
 everyone-join f zero fuel least p (child n s rest) ok before = absurd ok
 everyone-join f (suc levels) fuel least p (child n s rest) ok before =
-    let new = (f whole s).space in
+    let new = (f Whole s).space in
     let un : has n p ≡ false = before n ok.0 in
     let at : find n (join p (child n s rest)) ≡ Some s = find-join n p (child n s rest) un ∙ find_first n s rest in
     let one : over n (λ d. new) (join p (child n s rest)) ≡ join (join p (child n new none)) rest =
     over-join n (λ d. new) p (child n s rest) un ∙ ap (join p) (over_first n (λ d. new) s rest) ∙ sym (join-join n new p rest) in
-    let first : (wait_for_child f (record { number = n; reach = whole }) (join p (child n s rest)) (find n (join p (child n s rest)))).children ≡ join (join p (child n new none)) rest = rw at one in
+    let first : (wait_for_child f (record { number = n; reach = Whole }) (join p (child n s rest)) (find n (join p (child n s rest)))).children ≡ join (join p (child n new none)) rest = rw at one in
     let after : (m : ℕ) → suc n ≤ m → has m (join p (child n new none)) ≡ false = λ m h. (let low : least ≤ m = omega (arith, ok.0) in let ne : m ≢ n = omega arith in has-join m n new p (before m low) ne) in
-    ap (λ ds. (wait_for f (everyone rest) ds).children) first ∙ everyone-join f (suc levels) fuel (suc n) (join p (child n new none)) rest ok.3 after ∙ join-join n new p (each (λ c. (f whole c).space) rest)
+    ap (λ ds. (wait_for f (everyone rest) ds).children) first ∙ everyone-join f (suc levels) fuel (suc n) (join p (child n new none)) rest ok.3 after ∙ join-join n new p (each (λ c. (f Whole c).space) rest)
 
-pub everyone-each : (f : Meaning) (levels fuel : ℕ) (cs : Children) → AreSound levels fuel 0 cs → (wait_for f (everyone cs) cs).children ≡ each (λ c. (f whole c).space) cs
+pub everyone-each : (f : Meaning) (levels fuel : ℕ) (cs : Children) → AreSound levels fuel 0 cs → (wait_for f (everyone cs) cs).children ≡ each (λ c. (f Whole c).space) cs
 everyone-each f levels fuel cs ok = everyone-join f levels fuel 0 none cs ok (λ m h. refl)
 
 under-each : (f : Meaning) (levels : ℕ) (root : Bool) (fuel : ℕ) (s : Space) → IsSoundAt levels root fuel s
-    → space (top_of s) (wait_for f (everyone (children_of s)) (children_of s)).children ≡ under (each (λ c. (f whole c).space)) s
+    → space (top_of s) (wait_for f (everyone (children_of s)) (children_of s)).children ≡ under (each (λ c. (f Whole c).space)) s
 under-each f levels root fuel (space t cs) ok = ap (space t) (everyone-each f levels fuel cs ok.1)
 
 under_none : (f g : Space → Space) (root : Bool) (fuel : ℕ) (s : Space) → IsSoundAt zero root fuel s → under (each f) s ≡ under (each g) s

@@ -4,7 +4,9 @@ use Rattle.image_model.specs.Image.{Image}
 use Rattle.call_model.specs.declared.Call.{Call}
 use Rattle.space_model.specs.Space.{Space, space, Children, Top, Devices, top_of, children_of, find}
 use Rattle.space_model.specs.Sound.{IsSoundTop, IsSoundAt, AreSound, IsSound}
-use Rattle.space_model.specs.Call.{Reach, itself, whole, Await}
+use Rattle.space_model.specs.declared.Reach.{Reach}
+use Rattle.space_model.specs.declared.Reach.TheVariants.{Itself, Whole}
+use Rattle.space_model.specs.Call.{Await}
 use Rattle.space_model.specs.Meeting.{awaits, meet}
 use Rattle.space_model.specs.Event.{Next, rests, moves, meets, next}
 use Rattle.space_model.proofs.Sound.{found_sound, over_sound, over_found_sound, meet_sound}
@@ -50,19 +52,19 @@ settled_children_sound f levels root fuel (space t cs) kept ok = (ok.0, wait_for
 
 pub meaning_sound : (levels : ℕ) (reach : Reach) (root : Bool) (fuel : ℕ) (s : Space) → IsSoundAt levels root fuel s → IsSoundAt levels root fuel (meaning levels reach s).space
 unfolding meaning
-meaning_sound zero itself root fuel s ok = run_for_sound unmoved zero root fuel (suc (top_of s).fuel) s (λ reach c h. h) ok
-meaning_sound zero whole root fuel s ok =
+meaning_sound zero Itself root fuel s ok = run_for_sound unmoved zero root fuel (suc (top_of s).fuel) s (λ reach c h. h) ok
+meaning_sound zero Whole root fuel s ok =
     settled_children_sound unmoved zero root fuel (run_for unmoved zero (suc (top_of s).fuel) s).space (λ reach c h. h) (run_for_sound unmoved zero root fuel (suc (top_of s).fuel) s (λ reach c h. h) ok)
-meaning_sound (suc levels) itself root fuel s ok = run_for_sound (meaning levels) (suc levels) root fuel (suc (top_of s).fuel) s (λ reach c h. meaning_sound levels reach false fuel c h) ok
-meaning_sound (suc levels) whole root fuel s ok =
+meaning_sound (suc levels) Itself root fuel s ok = run_for_sound (meaning levels) (suc levels) root fuel (suc (top_of s).fuel) s (λ reach c h. meaning_sound levels reach false fuel c h) ok
+meaning_sound (suc levels) Whole root fuel s ok =
     settled_children_sound (meaning levels) (suc levels) root fuel (run_for (meaning levels) (suc levels) (suc (top_of s).fuel) s).space (λ reach c h. meaning_sound levels reach false fuel c h)
     (run_for_sound (meaning levels) (suc levels) root fuel (suc (top_of s).fuel) s (λ reach c h. meaning_sound levels reach false fuel c h) ok)
 
 pub run_sound : (levels : ℕ) (root : Bool) (fuel : ℕ) (s : Space) → IsSoundAt levels root fuel s → IsSoundAt levels root fuel (run levels s)
-run_sound levels root fuel s ok = meaning_sound levels itself root fuel s ok
+run_sound levels root fuel s ok = meaning_sound levels Itself root fuel s ok
 
 pub settle_sound : (levels : ℕ) (root : Bool) (fuel : ℕ) (s : Space) → IsSoundAt levels root fuel s → IsSoundAt levels root fuel (settle levels s)
-settle_sound levels root fuel s ok = meaning_sound levels whole root fuel s ok
+settle_sound levels root fuel s ok = meaning_sound levels Whole root fuel s ok
 
 -- a root that is about to run
 pub boot_sound : (i : Image) (d : Devices) (fuel : ℕ) → 1 ≤ fuel → fuel < 2 ^ 32 → IsSound (boot i d fuel)

@@ -4,7 +4,9 @@ use Rattle.std.specs.Prelude.{ℕ, zero, suc, ◌+◌, cond, List, [], ◌∷◌
 use Rattle.space_model.specs.Stop.{is_stopped}
 use Rattle.space_model.specs.Space.{Space, space, Children, none, child, Top, top_of, children_of, find, over}
 use Rattle.call_model.specs.declared.Call.{Call}
-use Rattle.space_model.specs.Call.{Reach, itself, whole, Await}
+use Rattle.space_model.specs.declared.Reach.{Reach}
+use Rattle.space_model.specs.declared.Reach.TheVariants.{Itself, Whole}
+use Rattle.space_model.specs.Call.{Await}
 use Rattle.space_model.specs.Meeting.{awaits, meet}
 use Rattle.space_model.specs.Event.{Next, rests, moves, meets, next}
 
@@ -52,15 +54,15 @@ run_for f levels (suc n) s = go_on levels (next levels (top_of s)) s f (run_for 
 -- every child, whole
 abbrev pub everyone : Children → List Await
 everyone none = []
-everyone (child n s rest) = record { number = n; reach = whole } ∷ everyone rest
+everyone (child n s rest) = record { number = n; reach = Whole } ∷ everyone rest
 
 abbrev pub with_children : Ran → Waited → Ran
 with_children r w = record { space = space (top_of r.space) w.children; events = r.events + w.events }
 
 -- a space awaited itself has run; one awaited whole is settled by settling its children as well
 abbrev pub finish : Reach → Meaning → Ran → Ran
-finish itself f r = r
-finish whole f r = with_children r (wait_for f (everyone (children_of r.space)) (children_of r.space))
+finish Itself f r = r
+finish Whole f r = with_children r (wait_for f (everyone (children_of r.space)) (children_of r.space))
 
 abbrev pub unmoved : Meaning
 unmoved reach s = record { space = s; events = 0 }
@@ -76,15 +78,15 @@ left_of t = cond (is_stopped t.status) 0 (suc t.fuel)
 
 -- run until it stops
 abbrev pub run : ℕ → Space → Space
-run levels s = (meaning levels itself s).space
+run levels s = (meaning levels Itself s).space
 
 -- run until no space in it runs
 abbrev pub settle : ℕ → Space → Space
-settle levels s = (meaning levels whole s).space
+settle levels s = (meaning levels Whole s).space
 
 -- how many events that takes
 abbrev pub work : ℕ → Space → ℕ
-work levels s = (meaning levels whole s).events
+work levels s = (meaning levels Whole s).events
 
 -- what becomes of a child of a space with so many levels left below it
 abbrev pub of_children : ℕ → Meaning

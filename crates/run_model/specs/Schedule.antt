@@ -3,15 +3,17 @@ use Rattle.std.specs.Prelude.{ℕ, pred, Bool, true, false, ◌&&◌, cond, List
 use Rattle.space_model.specs.Stop.{is_stopped}
 use Rattle.space_model.specs.Space.{Space, space, Children, top_of, children_of, find, over, is_settled}
 use Rattle.space_model.specs.Path.{under}
-use Rattle.space_model.specs.Call.{Reach, itself, whole, Await}
+use Rattle.space_model.specs.declared.Reach.{Reach}
+use Rattle.space_model.specs.declared.Reach.TheVariants.{Itself, Whole}
+use Rattle.space_model.specs.Call.{Await}
 use Rattle.space_model.specs.Meeting.{awaits, meet}
 use Rattle.space_model.specs.Event.{Next, rests, moves, meets, next}
 
 -- a child that is awaited is ready where it is missing, or stopped, or, where it is awaited whole, settled
 abbrev pub is_ready : Reach → Option Space → Bool
 is_ready reach None = true
-is_ready itself (Some c) = let t = top_of c in is_stopped t.status
-is_ready whole (Some c) = is_settled c
+is_ready Itself (Some c) = let t = top_of c in is_stopped t.status
+is_ready Whole (Some c) = is_settled c
 
 abbrev pub are_ready : List Await → Children → Bool
 are_ready [] cs = true

@@ -1,14 +1,11 @@
 -- Calls that meet children, by what they see of their children and what they edit (OSDI 2010, "Efficient System-Enforced
 -- Deterministic Parallelism", the section on the kernel interface: a space meets only its parent and its children).
 use Rattle.std.specs.Prelude.{ℕ, List, [], ◌∷◌, Option, Some, None, option_map}
+use Rattle.space_model.specs.declared.Reach.{Reach}
+use Rattle.space_model.specs.declared.Reach.TheVariants.{Itself, Whole}
 use Rattle.space_model.specs.Space.{Space, space, Children, none, Top, top_of, children_of, find, put_child, remove_child}
 
--- how much of a child a call waits for: the child itself, or the child and all below it
-pub data Reach : Type 0 where
-  itself : Reach
-  whole : Reach
-
--- a child that a call waits for
+-- a child that a call waits for, itself or with all below it
 pub record Await : Type 0 where
   pub number : ℕ
   pub reach : Reach
@@ -30,8 +27,8 @@ pub record Meeting : Type 0 where
   pub edits : List Edit
 
 abbrev pub see : Reach → Option Space → Seen
-see itself o = sees_top (option_map top_of o)
-see whole o = sees_whole o
+see Itself o = sees_top (option_map top_of o)
+see Whole o = sees_whole o
 
 abbrev pub seen_of : List Await → Children → List Seen
 seen_of [] cs = []

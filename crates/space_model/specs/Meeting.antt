@@ -14,7 +14,8 @@ use Rattle.space_model.specs.declared.Refusal.{Refusal}
 use Rattle.space_model.specs.Space.{Space, Children, Top}
 use Rattle.space_model.specs.Change.{stop, succeeded}
 use Rattle.space_model.specs.Part.{child_after, caller_after}
-use Rattle.space_model.specs.Call.{Await, itself, Seen, change, Meeting, seen_of, first_top, apply_meeting}
+use Rattle.space_model.specs.declared.Reach.TheVariants.{Itself}
+use Rattle.space_model.specs.Call.{Await, Seen, change, Meeting, seen_of, first_top, apply_meeting}
 
 -- a space that has never run, with so much fuel
 abbrev pub fresh : ℕ → Top
@@ -36,8 +37,8 @@ or_fresh t (Some c) = c
 
 -- the children that a call waits for, in this order
 abbrev pub awaits : Call → List Await
-awaits (Put x) = record { number = x.child; reach = itself } ∷ []
-awaits (Get x) = record { number = x.child; reach = itself } ∷ []
+awaits (Put x) = record { number = x.child; reach = Itself } ∷ []
+awaits (Get x) = record { number = x.child; reach = Itself } ∷ []
 awaits k = []
 
 -- with Regs, the least address of the register block that lacks a right

@@ -49,3 +49,12 @@ pub struct Refusal {
     pub cause: Cause,
     pub value: u32,
 }
+
+/// How much of a child is waited for.
+#[derive(Clone, Copy, Debug, PartialEq, Eq)]
+pub enum Reach {
+    /// The child itself.
+    Itself,
+    /// The child and every space below it.
+    Whole,
+}

@@ -1,0 +1,79 @@
+use Rattle.std.proofs.Common.{◌-◌, pred, arith, inl, inr, ap, sym, ◌∙◌}
+use Rattle.std.proofs.lemmas.Result.{on_ok_weaker}
+use Rattle.demand_eval.specs.Turns.{end_of, with_awaited}
+use Rattle.demand_eval.proofs.Children.{child_below, child_becomes, child_missing, one_below}
+use Rattle.demand_eval.proofs.Turns.{may_meet, may_pay, met, awaited_put, awaited_get, went_on, advanced_sound, advanced, advanced_then, advanced_stopped}
+use Rattle.demand_eval.proofs.Everyone.{over_all-more, over_all-done, settled_all, one_settled, run_then, ran_sound}
+use Rattle.demand_eval.proofs.running.+settle.Goals as goal
+use Rattle.demand_eval.proofs.running.+settle.Goals.{wait_for_child-in-Some, wait_for_child-in-None}
+
+pub wait_for_child-finish-requires : goal.wait_for_child-finish-requires
+wait_for_child-finish-requires t c =
+    let below = child_below c.args.depth c.args.number c.space.inside.top c.args.space.now c.in-Some.child.now c.space.inside.children.entries c.requires.sound c.space.view_is c.in-Some.ensures.value in
+    (omega arith, below)
+
+pub wait_for_child-returns : goal.wait_for_child-returns
+wait_for_child-returns t c = elim c.match-get_mut.branch [
+  | wait_for_child-in-Some w ↦
+      rw (w.result-is, w.space-inside-is)
+      (on_ok_weaker w.finish.result (λ h. child_becomes c.args.number (end_of (pred (8 - c.args.depth)) c.args.reach) c.space.inside.top c.args.space.now w.in-Some.child.now w.finish.new.space c.space.inside.children.entries
+      (c.get_mut.follows.lender w.finish.new.space).entries c.space.view_is w.in-Some.ensures.value (h ∙ ap (λ k. end_of k c.args.reach w.in-Some.child.now) (one_below c.args.depth)) (c.get_mut.follows.holds w.finish.new.space).0)
+      w.finish.ensures)
+  | wait_for_child-in-None w ↦ rw (w.result-is, w.space-inside-is)
+      (child_missing c.args.number (end_of (pred (8 - c.args.depth)) c.args.reach) c.space.inside.top c.args.space.now c.space.inside.children.entries c.get_mut.follows.lender-at-none.entries
+      c.space.view_is w.in-None.ensures.value (ap (λ m. m.entries) c.get_mut.follows.holds-at-none))
+]
+
+pub wait_for-returns-in-Put : goal.wait_for-returns-in-Put
+wait_for-returns-in-Put t c = elim c.in-Put.is [
+  | inl e ↦ on_ok_weaker c.wait_for_child.result (λ h. h ∙ sym (awaited_put _ c.in-Put.transfer _ c.requires.sound) ∙ ap (λ k. with_awaited (8 - c.args.depth) k c.args.space.now) (sym e)) c.wait_for_child.ensures
+  | inr e ↦ on_ok_weaker c.wait_for_child.result (λ h. h ∙ sym (awaited_get _ c.in-Put.transfer _ c.requires.sound) ∙ ap (λ k. with_awaited (8 - c.args.depth) k c.args.space.now) (sym e)) c.wait_for_child.ensures
+]
+
+pub meet-apply-requires-clause-may_meet : goal.meet-apply-requires-clause-may_meet
+meet-apply-requires-clause-may_meet t c = may_meet _ _ c.args.space.now c.requires.next
+
+pub meet-apply-requires-clause-may_pay : goal.meet-apply-requires-clause-may_pay
+meet-apply-requires-clause-may_pay t c =
+    let waited = c.in_ok-wait_for.ensures ∙ ap (λ k. with_awaited (8 - c.args.depth) k c.args.space.now) c.call.ensures.value in
+    may_pay _ _ c.args.space.now _ c.requires.next waited
+
+pub meet-returns : goal.meet-returns
+meet-returns t c =
+    let waited = c.in_ok-wait_for.ensures ∙ ap (λ k. with_awaited (8 - c.args.depth) k c.args.space.now) c.call.ensures.value in
+    on_ok_weaker c.apply.result (λ h. met _ _ _ _ _ c.requires.sound c.requires.next waited h) c.apply.ensures.ok
+
+pub turn-meet-requires : goal.turn-meet-requires
+turn-meet-requires t c = (omega arith, (c.requires.depth, (advanced_sound _ _ _ _ _ _ c.requires.sound c.space.view_is c.in_ok-advance.ensures.ok.0, c.in-Meet.ensures)))
+
+pub turn-returns-in-Local : goal.turn-returns-in-Local
+turn-returns-in-Local t c =
+    let ran = c.in_ok-advance.ensures.ok in
+    advanced _ _ _ _ _ _ c.requires.sound c.space.view_is ran.0 (went_on _ _ 1048576 _ ran.2 c.in-Local.ensures (omega arith))
+
+pub turn-returns-in_ok-meet-in-Meet : goal.turn-returns-in_ok-meet-in-Meet
+turn-returns-in_ok-meet-in-Meet t c = advanced_then _ _ _ _ _ _ _ c.space.view_is c.in_ok-advance.ensures.ok.0 c.in_ok-meet-in-Meet.ensures
+
+pub turn-returns-in-Stopped : goal.turn-returns-in-Stopped
+turn-returns-in-Stopped t c = advanced_stopped _ _ _ _ _ _ c.space.view_is c.in_ok-advance.ensures.ok.0 c.in-Stopped.ensures
+
+pub settle_children-loop-number-preserved : goal.settle_children-loop-number-preserved
+settle_children-loop-number-preserved t c = record {
+  same = over_all-more _ _ _ _ _ c.loop-number-test.true c.in_ok-wait_for_child.ensures ∙ c.loop-number.invariant.same;
+  sound = one_settled _ _ _ _ c.loop-number.invariant.sound c.in_ok-wait_for_child.ensures;
+}
+
+pub settle_children-returns : goal.settle_children-returns
+settle_children-returns t c =
+    sym (over_all-done _ _ _ _ c.loop-number-test.false) ∙ c.loop-number.invariant.same
+    ∙ settled_all _ _ _ _ _ c.requires.sound c.space.view_is (c.deref-number-items.ensures.value ∙ c.in_ok-numbers.ensures)
+
+pub finish-returns-in-Itself : goal.finish-returns-in-Itself
+finish-returns-in-Itself t c = c.in_ok-run.ensures ∙ ap (λ r. end_of (8 - c.args.depth) r c.args.space.now) (sym c.in-Itself.is)
+
+pub finish-settle_children-requires : goal.finish-settle_children-requires
+finish-settle_children-requires t c = (omega arith, (c.requires.depth, ran_sound _ _ _ c.requires.sound c.in_ok-run.ensures))
+
+pub finish-returns-in-Whole : goal.finish-returns-in-Whole
+finish-returns-in-Whole t c =
+    on_ok_weaker c.settle_children.result (λ h. run_then _ _ _ _ c.in_ok-run.ensures h ∙ ap (λ r. end_of (8 - c.args.depth) r c.args.space.now) (sym c.in-Whole.is)) c.settle_children.ensures
