@@ -1,5 +1,6 @@
 ghost use Rattle.std.specs.Prelude.{◌<◌, ◌^◌};
 
+use crate::expected::assert_bytes;
 use det_host::{
     FileLoader, Gate, GateEvent, LoadError, Loader, MemLoader, MemSink, OpenGate, Sink, SinkError,
     StdSink, SureSink,
@@ -54,11 +55,11 @@ fn assert_loaded(
     got: &Result<Vec<u8>, LoadError>,
     want: Result<&[u8], LoadError>,
 ) {
-    match (got, want) {
-        (Ok(bytes), Ok(want)) => assert_eq!(rt; bytes.as_slice(), want, "{name}"),
-        (Err(error), Err(want)) => assert_eq!(rt; *error, want, "{name}"),
-        _ => panic!(rt; "{name}"),
-    }
+    let got = match got {
+        Ok(bytes) => Ok(bytes.as_slice()),
+        Err(error) => Err(*error),
+    };
+    assert_eq!(rt; got, want, "{name}");
 }
 
 fn one_load<R: AllocGlobal + Abort>(
@@ -92,22 +93,26 @@ fn files_in_memory(rt: HostRuntime) -> Result<(), Fail> {
     Ok(())
 }
 
+fn one_write(rt: &impl Abort, sink: &mut impl Sink, piece: &[u8], want: Result<usize, SinkError>) {
+    assert_eq!(rt; sink.write(piece), want);
+}
+
 #[test]
 fn sinks_in_memory(rt: HostRuntime) -> Result<(), Fail> {
     let mut sink = MemSink::new(rt.alloc(), 2, [2].to_vec(rt.alloc())?);
-    assert_eq!(rt; sink.write(b"abc").ok(), Some(2));
-    assert_eq!(rt; sink.write(b"c").err(), Some(SinkError::Failed));
-    assert_eq!(rt; sink.write(b"").ok(), Some(0));
-    assert_eq!(rt; sink.write(b"c").ok(), Some(1));
-    assert_eq!(rt; sink.taken(), b"abc".as_slice());
+    one_write(&rt, &mut sink, b"abc", Ok(2));
+    one_write(&rt, &mut sink, b"c", Err(SinkError::Failed));
+    one_write(&rt, &mut sink, b"", Ok(0));
+    one_write(&rt, &mut sink, b"c", Ok(1));
+    assert_bytes(&rt, sink.taken(), b"abc");
     Ok(())
 }
 
 #[test]
 fn sure_sinks(rt: HostRuntime) {
-    let mut sure = SureSink::new(rt.alloc());
-    assert_eq!(rt; sure.write(b"abc").ok(), Some(3));
-    assert_eq!(rt; sure.taken(), b"abc".as_slice());
+    let mut sink = SureSink::new(rt.alloc());
+    one_write(&rt, &mut sink, b"abc", Ok(3));
+    assert_bytes(&rt, sink.taken(), b"abc");
 }
 
 #[test]
@@ -137,8 +142,8 @@ fn a_narrow_writer(rt: HostRuntime) {
         taken: Vec::new(rt.alloc()),
         calls: 0,
     });
-    assert_eq!(rt; sink.write(b"abcdef").ok(), Some(4));
-    assert_eq!(rt; sink.write(b"ef").ok(), Some(2));
+    one_write(&rt, &mut sink, b"abcdef", Ok(4));
+    one_write(&rt, &mut sink, b"ef", Ok(2));
 }
 
 #[test]

@@ -1,4 +1,5 @@
-use image_file::{Image, read_image, write_image};
+use crate::expected::{assert_bytes, assert_text};
+use image_file::{Image, Segment, read_image, write_image};
 use std::alloc::{AllocError, Global};
 use std::process::Abort;
 use std::test::*;
@@ -21,14 +22,18 @@ const ONE_PAGE_TWICE: [u8; 39] = [
     0x93, 0x08, 0x30, 0x00, 0x13, 0x05, 0x70, 0x00, 0x73, 0x00, 0x00, 0x00, 0xFC, 0x1F, 0, 0,
 ];
 
+fn assert_segment(rt: &impl Abort, segment: &Segment) {
+    assert_eq!(rt; segment.addr, 0x1000);
+    assert_eq!(rt; segment.perm, 1);
+    assert_bytes(rt, &segment.bytes, &IMAGE[23..]);
+}
+
 fn assert_image(rt: &impl Abort, image: &Image) {
     assert_eq!(rt; image.entry(), 0x1000);
     assert_eq!(rt; image.stack(), 0);
-    assert_eq!(rt; image.segments().len(), 1);
-    for segment in image.segments() {
-        assert_eq!(rt; segment.addr, 0x1000);
-        assert_eq!(rt; segment.perm, 1);
-        assert_eq!(rt; segment.bytes.as_slice(), &IMAGE[23..]);
+    match image.segments() {
+        [segment] => assert_segment(rt, segment),
+        _ => panic!(rt; "one segment"),
     }
 }
 
@@ -37,7 +42,7 @@ fn reads_and_writes_an_image(rt: HostRuntime) -> Result<(), Fail> {
     let image = read_image(rt.alloc(), &IMAGE)?;
     assert_image(&rt, &image);
     let written = write_image(rt.alloc(), &image)?;
-    assert_eq!(rt; written.as_slice(), IMAGE.as_slice());
+    assert_bytes(&rt, &written, &IMAGE);
     Ok(())
 }
 
@@ -45,7 +50,7 @@ fn reads_and_writes_an_image(rt: HostRuntime) -> Result<(), Fail> {
 fn writes_an_image_with_no_segment(rt: HostRuntime) -> Result<(), Fail> {
     let empty = Image::new(0, 0, Vec::new(rt.alloc()));
     let written = write_image(rt.alloc(), &empty)?;
-    assert_eq!(rt; written.as_slice(), b"DTI1\0\0\0\0\0\0\0\0\0\0".as_slice());
+    assert_bytes(&rt, &written, b"DTI1\0\0\0\0\0\0\0\0\0\0");
     Ok(())
 }
 
@@ -59,7 +64,7 @@ fn fault_of(alloc: Global, bytes: &[u8]) -> Result<String, AllocError> {
 
 fn one_fault<R: AllocGlobal + Abort>(rt: &R, bytes: &[u8], want: &str) {
     match fault_of(rt.alloc(), bytes) {
-        Ok(text) => assert_eq!(rt; text.as_str(), want),
+        Ok(text) => assert_text(rt, "bytes", text.as_str(), want),
         Err(_) => panic!(rt; "no memory"),
     }
 }

@@ -2,6 +2,8 @@
 #![tactic(auto)]
 
 #[cfg(test)]
+mod expected;
+#[cfg(test)]
 mod files_and_sinks;
 #[cfg(test)]
 mod images;

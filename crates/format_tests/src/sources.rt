@@ -1,3 +1,4 @@
+use crate::expected::assert_text;
 use image_file::{Image, write_image};
 use rv_asm::assemble;
 use std::alloc::{AllocError, Global};
@@ -23,23 +24,28 @@ fn answer(alloc: Global, source: &[u8]) -> Result<String, AllocError> {
 
 fn one_source<R: AllocGlobal + Abort>(rt: &R, source: &str, want: &str) {
     match answer(rt.alloc(), source.as_bytes()) {
-        Ok(text) => assert_eq!(rt; text.as_str(), want, "{source}"),
+        Ok(text) => assert_text(rt, source, text.as_str(), want),
         Err(_) => panic!(rt; "no memory"),
     }
 }
 
-/// The answer for lines of one segment at 0x1000 with permission 1.
-fn answer_of_lines(alloc: Global, lines: &str) -> Result<String, AllocError> {
-    let source = format!(in alloc; ".segment 0x1000 1\n{lines}")?;
-    answer(alloc, source.as_bytes())
-}
-
-/// The head of the file of such lines.
+/// The head of a file whose one segment stands at 0x1000 with permission 1.
 const ONE: &str = "44544931001000000000000001000010000001";
 
+/// The answer for lines of one such segment, and the one that is wanted.
+fn answers_of_lines(
+    alloc: Global,
+    lines: &str,
+    want: &str,
+) -> Result<(String, String), AllocError> {
+    let source = format!(in alloc; ".segment 0x1000 1\n{lines}")?;
+    let wanted = format!(in alloc; "{ONE}{want}")?;
+    Ok((answer(alloc, source.as_bytes())?, wanted))
+}
+
 fn one_of_lines<R: AllocGlobal + Abort>(rt: &R, lines: &str, want: &str) {
-    match answer_of_lines(rt.alloc(), lines) {
-        Ok(text) => assert_eq!(rt; text.strip_prefix(ONE), Some(want), "{lines}"),
+    match answers_of_lines(rt.alloc(), lines, want) {
+        Ok((text, wanted)) => assert_text(rt, lines, text.as_str(), wanted.as_str()),
         Err(_) => panic!(rt; "no memory"),
     }
 }
@@ -98,10 +104,7 @@ fn assembles_entries_and_segments(rt: HostRuntime) {
 }
 
 #[test]
-fn names_faults_of_words_and_numbers(rt: HostRuntime) {}
-
-#[test]
-fn names_faults_of_places_and_labels(rt: HostRuntime) {
+fn names_faults_of_words_and_operands(rt: HostRuntime) {
     one_source(&rt, "nop\n\nli x1", "line 1: word");
     one_source(&rt, "ADDI x1, x1, 1", "line 1: word");
     one_source(&rt, "ecall ; \u{e9}", "line 1: word");
@@ -112,6 +115,11 @@ fn names_faults_of_places_and_labels(rt: HostRuntime) {
     one_source(&rt, "addi x99, x2 x3, 4096", "line 1: operand");
     one_source(&rt, "lw a0, 4", "line 1: operand");
     one_source(&rt, "add a0, (a1), a2", "line 1: operand");
+    one_source(&rt, ".segment 0x1000 1\n.word a\na: nop", "line 3: word");
+}
+
+#[test]
+fn names_faults_of_registers_and_numbers(rt: HostRuntime) {
     one_source(&rt, "add x32, x1, x1", "line 1: register");
     one_source(&rt, "lw a0, 99999(y1)", "line 1: register");
     one_source(&rt, "sw x1, 4(x01)", "line 1: register");
@@ -123,7 +131,6 @@ fn names_faults_of_places_and_labels(rt: HostRuntime) {
     one_source(&rt, "lui x1, -1", "line 1: number");
     one_source(&rt, "slli a0, a0, 32", "line 1: number");
     one_source(&rt, ".byte 007", "line 1: number");
-    one_source(&rt, ".segment 0 99999999999999999999\n", "line 1: place");
     one_source(
         &rt,
         ".segment 0x1000 1\nbeq x0, x0, 0x1ffe\nbeq x0, x0, 0x2004",
@@ -131,6 +138,11 @@ fn names_faults_of_places_and_labels(rt: HostRuntime) {
     );
     one_source(&rt, ".segment 0x1000 1\njal x0, 0x1001", "line 2: number");
     one_source(&rt, "beq x0, x0, 0x1000", "line 1: number");
+}
+
+#[test]
+fn names_faults_of_places_and_labels(rt: HostRuntime) {
+    one_source(&rt, ".segment 0 99999999999999999999\n", "line 1: place");
     one_source(&rt, "a:\na: ecall", "line 2: twice");
     one_source(
         &rt,
@@ -158,7 +170,6 @@ fn names_faults_of_places_and_labels(rt: HostRuntime) {
     one_source(&rt, ".segment 0x1000 1\nli x1, nowhere", "line 2: label");
     one_source(&rt, ".segment 0x1000 1\n.word a0", "line 2: label");
     one_source(&rt, ".entry nowhere", "line 1: label");
-    one_source(&rt, ".segment 0x1000 1\n.word a\na: nop", "line 3: word");
 }
 
 fn segments(alloc: Global, count: usize) -> Result<String, AllocError> {
