@@ -2,7 +2,5 @@
 #![tactic(auto)]
 
 mod running;
-#[cfg(test)]
-mod tests;
 
 pub use running::settle;

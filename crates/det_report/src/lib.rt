@@ -5,6 +5,3 @@ mod line;
 mod reporting;
 
 pub use reporting::report;
-
-#[cfg(test)]
-mod tests;

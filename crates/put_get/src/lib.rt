@@ -11,6 +11,3 @@ mod refusal;
 mod registers;
 
 pub use meeting::apply;
-
-#[cfg(test)]
-mod tests;

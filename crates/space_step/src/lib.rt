@@ -17,6 +17,3 @@ pub use peeking::peek;
 pub use run::{Run, run_local};
 pub use running::{advance, next};
 pub use trap_ret::AcceptedCall;
-
-#[cfg(test)]
-mod tests;

@@ -1,5 +1,18 @@
-//! Tests of spaces that cross crates.
+//! Tests of spaces: of trees of them, of Put and Get, of local events and stretches of them, of booting, of runs and of
+//! reports, through what the crates below show.
 #![tactic(auto)]
 
+#[cfg(test)]
+mod events;
+#[cfg(test)]
+mod local_events;
+#[cfg(test)]
+mod meetings;
+#[cfg(test)]
+mod reports;
+#[cfg(test)]
+mod settling;
+#[cfg(test)]
+mod spaces;
 #[cfg(test)]
 mod stretches;

@@ -5,8 +5,6 @@ mod devices;
 mod path;
 mod settled;
 mod space;
-#[cfg(test)]
-mod tests;
 mod top;
 
 pub use devices::Devices;

@@ -3,7 +3,7 @@ use Rattle.memory_model.specs.Memory.{Memory}
 use Rattle.space_model.specs.Space.{space, none, Devices}
 use Rattle.space_model.specs.Sound.{IsSound}
 use Rattle.run_model.specs.Boot.{root_of}
-use Rattle.demand_eval.proofs.tests.root.Goals as goal
+use Rattle.space_tests.proofs.settling.root.Goals as goal
 
 root_sound : (entry stack fuel : ℕ) (m : Memory) (d : Devices) → 1 ≤ fuel → fuel < 2 ^ 32 → IsSound (space (root_of entry stack m fuel d) none)
 root_sound entry stack fuel m d low high = (fuel, (low, high, (record { sum = omega arith; devices = refl }, tt)))

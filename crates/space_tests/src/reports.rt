@@ -1,6 +1,6 @@
 ghost use Rattle.std.specs.Prelude.{◌≤◌};
 
-use super::*;
+use det_report::report;
 use space_tree::{Cause, Space, Status, Top, is_settled};
 use std::alloc::Global;
 use std::test::*;

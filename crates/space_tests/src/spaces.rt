@@ -1,8 +1,18 @@
-use crate::{
+use space_tree::{
     Cause, Devices, Mem, Pages, Path, Space, Status, Top, at, is_settled, is_stopped, put_at,
     swap_top,
 };
+use std::alloc::{AllocError, Global};
+use std::process::Abort;
 use std::test::Fail;
+
+// The fuel of the space at a path.
+fn fuel_at(space: &Space, path: &Path) -> Option<u32> {
+    match at(space, path) {
+        Some(found) => Some(found.top().fuel),
+        None => None,
+    }
+}
 
 #[test]
 fn spaces_at_paths(rt: HostRuntime) -> Result<(), Fail> {
@@ -10,18 +20,15 @@ fn spaces_at_paths(rt: HostRuntime) -> Result<(), Fail> {
     let mut tree = Space::alone(alloc, Top::fresh(alloc, 10));
     let mut path = Path::new();
     path.push(65_535);
-    assert!(rt; at(&tree, &path).is_none());
+    assert_eq!(rt; fuel_at(&tree, &path), None);
     put_at(&mut tree, &path, Space::alone(alloc, Top::fresh(alloc, 20)))?;
     let former = swap_top(&mut tree, &path, Top::fresh(alloc, 30));
     assert_eq!(rt; former.fuel, 20);
-    assert_eq!(rt; at(&tree, &path).map(|space| space.top().fuel), Some(30));
+    assert_eq!(rt; fuel_at(&tree, &path), Some(30));
     path.push(7);
     put_at(&mut tree, &path, Space::alone(alloc, Top::fresh(alloc, 40)))?;
-    assert_eq!(rt; at(&tree, &path).map(|space| space.top().fuel), Some(40));
-    assert_eq!(rt;
-        at(&tree, &Path::new()).map(|space| space.top().fuel),
-        Some(10)
-    );
+    assert_eq!(rt; fuel_at(&tree, &path), Some(40));
+    assert_eq!(rt; fuel_at(&tree, &Path::new()), Some(10));
     Ok(())
 }
 
@@ -41,28 +48,55 @@ fn settled_trees(rt: HostRuntime) -> Result<(), Fail> {
     Ok(())
 }
 
-#[test]
-fn copies(rt: HostRuntime) -> Result<(), Fail> {
-    let alloc = rt.alloc();
-    let mut mem = Mem::new(alloc);
-    mem.set_perm(Pages { first: 2, count: 1 }, 3)?;
-    mem.write(0x2000, 9)?;
+// A memory with a 9 in its page 2, which may be read and written.
+fn memory(alloc: Global) -> Result<Mem, AllocError> {
+    let mut memory = Mem::new(alloc);
+    memory.set_perm(Pages { first: 2, count: 1 }, 3)?;
+    memory.write(0x2000, 9)?;
+    Ok(memory)
+}
+
+// A root with that memory, a byte in its console, and 50 units of fuel.
+fn root(alloc: Global) -> Result<Top, AllocError> {
     let mut devices = Devices::new(alloc);
     devices.console.push(b'c')?;
-    let mut top = Top::root(0x2000, 0x3000, mem, 50, devices);
-    top.snapshot = Some(top.memory.frozen()?);
+    let memory = memory(alloc)?;
+    Ok(Top::root(0x2000, 0x3000, memory, 50, devices))
+}
+
+// Gives a space a snapshot, and a limit of 5.
+fn limit(top: &mut Top) -> Result<(), AllocError> {
+    let snapshot = top.memory.frozen()?;
+    top.snapshot = Some(snapshot);
     top.limit = Some(5);
+    Ok(())
+}
+
+// A copy of a space, which then writes and stops.
+fn copy_of(top: &mut Top) -> Result<Top, AllocError> {
     let copy = top.copied()?;
     top.memory.write(0x2000, 8)?;
     top.stop(Cause::Ret, 1);
+    Ok(copy)
+}
+
+fn assert_copy(rt: &impl Abort, copy: &Top) {
     assert_eq!(rt; copy.memory.byte(0x2000), 9);
     assert!(rt; copy.snapshot.is_some());
-    assert_eq!(rt; copy.registers, top.registers);
     assert_eq!(rt; copy.limit, Some(5));
     assert_eq!(rt; copy.total_fuel(), 50);
     assert_eq!(rt; copy.console(), b"c".as_slice());
     assert!(rt; copy.has_devices());
     assert!(rt; !copy.is_stopped());
+}
+
+#[test]
+fn copies(rt: HostRuntime) -> Result<(), Fail> {
+    let mut top = root(rt.alloc())?;
+    limit(&mut top)?;
+    let copy = copy_of(&mut top)?;
+    assert_eq!(rt; copy.registers, top.registers);
+    assert_copy(&rt, &copy);
     Ok(())
 }
 

@@ -1,7 +1,7 @@
 ghost use Rattle.std.specs.Prelude.{IfOk};
 ghost use Rattle.space_model.specs.Sound.{IsSound};
 
-use crate::settle;
+use demand_eval::settle;
 use space_tree::{Cause, Devices, Mem, Pages, Space, Status, Top};
 use std::alloc::{AllocError, Global};
 use std::test::Fail;
@@ -59,6 +59,9 @@ const RETURN_COUNT: [u32; 3] = [
     0x0000_0073, // ecall
 ];
 
+// Behind START_CHILD and RETURN_ITS_VALUE.
+const BEHIND_17: u32 = CODE + 4 * 17;
+
 // Writes words from an address on, and answers the address behind them.
 fn write_words(memory: &mut Mem, from: u32, words: &[u32]) -> Result<u32, AllocError> {
     let mut at = from;
@@ -69,6 +72,17 @@ fn write_words(memory: &mut Mem, from: u32, words: &[u32]) -> Result<u32, AllocE
         }
     }
     Ok(at)
+}
+
+// A memory with these pieces of code one behind the other, and with the child's pc in the block.
+fn memory(alloc: Global, code: [&[u32]; 3], pc: u32) -> Result<Mem, AllocError> {
+    let mut memory = Mem::new(alloc);
+    let mut at = CODE;
+    for piece in code {
+        at = write_words(&mut memory, at, piece)?;
+    }
+    write_words(&mut memory, BLOCK, &[pc])?;
+    Ok(memory)
 }
 
 // A root that is about to run at 0x1000, with 1,000 units of fuel.
@@ -89,6 +103,15 @@ fn line(space: &Space, found: &mut Vec<(Status, u32)>) -> Result<(), AllocError>
     Ok(())
 }
 
+// The same of the tree that a root with this code settles to.
+fn settled(alloc: Global, code: [&[u32]; 3], pc: u32) -> Result<Vec<(Status, u32)>, AllocError> {
+    let memory = memory(alloc, code, pc)?;
+    let tree = settle(alloc, root(alloc, memory)?)?;
+    let mut found = Vec::new(alloc);
+    line(&tree, &mut found)?;
+    Ok(found)
+}
+
 fn returned(value: u32) -> Status {
     Status::Stopped {
         cause: Cause::Ret,
@@ -99,15 +122,12 @@ fn returned(value: u32) -> Status {
 // The root waits for its child, and has what the child came to.
 #[test]
 fn child_that_is_waited_for(rt: HostRuntime) -> Result<(), Fail> {
-    let alloc = rt.alloc();
-    let mut memory = Mem::new(alloc);
-    let behind = write_words(&mut memory, CODE, &START_CHILD)?;
-    let entry = write_words(&mut memory, behind, &RETURN_ITS_VALUE)?;
-    write_words(&mut memory, entry, &RETURN_42)?;
-    write_words(&mut memory, BLOCK, &[entry])?;
-    let tree = settle(alloc, root(alloc, memory)?)?;
-    let mut found = Vec::new(alloc);
-    line(&tree, &mut found)?;
+    let code = [
+        START_CHILD.as_slice(),
+        RETURN_ITS_VALUE.as_slice(),
+        RETURN_42.as_slice(),
+    ];
+    let found = settled(rt.alloc(), code, BEHIND_17)?;
     assert_eq!(rt;
         found.as_slice(),
         [(returned(42), 17), (returned(42), 3)].as_slice()
@@ -118,15 +138,12 @@ fn child_that_is_waited_for(rt: HostRuntime) -> Result<(), Fail> {
 // Nobody waits for the child, nor for the child's child; they run at the end.
 #[test]
 fn children_that_nobody_waits_for(rt: HostRuntime) -> Result<(), Fail> {
-    let alloc = rt.alloc();
-    let mut memory = Mem::new(alloc);
-    let behind = write_words(&mut memory, CODE, &COUNT_TO_2)?;
-    let done = write_words(&mut memory, behind, &START_CHILD)?;
-    write_words(&mut memory, done, &RETURN_COUNT)?;
-    write_words(&mut memory, BLOCK, &[CODE])?;
-    let tree = settle(alloc, root(alloc, memory)?)?;
-    let mut found = Vec::new(alloc);
-    line(&tree, &mut found)?;
+    let code = [
+        COUNT_TO_2.as_slice(),
+        START_CHILD.as_slice(),
+        RETURN_COUNT.as_slice(),
+    ];
+    let found = settled(rt.alloc(), code, CODE)?;
     assert_eq!(rt;
         found.as_slice(),
         [(returned(1), 18), (returned(2), 18), (returned(2), 5)].as_slice()

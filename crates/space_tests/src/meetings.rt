@@ -1,0 +1,497 @@
+use put_get::apply;
+use space_tree::{Cause, Mem, Pages, Regs, Space, Status, Top};
+use std::alloc::{AllocError, Global};
+use std::process::Abort;
+use std::test::Fail;
+use trap_ret::{Call, cause_number, read_call};
+
+const PUT: u32 = 1;
+
+const GET: u32 = 2;
+
+// Applies the call of these registers a0 to a7, as the root makes it.
+fn applied(
+    rt: &impl Abort,
+    alloc: Global,
+    space: &mut Space,
+    a: [u32; 8],
+) -> Result<(), AllocError> {
+    let mut x = [0; 32];
+    for i in 0..8 {
+        x[10 + i] = a[i];
+    }
+    let top = space.top();
+    assert!(rt; top.fuel > 0 && top.limit != Some(0) && top.status == Status::Running);
+    let Ok(call) = read_call(&x, true, 0) else {
+        panic!(rt; "refused");
+    };
+    match call.call() {
+        Call::Put(_) | Call::Get(_) => apply(alloc, call, 0, space),
+        _ => panic!(rt; "another call"),
+    }
+}
+
+// A memory with bytes at addresses and permissions of pages.
+fn memory(
+    alloc: Global,
+    bytes: &[(u32, u8)],
+    permissions: &[(u32, u8)],
+) -> Result<Mem, AllocError> {
+    let mut memory = Mem::new(alloc);
+    for (at, byte) in bytes {
+        memory.write(*at, *byte)?;
+    }
+    for (first, permission) in permissions {
+        let page = Pages {
+            first: *first % 1_048_576,
+            count: 1,
+        };
+        memory.set_perm(page, *permission % 4)?;
+    }
+    Ok(memory)
+}
+
+// A space that runs, at pc 0x100 and with a0 5; 7 units of fuel, 3 used and 5 of its limit.
+fn caller(alloc: Global, memory: Mem) -> Space {
+    let mut top = Top::fresh(alloc, 7);
+    top.registers = Regs::new(0x100);
+    top.registers.set_register(10, 5);
+    top.memory = memory;
+    top.limit = Some(5);
+    top.used = 3;
+    top.status = Status::Running;
+    Space::alone(alloc, top)
+}
+
+// A child that has returned 9, at pc 0x04030201 and with x1 5 and x31 6; 4 units of fuel, 6 used and 3 of its limit.
+fn child(alloc: Global, memory: Mem) -> Space {
+    let mut top = Top::fresh(alloc, 4);
+    top.registers = Regs::new(0x0403_0201);
+    top.registers.set_register(1, 5);
+    top.registers.set_register(31, 6);
+    top.memory = memory;
+    top.limit = Some(3);
+    top.used = 6;
+    top.status = Status::Stopped {
+        cause: Cause::Ret,
+        value: 9,
+    };
+    Space::alone(alloc, top)
+}
+
+// A caller with that child; each with bytes at addresses and permissions of pages.
+fn family(
+    alloc: Global,
+    number: u16,
+    callers: (&[(u32, u8)], &[(u32, u8)]),
+    childs: (&[(u32, u8)], &[(u32, u8)]),
+) -> Result<Space, AllocError> {
+    let mut space = caller(alloc, memory(alloc, callers.0, callers.1)?);
+    let below = child(alloc, memory(alloc, childs.0, childs.1)?);
+    space.children.insert(number, below)?;
+    Ok(space)
+}
+
+// What is seen of a space: its state, and two bytes and the permissions of two pages of its memory.
+#[derive(Clone, Copy)]
+struct Seen {
+    state: [u32; 9],
+    bytes: [u8; 2],
+    permissions: [u8; 2],
+}
+
+// pc, x1, x10 and x31; the number of the cause and the value, 22 and 0 where it runs; the limit, 99 where there is none; fuel
+// and what is used.
+fn state(top: &Top) -> [u32; 9] {
+    let x = &top.registers.x;
+    let (cause, value) = match top.status {
+        Status::Running => (22, 0),
+        Status::Stopped { cause, value } => (cause_number(cause), value),
+    };
+    let limit = top.limit.unwrap_or(99);
+    let pc = top.registers.pc;
+    [
+        pc, x[1], x[10], x[31], cause, value, limit, top.fuel, top.used,
+    ]
+}
+
+// A space as it is seen at these addresses and pages.
+fn seen_at(top: &Top, at: [u32; 2], pages: [u32; 2]) -> Seen {
+    let memory = &top.memory;
+    Seen {
+        state: state(top),
+        bytes: [memory.byte(at[0]), memory.byte(at[1])],
+        permissions: [memory.perm(pages[0]), memory.perm(pages[1])],
+    }
+}
+
+fn assert_seen(
+    rt: &impl Abort,
+    row: u32,
+    got: Seen,
+    state: [u32; 9],
+    bytes: [u8; 2],
+    permissions: [u8; 2],
+) {
+    assert_eq!(rt; got.state, state, "at {row}");
+    assert_eq!(rt; got.bytes, bytes, "at {row}");
+    assert_eq!(rt; got.permissions, permissions, "at {row}");
+}
+
+fn child_of<'a>(rt: &impl Abort, space: &'a Space, number: u16) -> &'a Top {
+    match space.children.get(&number) {
+        Some(child) => child.top(),
+        None => panic!(rt; "no child"),
+    }
+}
+
+// The caller after a call that has succeeded.
+const WENT: [u32; 9] = [0x104, 0, 0, 0, 22, 0, 4, 6, 4];
+
+// The child as it was.
+const RETURNED: [u32; 9] = [0x0403_0201, 5, 0, 6, 20, 9, 3, 4, 6];
+
+// A caller whose page 1 has a 1 and may be read, and whose page 6 has a register block, and a child whose page 4 has a 2 and
+// the permission 3.
+fn before_put(alloc: Global) -> Result<Space, AllocError> {
+    let callers = [
+        (0x1001, 1),
+        (0x6000, 5),
+        (0x6001, 6),
+        (0x6002, 7),
+        (0x6003, 8),
+        (0x6004, 7),
+        (0x607C, 8),
+    ];
+    let childs = [(0x4001, 2), (0x5001, 3)];
+    family(
+        alloc,
+        65_535,
+        (&callers, &[(1, 1), (6, 1)]),
+        (&childs, &[(4, 3), (5, 2)]),
+    )
+}
+
+// The caller and the child after a Put with these options.
+fn after_put(rt: &impl Abort, alloc: Global, options: u32) -> Result<(Seen, Seen), AllocError> {
+    let mut space = before_put(alloc)?;
+    let call = [options, 65_535, 0x6000, 0x1000, 0x4000, 0x1000, 2, PUT];
+    applied(rt, alloc, &mut space, call)?;
+    let child = child_of(rt, &space, 65_535);
+    Ok((
+        seen_at(&space.top, [0x1001, 0x4001], [1, 4]),
+        seen_at(child, [0x4001, 0x5001], [4, 5]),
+    ))
+}
+
+// A Put with these options; the child's state after it, and the byte and the permission of its page 4.
+fn one_of_puts(rt: &impl Abort, alloc: Global, options: u32, want: [u32; 9], page: [u8; 2]) {
+    match after_put(rt, alloc, options) {
+        Ok((caller, child)) => {
+            assert_seen(rt, options, caller, WENT, [1, 0], [1, 0]);
+            assert_seen(rt, options, child, want, [page[0], 3], [page[1], 2]);
+        }
+        Err(_) => panic!(rt; "no memory"),
+    }
+}
+
+// The child with the registers of the block, and as it goes on without a limit, with one, and with both.
+const SET: [u32; 9] = [0x0807_0605, 7, 0, 8, 20, 9, 3, 4, 6];
+
+const STARTED: [u32; 9] = [0x0403_0201, 5, 0, 6, 22, 0, 99, 4, 6];
+
+const LIMITED: [u32; 9] = [0x0403_0201, 5, 0, 6, 22, 0, 2, 4, 6];
+
+const SET_AND_LIMITED: [u32; 9] = [0x0807_0605, 7, 0, 8, 22, 0, 2, 4, 6];
+
+#[test]
+fn options_of_put(rt: HostRuntime) -> Result<(), Fail> {
+    let alloc = rt.alloc();
+    one_of_puts(&rt, alloc, 0, RETURNED, [2, 3]);
+    one_of_puts(&rt, alloc, 1, SET, [2, 3]);
+    one_of_puts(&rt, alloc, 2, RETURNED, [1, 1]);
+    one_of_puts(&rt, alloc, 4, RETURNED, [0, 3]);
+    one_of_puts(&rt, alloc, 0x2010, RETURNED, [2, 2]);
+    one_of_puts(&rt, alloc, 0x0012, RETURNED, [1, 0]);
+    one_of_puts(&rt, alloc, 0x1014, RETURNED, [0, 1]);
+    one_of_puts(&rt, alloc, 64, STARTED, [2, 3]);
+    one_of_puts(&rt, alloc, 192, LIMITED, [2, 3]);
+    one_of_puts(&rt, alloc, 0x30D3, SET_AND_LIMITED, [1, 3]);
+    Ok(())
+}
+
+// The words of a register block at 0x6000: pc, x1, x10, x31, cause and value.
+fn block_words(memory: &Mem) -> [u32; 6] {
+    [
+        memory.word(0x6000),
+        memory.word(0x6004),
+        memory.word(0x6028),
+        memory.word(0x607C),
+        memory.word(0x6080),
+        memory.word(0x6084),
+    ]
+}
+
+// A caller whose page 4 has a 2 and the permission 3, and whose page 6 may be written, and a child whose page 1 has a 1 and may
+// be read.
+fn before_get(alloc: Global) -> Result<Space, AllocError> {
+    family(
+        alloc,
+        3,
+        (&[(0x4001, 2), (0x5001, 3)], &[(4, 3), (6, 2)]),
+        (&[(0x1001, 1)], &[(1, 1)]),
+    )
+}
+
+// The caller, with the words of its block, and the child after a Get.
+#[derive(Clone, Copy)]
+struct Got {
+    caller: Seen,
+    block: [u32; 6],
+    child: Seen,
+}
+
+// A Get with these options.
+fn after_get(rt: &impl Abort, alloc: Global, options: u32) -> Result<Got, AllocError> {
+    let mut space = before_get(alloc)?;
+    let call = [options, 3, 0x6000, 0x1000, 0x4000, 0x1000, 0, GET];
+    applied(rt, alloc, &mut space, call)?;
+    let top = space.top();
+    Ok(Got {
+        caller: seen_at(top, [0x4001, 0x5001], [4, 6]),
+        block: block_words(&top.memory),
+        child: seen_at(child_of(rt, &space, 3), [0x1001, 0x4001], [1, 4]),
+    })
+}
+
+// A Get with these options; the byte and the permission of the caller's page 4 after it, and the words of its block.
+fn one_of_gets(rt: &impl Abort, alloc: Global, options: u32, page: [u8; 2], words: [u32; 6]) {
+    match after_get(rt, alloc, options) {
+        Ok(got) => {
+            assert_eq!(rt; got.block, words, "at {options}");
+            assert_seen(rt, options, got.caller, WENT, [page[0], 3], [page[1], 2]);
+            assert_seen(rt, options, got.child, RETURNED, [1, 0], [1, 0]);
+        }
+        Err(_) => panic!(rt; "no memory"),
+    }
+}
+
+#[test]
+fn options_of_get(rt: HostRuntime) -> Result<(), Fail> {
+    let alloc = rt.alloc();
+    let block = [0x0403_0201, 5, 0, 6, 20, 9];
+    one_of_gets(&rt, alloc, 0, [2, 3], [0; 6]);
+    one_of_gets(&rt, alloc, 1, [2, 3], block);
+    one_of_gets(&rt, alloc, 2, [1, 1], [0; 6]);
+    one_of_gets(&rt, alloc, 4, [0, 3], [0; 6]);
+    one_of_gets(&rt, alloc, 0x2010, [2, 2], [0; 6]);
+    one_of_gets(&rt, alloc, 0x0012, [1, 0], [0; 6]);
+    one_of_gets(&rt, alloc, 0x1014, [0, 1], [0; 6]);
+    one_of_gets(&rt, alloc, 0x2013, [1, 2], block);
+    Ok(())
+}
+
+// A caller whose page 3 has a 9 at its ends, and a child whose pages 1, 2 and the last have bytes at their ends and permissions
+// 1, 2 and 2.
+fn before_range(alloc: Global) -> Result<Space, AllocError> {
+    let childs = [
+        (0x1000, 1),
+        (0x1FFF, 2),
+        (0x2000, 3),
+        (0x2FFF, 4),
+        (0xFFFF_F000, 5),
+        (0xFFFF_FFFF, 6),
+    ];
+    family(
+        alloc,
+        0,
+        (&[(0x3000, 9), (0x3FFF, 9)], &[(3, 3)]),
+        (&childs, &[(1, 1), (2, 2), (0xF_FFFF, 2)]),
+    )
+}
+
+// The caller after a Get with options, source, destination and size, as it is seen at these addresses and pages.
+fn after_range(
+    rt: &impl Abort,
+    alloc: Global,
+    range: [u32; 4],
+    at: [u32; 2],
+    pages: [u32; 2],
+) -> Result<Seen, AllocError> {
+    let [options, source, destination, size] = range;
+    let mut space = before_range(alloc)?;
+    let call = [options, 0, 0x3000, source, destination, size, 0, GET];
+    applied(rt, alloc, &mut space, call)?;
+    Ok(seen_at(&space.top, at, pages))
+}
+
+// Such a Get, with the bytes at two addresses after it, and the permissions of two pages.
+fn one_of_ranges(
+    rt: &impl Abort,
+    alloc: Global,
+    range: [u32; 4],
+    at: [u32; 2],
+    bytes: [u8; 2],
+    pages: [u32; 2],
+    permissions: [u8; 2],
+) {
+    match after_range(rt, alloc, range, at, pages) {
+        Ok(got) => assert_seen(rt, range[1], got, WENT, bytes, permissions),
+        Err(_) => panic!(rt; "no memory"),
+    }
+}
+
+// Ranges by Copy: of no page, up to the end of memory and from there, and ones that share numbers; a register block within
+// its range.
+#[test]
+fn edges_of_ranges(rt: HostRuntime) -> Result<(), Fail> {
+    let alloc = rt.alloc();
+    let range = [2, 0x1000, 0x3000, 0];
+    one_of_ranges(&rt, alloc, range, [0x3000, 0x3FFF], [9, 9], [3, 4], [3, 0]);
+    let range = [2, 0x1000, 0xFFFF_F000, 0x1000];
+    let ends = [0xFFFF_F000, 0xFFFF_FFFF];
+    one_of_ranges(&rt, alloc, range, ends, [1, 2], [0xF_FFFF, 3], [1, 3]);
+    let range = [2, 0xFFFF_F000, 0x3000, 0x1000];
+    let ends = [0x3000, 0x3FFF];
+    one_of_ranges(&rt, alloc, range, ends, [5, 6], [3, 0xF_FFFF], [2, 0]);
+    let range = [2, 0x1000, 0x2000, 0x2000];
+    one_of_ranges(&rt, alloc, range, [0x2FFF, 0x3000], [2, 3], [2, 3], [1, 2]);
+    let range = [2, 0x2000, 0x1000, 0x2000];
+    one_of_ranges(&rt, alloc, range, [0x1FFF, 0x2000], [4, 0], [1, 2], [2, 0]);
+    let range = [3, 0x1000, 0x3000, 0x1000];
+    one_of_ranges(&rt, alloc, range, [0x3001, 0x3FFF], [2, 2], [3, 4], [1, 0]);
+    Ok(())
+}
+
+// What a Get with Regs and Copy of child 9, which is missing, leaves of a caller whose pages 1 and 6 have bytes.
+fn after_get_of_none(rt: &impl Abort, alloc: Global) -> Result<Space, AllocError> {
+    let bytes = [(0x1001, 1), (0x6000, 7)];
+    let mut space = caller(alloc, memory(alloc, &bytes, &[(1, 1), (6, 3)])?);
+    let call = [3, 9, 0x6000, 0x2000, 0x1000, 0x1000, 0, GET];
+    applied(rt, alloc, &mut space, call)?;
+    Ok(space)
+}
+
+// Get reads a missing child as one that has never run, and makes none.
+#[test]
+fn get_of_none(rt: HostRuntime) -> Result<(), Fail> {
+    let space = after_get_of_none(&rt, rt.alloc())?;
+    let got = seen_at(&space.top, [0x1001, 0x6000], [1, 6]);
+    assert_seen(&rt, 0, got, WENT, [0, 0], [0, 3]);
+    assert_eq!(rt; space.top.memory.byte(0x6080), 21);
+    assert!(rt; space.children.is_empty());
+    Ok(())
+}
+
+// What two Puts leave that make children 9 and 8, the second with Start and a copy of the caller's page 6.
+fn after_puts_to_none(rt: &impl Abort, alloc: Global) -> Result<Space, AllocError> {
+    let mut space = caller(alloc, memory(alloc, &[(0x6080, 7)], &[(6, 3)])?);
+    applied(rt, alloc, &mut space, [0, 9, 0, 0, 0, 0, 0, PUT])?;
+    let copied = [66, 8, 0, 0x6000, 0x2000, 0x1000, 0, PUT];
+    applied(rt, alloc, &mut space, copied)?;
+    Ok(space)
+}
+
+fn assert_made(rt: &impl Abort, space: &Space) {
+    let nine = child_of(rt, space, 9);
+    assert_eq!(rt; state(nine), [0, 0, 0, 0, 21, 0, 99, 10, 0]);
+    assert_eq!(rt; nine.memory.next_page(0), None);
+    let eight = seen_at(child_of(rt, space, 8), [0x2080, 0], [2, 0]);
+    let started = [0, 0, 0, 0, 22, 0, 99, 10, 0];
+    assert_seen(rt, 8, eight, started, [7, 0], [3, 0]);
+}
+
+// Put makes a child, with the fuel that the caller had at first.
+#[test]
+fn put_to_none(rt: HostRuntime) -> Result<(), Fail> {
+    let space = after_puts_to_none(&rt, rt.alloc())?;
+    assert_eq!(rt; space.children.len(), 2);
+    assert_eq!(rt; state(space.top()), [0x108, 0, 0, 0, 22, 0, 3, 5, 5]);
+    assert_made(&rt, &space);
+    Ok(())
+}
+
+// A caller after a call with a register block: its state, its byte at 0x4001, permissions of pages 1, 2 and the last, and how
+// many children it has.
+#[derive(Clone, Copy)]
+struct Blocked {
+    state: [u32; 9],
+    byte: u8,
+    pages: [u8; 3],
+    children: usize,
+}
+
+// A call with a register block at an address, by a caller with permissions of pages 1 and 2 and the last, who makes its child's
+// or its own page 4 zeros.
+fn after_block(
+    rt: &impl Abort,
+    alloc: Global,
+    number: u32,
+    block: u32,
+    pages: [u8; 3],
+) -> Result<Blocked, AllocError> {
+    let rights = [(1, pages[0]), (2, pages[1]), (0xF_FFFF, pages[2])];
+    let mut space = caller(alloc, memory(alloc, &[(0x4001, 2)], &rights)?);
+    let call = [5, 7, block, 0, 0x4000, 0x1000, 0, number];
+    applied(rt, alloc, &mut space, call)?;
+    let top = space.top();
+    let memory = &top.memory;
+    Ok(Blocked {
+        state: state(top),
+        byte: memory.byte(0x4001),
+        pages: [memory.perm(1), memory.perm(2), memory.perm(0xF_FFFF)],
+        children: space.children.len(),
+    })
+}
+
+// Such a call, which is done.
+fn block_within(rt: &impl Abort, alloc: Global, number: u32, block: u32, pages: [u8; 3]) {
+    match after_block(rt, alloc, number, block, pages) {
+        Ok(got) => assert_eq!(rt; got.state, WENT, "at {block}"),
+        Err(_) => panic!(rt; "no memory"),
+    }
+}
+
+// Such a call, which stops its caller with this cause and the least address of the block that lacks the right.
+fn block_without(rt: &impl Abort, alloc: Global, number: u32, block: u32, pages: [u8; 3], at: u32) {
+    let cause = if number == PUT { 5 } else { 7 };
+    match after_block(rt, alloc, number, block, pages) {
+        Ok(got) => {
+            assert_eq!(rt;
+                got.state,
+                [0x100, 0, 5, 0, cause, at, 4, 6, 4],
+                "at {block}"
+            );
+            assert_eq!(rt; got.byte, 2, "at {block}");
+            assert_eq!(rt; got.pages, pages, "at {block}");
+            assert_eq!(rt; got.children, 0, "at {block}");
+        }
+        Err(_) => panic!(rt; "no memory"),
+    }
+}
+
+#[test]
+fn blocks_with_the_right(rt: HostRuntime) -> Result<(), Fail> {
+    let alloc = rt.alloc();
+    for number in [PUT, GET] {
+        block_within(&rt, alloc, number, 0xFFFF_FF78, [0, 0, 3]);
+        block_within(&rt, alloc, number, 0x1FC0, [3, 3, 0]);
+        block_within(&rt, alloc, number, 0x1F78, [3, 0, 0]);
+    }
+    Ok(())
+}
+
+#[test]
+fn blocks_without_a_right(rt: HostRuntime) -> Result<(), Fail> {
+    let alloc = rt.alloc();
+    for number in [PUT, GET] {
+        block_without(&rt, alloc, number, 0xFFFF_FF78, [3, 3, 0], 0xFFFF_FF78);
+        block_without(&rt, alloc, number, 0x1FC0, [3, 0, 0], 0x2000);
+        block_without(&rt, alloc, number, 0x1FC0, [0, 3, 0], 0x1FC0);
+        block_without(&rt, alloc, number, 0x1F7C, [3, 0, 0], 0x2000);
+    }
+    // The right to write for Put, and to read for Get.
+    block_without(&rt, alloc, PUT, 0x1000, [2, 0, 0], 0x1000);
+    block_without(&rt, alloc, GET, 0x1000, [1, 0, 0], 0x1000);
+    Ok(())
+}
