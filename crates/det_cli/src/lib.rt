@@ -14,8 +14,3 @@ pub use end::{End, ScriptError, status};
 pub use fault_line::write_fault;
 pub use main_call::det_main;
 pub use program::{Exit, det_program};
-
-#[cfg(test)]
-mod tests;
-#[cfg(test)]
-mod trees;
