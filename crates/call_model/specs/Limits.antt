@@ -13,9 +13,9 @@ greatest_depth = 8
 abbrev pub page_size : ℕ
 page_size = 4096
 
--- the most bytes that one call writes
-abbrev pub longest_piece : ℕ
-longest_piece = 65536
+-- the greatest length, in bytes, that a call of a device names
+abbrev pub greatest_length : ℕ
+greatest_length = 65536
 
 -- the last address from which on there are the 136 bytes of a register block
 abbrev pub last_block : ℕ

@@ -7,7 +7,7 @@ use Rattle.call_model.specs.declared.Call.{Call}
 use Rattle.call_model.specs.declared.Call.TheVariants.{Put, Get, Ret, ConsoleOut}
 use Rattle.call_model.specs.declared.Badcall.{Badcall}
 use Rattle.call_model.specs.Kinds.{kind_of}
-use Rattle.call_model.specs.Limits.{longest_piece}
+use Rattle.call_model.specs.Limits.{greatest_length}
 use Rattle.call_model.specs.Options.{bad_put_options, bad_get_options, bad_ranges, bad_block}
 use Rattle.call_model.specs.Tests.{argument, first_failing}
 
@@ -46,4 +46,4 @@ abbrev pub IsAccepted : Call → Type 0
 IsAccepted (Put t) = (bad_put_options t.options ≡ false) × IsTransfer t
 IsAccepted (Get t) = (bad_get_options t.options ≡ false) × IsTransfer t
 IsAccepted (Ret value) = Unit {0}
-IsAccepted (ConsoleOut addr len) = (addr + len ≤ 2 ^ 32) × (len ≤ longest_piece)
+IsAccepted (ConsoleOut addr len) = (addr + len ≤ 2 ^ 32) × (len ≤ greatest_length)

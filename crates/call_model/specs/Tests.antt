@@ -3,7 +3,7 @@
 use Rattle.std.specs.Prelude.{ℕ, ◌+◌, ◌==◌, Bool, false, not, nat_lt, if◌then◌else◌, List, [], ◌∷◌, slice_index, Option, Some, None}
 use Rattle.call_model.specs.declared.Kind.{Kind}
 use Rattle.call_model.specs.declared.Kind.TheVariants.{Put, Get, ConsoleOut}
-use Rattle.call_model.specs.Limits.{greatest_child, greatest_depth, longest_piece}
+use Rattle.call_model.specs.Limits.{greatest_child, greatest_depth, greatest_length}
 use Rattle.call_model.specs.Options.{bad_put_options, bad_get_options, bad_ranges, bad_block, passes_end}
 
 -- a0 is argument 0
@@ -34,9 +34,9 @@ unfoldable pub outside_root : Kind → Bool → Bool
 outside_root ConsoleOut root = not root
 outside_root kind root = false
 
--- a length above the longest
+-- a length above the greatest
 unfoldable pub too_long : Kind → List ℕ → Bool
-too_long ConsoleOut x = nat_lt longest_piece (argument x 2)
+too_long ConsoleOut x = nat_lt greatest_length (argument x 2)
 too_long kind x = false
 
 -- a child that would be deeper than the deepest

@@ -15,7 +15,7 @@ pub struct Transfer {
     pub limit: u32,
 }
 
-/// The kind of a call, one for each number that register a7 may have.
+/// The kind of a call: there is one for each number of a call in register a7.
 #[derive(Clone, Copy, Debug, PartialEq, Eq)]
 pub enum Kind {
     Put,

@@ -2,7 +2,7 @@ ghost use Rattle.std.specs.Prelude.{◌≡◌, ◌+◌, ◌<◌};
 ghost use Rattle.call_model.specs.Options as options_of;
 ghost use Rattle.call_model.specs.Tests as table;
 
-use crate::limits::{GREATEST_CHILD, GREATEST_DEPTH, LAST_BLOCK, LONGEST_PIECE, PAGE_SIZE};
+use crate::limits::{GREATEST_CHILD, GREATEST_DEPTH, GREATEST_LENGTH, LAST_BLOCK, PAGE_SIZE};
 use crate::options::{COPY, KNOWN, LIMIT, PERM, PERMISSION, REGS, START, ZERO, has};
 use call_model::Kind;
 
@@ -119,13 +119,13 @@ pub(crate) fn outside_root(kind: Kind, is_root: bool) -> bool
     }
 }
 
-/// Test 7: a length above the longest.
+/// Test 7: a length above the greatest.
 #[tactic(auto, unfolding(call_model::specs::Tests::too_long))]
 pub(crate) fn too_long(kind: Kind, x: &[u32; 32]) -> bool
     ensures { result ≡ table.too_long kind x.now }
 {
     match kind {
-        Kind::ConsoleOut => argument(x, 2) > LONGEST_PIECE,
+        Kind::ConsoleOut => argument(x, 2) > GREATEST_LENGTH,
         _ => false,
     }
 }

@@ -9,8 +9,8 @@ pub const GREATEST_DEPTH: u8 = 8;
 /// The bytes of a page.
 pub const PAGE_SIZE: u32 = 4096;
 
-/// The most bytes that one call writes.
-pub const LONGEST_PIECE: u32 = 65_536;
+/// The greatest length, in bytes, that a call of a device names.
+pub const GREATEST_LENGTH: u32 = 65_536;
 
 /// The last address from which on there are the 136 bytes of a register block.
 pub const LAST_BLOCK: u32 = 0xFFFF_FF78;
