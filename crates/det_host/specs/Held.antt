@@ -1,12 +1,14 @@
 -- What a loader and a sink in memory hold.
-use Rattle.std.specs.Prelude.{ℕ, ◌+◌, ◌-◌, ◌^◌, min, List, [], ◌∷◌, length, Option, Some, None, Result, Ok, Err, Bool, cond, string_bytes, nat_eq, nat_lt, if◌then◌else◌, refl}
+use Rattle.std.specs.Prelude.{◌≡◌, ℕ, ◌+◌, ◌-◌, ◌^◌, min, List, [], ◌∷◌, ◌++◌, length, take, Option, Some, None, Result, Ok, Err, Bool, true, false, ◌&&◌, cond, string_bytes, nat_eq, nat_lt, if◌then◌else◌, refl}
 use Rattle.std.specs.Prelude.{String, Vec}
 use Rattle.std.specs.Global.{Global}
 use Rattle.std.specs.Coded.{Coded, coded_ℕ, coded_list, coded×, code_by}
 use Rattle.std.specs.Cmp.Lexicographic.{pointwise}
 use Rattle.std.specs.List.{list_any}
 use Rattle.det_host.specs.declared.loader.LoadError.{LoadError}
-use Rattle.det_host.specs.declared.loader.LoadError.TheVariants.{Failed, TooLarge}
+use Rattle.det_host.specs.declared.loader.LoadError.TheVariants.{Failed, TooLarge, Memory}
+use Rattle.det_host.specs.declared.sink.SinkError.{SinkError}
+use Rattle.det_host.specs.declared.sink.SinkError.TheVariants.{Failed as NotWritten, Memory as NoRoom}
 
 -- a name and its bytes
 abbrev pub Named : Type 0
@@ -39,6 +41,19 @@ after_call c = record c { done = counted c.done }
 abbrev pub with_fault : Calls → Calls
 with_fault c = record c { faults = counted c.faults }
 
+-- a call, and a fault where it is one
+abbrev pub after : Calls → Bool → Calls
+after c is_fault = cond is_fault (with_fault (after_call c)) (after_call c)
+
+-- calls one after another, each with whether it is a fault
+abbrev pub after_calls : Calls → List Bool → Calls
+after_calls c [] = c
+after_calls c (is_fault ∷ rest) = after_calls (after c is_fault) rest
+
+-- whatever the calls before, the next one fails exactly where its number, from 1, is among these; the count stays at its end
+abbrev pub FailsAt : List ℕ → Calls → Type 0
+FailsAt numbers c = (before : List Bool) → is_failing (after_calls c before) ≡ list_any (λ n. nat_eq n (min (length before + 1) (2 ^ 64 - 1))) numbers
+
 -- files by name, the names asked for, and the calls
 pub record Files : Type 0 where
   pub files : List Named
@@ -69,6 +84,18 @@ in_room room (Some bytes) = if nat_lt room (length bytes) then Err (TooLarge (ro
 abbrev pub answer : Files → List ℕ → ℕ → Result (List ℕ) LoadError
 answer f name room = if is_failing f.calls then Err Failed else in_room room (held f.files name)
 
+-- a name more was asked for
+abbrev pub with_name : Files → List ℕ → Files
+with_name f name = record f { asked = f.asked ++ name ∷ [] }
+
+-- after a load with this answer: the call is counted, its name is kept, and a fault is counted where it failed; where memory ran out
+-- the call is counted, and no more
+abbrev pub after_load : {V : Type 0} → Files → List ℕ → Result V LoadError → Files
+after_load f name (Ok v) = record (with_name f name) { calls = after f.calls false }
+after_load f name (Err Failed) = record (with_name f name) { calls = after f.calls true }
+after_load f name (Err (TooLarge read)) = record (with_name f name) { calls = after f.calls false }
+after_load f name (Err Memory) = record f { calls = after f.calls false }
+
 -- the most bytes that a sink takes in a call, what it took, and the calls
 pub record Taking : Type 0 where
   pub most : ℕ
@@ -78,3 +105,18 @@ pub record Taking : Type 0 where
 abbrev pub coded_taking : Coded Taking
 coded_taking = code_by (ℕ × (List ℕ × Calls)) (coded× coded_ℕ (coded× (coded_list coded_ℕ) coded_calls)) (λ s. (s.most, (s.taken, s.calls)))
     (λ p. record { most = p.0; taken = p.1.0; calls = p.1.1 }) (λ _. refl)
+
+-- what the next write answers, memory aside
+abbrev pub written : Taking → List ℕ → Result ℕ SinkError
+written s piece = if is_failing s.calls then Err NotWritten else Ok (min (length piece) s.most)
+
+-- taking none of a piece that is not empty
+abbrev pub is_nothing : ℕ → List ℕ → Bool
+is_nothing n piece = nat_eq n 0 && nat_lt 0 (length piece)
+
+-- after a write with this answer: the call is counted, what it took stands behind the rest, and a fault is counted where it failed or
+-- took nothing; where memory ran out the call is counted, and no more
+abbrev pub after_write : Taking → List ℕ → Result ℕ SinkError → Taking
+after_write s piece (Ok n) = record s { taken = s.taken ++ take n piece; calls = after s.calls (is_nothing n piece) }
+after_write s piece (Err NotWritten) = record s { calls = after s.calls true }
+after_write s piece (Err NoRoom) = record s { calls = after s.calls false }

@@ -1,5 +1,6 @@
 -- What a loader and a sink tell of themselves, and how often they have failed.
 use Rattle.std.specs.Prelude.{◌≡◌, ℕ, ◌+◌, ◌-◌, ◌^◌, ◌<◌, ◌≤◌, ◌⊎◌, min, List, [], ◌∷◌, ◌++◌, length, Option, Some, IfSome, Result, Ok, Err}
+use Rattle.std.specs.Io.KnownBytes.{Consumes}
 use Rattle.det_host.specs.declared.loader.LoadError.{LoadError}
 use Rattle.det_host.specs.declared.loader.LoadError.TheVariants.{Failed, TooLarge, Memory}
 
@@ -24,3 +25,11 @@ Asks old new name (Err Memory) = (new ≡ old) ⊎ (new ≡ old ++ name ∷ [])
 -- a sink that told what it had taken has taken these bytes more, and tells it
 abbrev pub Takes : Option (List ℕ) → Option (List ℕ) → List ℕ → Type 0
 Takes old new bytes = IfSome old (λ before. new ≡ Some (before ++ bytes))
+
+-- n bytes of a reader were put behind those that were there; a reader that tells what it has left has lost them
+abbrev pub Gained : Option (List ℕ) → Option (List ℕ) → List ℕ → List ℕ → ℕ → Type 0
+Gained old new before after n = (got : List ℕ) × (length got ≡ n) × (after ≡ before ++ got) × Consumes old new got
+
+-- a reader that tells what it has left has lost some of its first bytes, so many at most
+abbrev pub LosesAtMost : ℕ → Option (List ℕ) → Option (List ℕ) → Type 0
+LosesAtMost most old new = (got : List ℕ) × ((length got ≤ most) × Consumes old new got)

@@ -22,11 +22,12 @@ impl Model for Calls {
 }
 
 impl Calls {
-    ghost use Rattle.det_host.specs.Held.{no_calls};
+    ghost use Rattle.det_host.specs.Held.{no_calls, FailsAt};
 
     /// No calls yet. Those of these numbers, from 1, fail.
     pub(crate) fn new(failing: Vec<u64>) -> Calls
-        ensures { result ≡ no_calls failing.items }
+        ensures none { result ≡ no_calls failing.items }
+        ensures numbered { FailsAt failing.items result }
     {
         Calls {
             failing,

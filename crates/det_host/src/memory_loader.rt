@@ -1,5 +1,5 @@
-ghost use Rattle.std.specs.Prelude.{◌≡◌, ◌≤◌, ◌<◌, ◌^◌, List, [], ℕ, Option, Some, None, map, IfOk, IfErr, IfSome, IsNone, IsErrOf, ◌⊎◌, Ok, Err};
-ghost use Rattle.det_host.specs.Held.{held, named, answer, in_room, no_calls};
+ghost use Rattle.std.specs.Prelude.{◌≡◌, ◌≤◌, ◌<◌, ◌^◌, List, [], ℕ, Option, Some, None, map, IfOk, IfErr, IfSome, IsNone, IsErrOf, ◌⊎◌, Ok, Err, IsTrue, false};
+ghost use Rattle.det_host.specs.Held.{held, named, answer, in_room, no_calls, after_load, FailsAt};
 ghost use Rattle.det_host.specs.Outside.{Rose, Loads, Asks};
 ghost use Rattle.det_host.specs.declared.loader.LoadError.{LoadError};
 
@@ -30,12 +30,35 @@ impl Model for MemLoader {
 impl MemLoader {
     /// A loader of these files, which fails at the calls of these numbers, from 1. Of files of one name the first is loaded.
     pub fn new(alloc: Global, files: Vec<(String, Vec<u8>)>, failing: Vec<u64>) -> MemLoader
-        ensures { result ≡ record { files = map named files.items; asked = []; calls = no_calls failing.items } }
+        ensures holds { result ≡ record { files = map named files.items; asked = []; calls = no_calls failing.items } }
+        ensures numbered { FailsAt failing.items result.calls }
     {
         MemLoader {
             files,
             asked: Vec::new(alloc),
             calls: Calls::new(failing),
+        }
+    }
+
+    // What a call that fails or not answers.
+    fn answer(
+        &self,
+        fails: bool,
+        alloc: Global,
+        name: &str,
+        room: u64,
+    ) -> Result<Vec<u8>, LoadError>
+        requires { room < 2 ^ 32 }
+        ensures failing { IsTrue fails → result ≡ Err LoadError.Failed }
+        ensures ok { fails ≡ false → IfOk result (λ v. in_room room (held self.now.files name.now) ≡ Ok v.items) }
+        ensures err { fails ≡ false → IfErr result (λ e. (e ≡ LoadError.Memory) ⊎ (in_room room (held self.now.files name.now) ≡ Err e)) }
+    {
+        if fails {
+            return Err(LoadError::Failed);
+        }
+        match find(&self.files, name) {
+            Some(bytes) => copy_in_room(bytes, alloc, room),
+            None => Err(LoadError::Failed),
         }
     }
 }
@@ -85,21 +108,22 @@ impl Loader for MemLoader {
         ensures asked { Asks self.old.asked self.new.asked name.now result }
         ensures ok { IfOk result (λ v. answer self.old name.now room ≡ Ok v.items) }
         ensures err { IfErr result (λ e. (e ≡ LoadError.Memory) ⊎ (answer self.old name.now room ≡ Err e)) }
+        ensures next { self.new ≡ after_load self.old name.now result }
     {
+        let fails = self.calls.next_fails();
+        let answer = self.answer(fails, alloc, name, room);
+        if let Err(LoadError::Memory) = answer {
+            return Err(LoadError::Memory);
+        }
         let Ok(own) = String::from_str(alloc, name) else {
             return Err(LoadError::Memory);
         };
         if self.asked.push(own).is_err() {
             return Err(LoadError::Memory);
         }
-        if self.calls.next_fails() {
+        if let Err(LoadError::Failed) = answer {
             self.calls.add_fault();
-            return Err(LoadError::Failed);
         }
-        let Some(bytes) = find(&self.files, name) else {
-            self.calls.add_fault();
-            return Err(LoadError::Failed);
-        };
-        copy_in_room(bytes, alloc, room)
+        answer
     }
 }

@@ -1,5 +1,5 @@
 ghost use Rattle.std.specs.Prelude.{◌≡◌, ◌≤◌, ◌<◌, ◌++◌, List, [], ℕ, Some, min, take, length, IfOk, OnErr, IsErrOf, true, false};
-ghost use Rattle.det_host.specs.Held.{is_failing, no_calls};
+ghost use Rattle.det_host.specs.Held.{is_failing, no_calls, after_write, FailsAt};
 ghost use Rattle.det_host.specs.Outside.{Rose, Takes};
 
 use crate::calls::Calls;
@@ -28,7 +28,8 @@ impl Model for MemSink {
 impl MemSink {
     /// A sink that takes at most `most` bytes a call, and fails at the calls of these numbers, from 1.
     pub fn new(alloc: Global, most: usize, failing: Vec<u64>) -> MemSink
-        ensures { result ≡ record { most = most; taken = []; calls = no_calls failing.items } }
+        ensures holds { result ≡ record { most = most; taken = []; calls = no_calls failing.items } }
+        ensures numbered { FailsAt failing.items result.calls }
     {
         MemSink {
             most,
@@ -58,6 +59,7 @@ impl Sink for MemSink {
         ensures nothing { result ≡ Ok 0 → 0 < length piece.now → Rose self.old.calls.faults self.new.calls.faults }
         ensures later { self.old.calls.faults ≤ self.new.calls.faults }
         ensures fails { IsErrOf result SinkError.Failed → is_failing self.old.calls ≡ true }
+        ensures next { self.new ≡ after_write self.old piece.now result }
         ensures goes_on { IfOk result (λ n. (is_failing self.old.calls ≡ false) × (n ≡ min (length piece.now) self.old.most)) }
     {
         if self.calls.next_fails() {
@@ -65,12 +67,12 @@ impl Sink for MemSink {
             return Err(SinkError::Failed);
         }
         let count = piece.len().min(self.most);
+        if self.taken.extend_from_slice(&piece[..count]).is_err() {
+            return Err(SinkError::Memory);
+        }
         if count == 0 && !piece.is_empty() {
             self.calls.add_fault();
         }
-        match self.taken.extend_from_slice(&piece[..count]) {
-            Ok(()) => Ok(count),
-            Err(_) => Err(SinkError::Memory),
-        }
+        Ok(count)
     }
 }

@@ -1,4 +1,6 @@
-ghost use Rattle.std.specs.Prelude.{◌≡◌, ◌≤◌, ◌<◌, ◌^◌, ◌+◌, List, [], ℕ, Option, None, map, string_bytes, vec_len, IfOk};
+ghost use Rattle.std.specs.Prelude.{◌≡◌, ◌≤◌, ◌<◌, ◌^◌, ◌+◌, List, [], ℕ, Option, None, map, string_bytes, vec_len, length, IfOk, OnErr, IfSome, IsErrOf, Ok};
+ghost use Rattle.std.specs.Io.KnownBytes.{IsAtEnd};
+ghost use Rattle.det_host.specs.Outside.{Gained, LosesAtMost};
 
 use crate::{LoadError, Loader};
 use std::alloc::Global;
@@ -35,26 +37,43 @@ enum ReadStop {
 // The most bytes that one turn reads.
 const PIECE: usize = 4096;
 
+// Reads at least one byte and at most so many, and puts them behind the others; none at the reader's end.
+fn read_piece<R: Read>(
+    reader: &mut R,
+    wanted: usize,
+    bytes: &mut Vec<u8>,
+) -> Result<usize, ReadStop>
+    requires { (1 ≤ wanted) × (wanted ≤ 4096) }
+    ensures ok { IfOk result (λ n. Gained (R.remaining reader.old) (R.remaining reader.new) bytes.old.items bytes.new.items n) }
+    ensures most { IfOk result (λ n. n ≤ wanted) }
+    ensures end { result ≡ Ok 0 → IsAtEnd (R.remaining reader.new) }
+    ensures loses { LosesAtMost wanted (R.remaining reader.old) (R.remaining reader.new) }
+    ensures not_large { IsErrOf result ReadStop.TooLarge → ⊥ }
+{
+    let mut buffer = [0u8; PIECE];
+    match reader.read(&mut buffer[..wanted]) {
+        Ok(count) => match bytes.extend_from_slice(&buffer[..count]) {
+            Ok(()) => Ok(count),
+            Err(_) => Err(ReadStop::Memory),
+        },
+        Err(_) => Err(ReadStop::Failed),
+    }
+}
+
 // All bytes of a reader that has at most room. It reads at most room + 1 bytes, and at least one a turn.
 fn read_all<R: Read>(alloc: Global, reader: &mut R, room: u64) -> Result<Vec<u8>, ReadStop>
     requires { room < 2 ^ 32 }
-    ensures { IfOk result (λ v. vec_len v ≤ room) }
+    ensures within { IfOk result (λ v. vec_len v ≤ room) }
+    ensures whole { IfOk result (λ v. IfSome (R.remaining reader.old) (λ xs. v.items ≡ xs)) }
+    ensures loses { LosesAtMost (room + 1) (R.remaining reader.old) (R.remaining reader.new) }
 {
     let mut bytes = Vec::new(alloc);
-    let mut buffer = [0u8; PIECE];
-    'turns: for _ in 0..=room {
+    'turns: while bytes.len() as u64 <= room {
         let wanted = (room + 1 - bytes.len() as u64).min(PIECE as u64) as usize;
-        match reader.read(&mut buffer[..wanted]) {
+        match read_piece(reader, wanted, &mut bytes) {
             Ok(0) => return Ok(bytes),
-            Ok(count) => {
-                if bytes.len() as u64 + count as u64 > room {
-                    return Err(ReadStop::TooLarge);
-                }
-                if bytes.extend_from_slice(&buffer[..count]).is_err() {
-                    return Err(ReadStop::Memory);
-                }
-            }
-            Err(_) => return Err(ReadStop::Failed),
+            Ok(_) => {}
+            Err(stop) => return Err(stop),
         }
     }
     Err(ReadStop::TooLarge)

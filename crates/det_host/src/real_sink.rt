@@ -1,4 +1,5 @@
-ghost use Rattle.std.specs.Prelude.{◌≡◌, ◌≤◌, List, ℕ, Option, None, length};
+ghost use Rattle.std.specs.Prelude.{◌≡◌, ◌≤◌, ◌<◌, List, [], ℕ, Option, None, Ok, take, length, IfOk, OnErr, IsErrOf};
+ghost use Rattle.det_host.specs.Outside.{Rose, Takes};
 
 use crate::{Sink, SinkError};
 use std::io::Write;
@@ -22,8 +23,19 @@ impl<W: Write + Drop> Sink for StdSink<W> {
 
     ghost faults = { λ s. s.faults };
 
-    /// Writes again where the writer took only a part, until all is written or it takes no more.
-    fn write(&mut self, piece: &[u8]) -> Result<usize, SinkError> {
+    /// Writes again where the writer took only a part, until all is written or it takes no more. An answer below the piece's
+    /// length, an error among them, has counted a fault.
+    fn write(&mut self, piece: &[u8]) -> Result<usize, SinkError>
+        ensures count { IfOk result (λ n. n ≤ length piece.now) }
+        ensures ok { IfOk result (λ n. Takes None None (take n piece.now)) }
+        ensures err { OnErr result (Takes None None []) }
+        ensures failed { IsErrOf result SinkError.Failed → Rose self.old.faults self.new.faults }
+        ensures nothing { result ≡ Ok 0 → 0 < length piece.now → Rose self.old.faults self.new.faults }
+        ensures later { self.old.faults ≤ self.new.faults }
+        ensures short { IfOk result (λ n. n < length piece.now → Rose self.old.faults self.new.faults) }
+        ensures whole { IfOk result (λ n. n ≡ length piece.now → self.new.faults ≡ self.old.faults) }
+        ensures no_memory { IsErrOf result SinkError.Memory → ⊥ }
+    {
         let mut done = 0;
         'pieces: while done < piece.len() {
             match self.writer.write(&piece[done..]) {
