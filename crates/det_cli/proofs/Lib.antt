@@ -1,4 +1,5 @@
-pub mod Stages
 pub mod Written
-pub mod Completeness
-pub mod Sources
+pub mod Stages
+pub mod Courses
+pub mod Told
+pub mod Promises

@@ -1,91 +1,189 @@
--- What is answered at each stage of reading the files is what the files that are told say.
-use Rattle.std.proofs.Common.{◌≡◌, ℕ, List, [], ◌∷◌, ◌++◌, Option, Some, None, option_map, Result, Ok, Err, true, inl, inr, ◌⊎◌, refl, sym, ap, ◌∙◌, subst}
+-- What is answered at each stage of reading a command's files is what the files decide.
+use Rattle.std.proofs.Common.{◌≡◌, ◌≤◌, ◌<◌, ◌+◌, ◌⊎◌, ℕ, zero, suc, List, [], ◌∷◌, ◌++◌, map, length, take, replicate, Option, Some, None, IfSome, IfOk, Result, Ok, Err, Bool, true, false, cond, nat_lt, inl, inr, refl, sym, ap, ◌∙◌, subst, append_assoc, lit≤, lit<, arith}
 use Rattle.std.proofs.lemmas.List.{append-nil}
+use Rattle.det_host.specs.Outside.{Rose}
+use Rattle.det_cli.specs.declared.end.End.{End}
+use Rattle.det_cli.specs.declared.end.End.TheVariants.{Ret, Trapped, TooLarge, ReadFault, NoMemory}
+use Rattle.det_cli.specs.Status.{IsDone, IsBad}
+use Rattle.det_cli.specs.Files.{Expected, refusal, Step, Input, Agrees, AsTold, ReadFiles, names_of, refusal_at, decided, judge}
+use Rattle.image_model.specs.declared.ImageError.{ImageError}
 use Rattle.image_model.specs.Image.{Image}
 use Rattle.image_model.specs.Reading.{image_of}
-use Rattle.space_model.specs.Space.{Space}
-use Rattle.report_model.specs.Report.{console_of, report}
-use Rattle.det_host.specs.Outside.{Takes}
-use Rattle.det_cli.specs.declared.end.End.{End}
-use Rattle.det_cli.specs.declared.end.End.TheVariants.{ReadFault, NoMemory}
-use Rattle.det_cli.specs.Loads.{Asked, LoadsFirst}
-use Rattle.det_cli.specs.Writing.{TakesPrefix}
-use Rattle.det_cli.specs.Ends.{Written, expected_of, is_done}
-use Rattle.det_cli.specs.Outcome.{outcome_of, with_image, after_image, with_script, within, Reads, Loaded, image_room, script_room}
+use Rattle.space_model.specs.Space.{Space, top_of}
+use Rattle.space_model.specs.Stop.{has_returned}
+use Rattle.command_line.specs.Line.{run}
+use Rattle.det_cli.specs.Commands.{image_room, bad_image, image_step, script_step, root_settled, shown, image_shown, steps_of, whole_of}
+use Rattle.det_cli.specs.Stages.{LoadFault, Loaded, Judged, Led, Reads}
 
-pub read_fault : (o : Option (Result Space End)) → Reads o (Err ReadFault)
-read_fault None = tt
-read_fault (Some (Ok s)) = inl refl
-read_fault (Some (Err e)) = inr (inl refl)
+take_none : (j : ℕ) → take {A = List ℕ} j [] ≡ []
+take_none zero = refl
+take_none (suc j) = refl
 
-pub no_memory : (o : Option (Result Space End)) → Reads o (Err NoMemory)
-no_memory None = tt
-no_memory (Some (Ok s)) = inr refl
-no_memory (Some (Err e)) = inr (inr refl)
+pub none_told : (ss : List Step) (told : List ℕ → Option (List ℕ)) → AsTold ss told []
+none_told [] told = tt
+none_told (s ∷ ss) told = tt
 
-faulty : (o : Option (Result Space End)) (f : End) → (f ≡ ReadFault) ⊎ (f ≡ NoMemory) → Reads o (Err f)
-faulty o f (inl e) = subst (λ g. Reads o (Err g)) (sym e) (read_fault o)
-faulty o f (inr e) = subst (λ g. Reads o (Err g)) (sym e) (no_memory o)
+-- a load asks for its name, or where memory ran out maybe not
+asks : (old new : List (List ℕ)) (name : List ℕ) (names : List (List ℕ)) → (new ≡ old) ⊎ (new ≡ old ++ name ∷ []) → (k : ℕ) × ((k ≤ 1) × (new ≡ old ++ take k (name ∷ names)))
+asks old new name names (inl e) = (0, (lit≤ tt, e ∙ sym (append-nil old)))
+asks old new name names (inr e) = (1, (lit≤ tt, e))
 
-pub image_refused : {V : Type 0} (items : V → List ℕ) (limit : ℕ) (image script : Option (List ℕ)) (f : End) → Loaded items image_room image (Err f) → Reads (outcome_of limit image script) (Err f)
-image_refused items limit None script f h = tt
-image_refused items limit (Some bytes) script f (inl h) = rw h.1 (inl h.0)
-image_refused items limit (Some bytes) script f (inr h) = faulty (with_image bytes limit script) f h
+-- before the first file is read nothing is decided
+pub open_at_start : (s : Step) (ss : List Step) (whole : List (List ℕ) → Option Expected) (j : ℕ) → judge (s ∷ ss) whole (take j []) ≡ None
+open_at_start s ss whole j = ap (λ (fs : List (List ℕ)). judge (s ∷ ss) whole fs) (take_none j)
 
--- the image was loaded: what follows is told by its bytes
-pub image_loaded : {V : Type 0} (items : V → List ℕ) (limit : ℕ) (image script : Option (List ℕ)) (v : V) (r : Result Space End) → Loaded items image_room image (Ok v) → Reads (after_image (image_of (items v)) limit script) r → Reads (outcome_of limit image script) r
-image_loaded items limit None script v r h g = tt
-image_loaded items limit (Some bytes) script v r h g = rw h.1 (subst (λ (b : List ℕ). Reads (after_image (image_of b) limit script) r) h.0 g)
+open_at_first : (s : Step) (ss : List Step) (whole : List (List ℕ) → Option Expected) (fs : List (List ℕ)) (k j : ℕ) → k ≤ 1 → j < k → judge (s ∷ ss) whole (take j fs) ≡ None
+open_at_first s ss whole fs k zero le lt = refl
+open_at_first s ss whole fs k (suc j) le lt = absurd (omega (arith, le, lt))
 
-pub script_refused : {V : Type 0} (items : V → List ℕ) (image : Image) (limit : ℕ) (script : Option (List ℕ)) (f : End) → Loaded items script_room script (Err f) → Reads (after_image (Ok image) limit script) (Err f)
-script_refused items image limit None f h = tt
-script_refused items image limit (Some bytes) f (inl h) = rw h.1 (inl h.0)
-script_refused items image limit (Some bytes) f (inr h) = faulty (Some (within script_room bytes (with_script image limit bytes))) f h
+not_read : {V : Type 0} (shows : V → Expected) (s : Step) (ss : List Step) (whole : List (List ℕ) → Option Expected) (i : Input) (f : End)
+    → (i.asked_after ≡ i.asked_before) ⊎ (i.asked_after ≡ i.asked_before ++ s.name ∷ []) → ((f ≡ ReadFault) × Rose i.faults_before i.faults_after) ⊎ (f ≡ NoMemory)
+    → Reads shows (s ∷ ss) whole i (Err f)
+not_read shows s ss whole i f asked led =
+    let a = asks i.asked_before i.asked_after s.name (names_of ss) asked in
+    record {
+      found = [];
+      files = record { as_told = tt; count = a.0; asked = a.1.1; most = a.1.0; in_order = λ j lt. open_at_start s ss whole j };
+      led = led;
+    }
 
-pub script_loaded : {V : Type 0} (items : V → List ℕ) (image : Image) (limit : ℕ) (script : Option (List ℕ)) (v : V) (r : Result Space End) → Loaded items script_room script (Ok v)
-    → Reads (Some (with_script image limit (items v))) r → Reads (after_image (Ok image) limit script) r
-script_loaded items image limit None v r h g = tt
-script_loaded items image limit (Some bytes) v r h g = rw h.1 (subst (λ (b : List ℕ). Reads (Some (with_script image limit b)) r) h.0 g)
+first_refused : {V : Type 0} (shows : V → Expected) (s : Step) (ss : List Step) (whole : List (List ℕ) → Option Expected) (i : Input) (f : End) (bytes : List ℕ)
+    → (i.asked_after ≡ i.asked_before) ⊎ (i.asked_after ≡ i.asked_before ++ s.name ∷ []) → Agrees (i.told s.name) bytes → refusal_at s bytes ≡ Some f → IsBad f
+    → Reads shows (s ∷ ss) whole i (Err f)
+first_refused shows s ss whole i f bytes asked agrees e bad =
+    let a = asks i.asked_before i.asked_after s.name (names_of ss) asked in
+    record {
+      found = bytes ∷ [];
+      files = record {
+        as_told = (agrees, none_told ss i.told);
+        count = a.0;
+        asked = a.1.1;
+        most = omega (arith, a.1.0);
+        in_order = λ j lt. open_at_first s ss whole (bytes ∷ []) a.0 j a.1.0 lt;
+      };
+      led = subst (λ (r : Option End). Led shows (decided r (judge ss (λ rest. whole (bytes ∷ rest)) [])) i (Err f)) (sym e) (bad, inl refl);
+    }
 
--- the names that were asked for, by how far the loads came
-append_two : (old : List (List ℕ)) (image script : List ℕ) → (old ++ image ∷ []) ++ script ∷ [] ≡ old ++ image ∷ script ∷ []
-append_two [] image script = refl
-append_two (x ∷ xs) image script = ap (λ (l : List (List ℕ)). x ∷ l) (append_two xs image script)
+within : (s : Step) (bytes : List ℕ) → nat_lt s.room (length bytes) ≡ false → refusal_at s bytes ≡ s.refuse bytes
+within s bytes fits = ap (λ (b : Bool). cond b (Some (TooLarge (s.room + 1))) (s.refuse bytes)) fits
 
-both : (old now new : List (List ℕ)) (image script : List ℕ) → now ≡ old ++ image ∷ [] → new ≡ now ++ script ∷ [] → new ≡ old ++ image ∷ script ∷ []
-both old now new image script e h = h ∙ ap (λ (l : List (List ℕ)). l ++ script ∷ []) e ∙ append_two old image script
+above : (s : Step) (bytes : List ℕ) → nat_lt s.room (length bytes) ≡ true → refusal_at s bytes ≡ Some (TooLarge (s.room + 1))
+above s bytes large = ap (λ (b : Bool). cond b (Some (TooLarge (s.room + 1))) (s.refuse bytes)) large
 
-pub script_asked : {V : Type 0} (old now new : List (List ℕ)) (image script : List ℕ) (v : V) → Asked old now image (Ok v) → (new ≡ now) ⊎ (new ≡ now ++ script ∷ []) → LoadsFirst old new (image ∷ script ∷ [])
-script_asked old now new image script v e (inl h) = (1, h ∙ e)
-script_asked old now new image script v e (inr h) = (2, both old now new image script e h)
+-- the first file could not be loaded
+pub load_stopped : {V : Type 0} (shows : V → Expected) (s : Step) (ss : List Step) (whole : List (List ℕ) → Option Expected) (i : Input) (f : End)
+    → ((i.asked_after ≡ i.asked_before) ⊎ (i.asked_after ≡ i.asked_before ++ s.name ∷ [])) × LoadFault s.name s.room i f → Reads shows (s ∷ ss) whole i (Err f)
+load_stopped shows s ss whole i f (asked, inl (e, (bytes, (agrees, large)))) =
+    first_refused shows s ss whole i f bytes asked agrees (above s bytes large ∙ ap (λ (x : End). Some x) (sym e)) (subst IsBad (sym e) refl)
+load_stopped shows s ss whole i f (asked, inr led) = not_read shows s ss whole i f asked led
 
-pub both_asked : {V W : Type 0} (old now new : List (List ℕ)) (image script : List ℕ) (v : V) (w : W) → Asked old now image (Ok v) → Asked now new script (Ok w) → LoadsFirst old new (image ∷ script ∷ [])
-both_asked old now new image script v w e h = (2, both old now new image script e h)
+-- the first file is refused, or memory runs out while it is read
+pub text_stopped : {V W : Type 0} (items : W → List ℕ) (shows : V → Expected) (s : Step) (ss : List Step) (whole : List (List ℕ) → Option Expected) (i : Input) (v : W) (text : List ℕ) (f : End)
+    → Loaded items s.name s.room i (Ok v) → text ≡ items v → ((s.refuse text ≡ Some f) × IsBad f) ⊎ (f ≡ NoMemory) → Reads shows (s ∷ ss) whole i (Err f)
+text_stopped items shows s ss whole i v text f loaded same (inl (e, bad)) =
+    first_refused shows s ss whole i f (items v) (inr loaded.0) loaded.1 (within s (items v) loaded.2 ∙ ap s.refuse (sym same) ∙ e) bad
+text_stopped items shows s ss whole i v text f loaded same (inr e) = not_read shows s ss whole i f (inr loaded.0) (inr e)
 
-pub takes_nothing : (old : Option (List ℕ)) → Takes old old []
-takes_nothing None = tt
-takes_nothing (Some before) = ap (λ (l : List ℕ). Some l) (sym (append-nil before))
-
-pub prefix_nothing : (old : Option (List ℕ)) (bytes : List ℕ) → TakesPrefix old old bytes
-prefix_nothing None bytes = tt
-prefix_nothing (Some before) bytes = (0, ap (λ (l : List ℕ). Some l) (sym (append-nil before)))
-
-not_done : (f : End) → (f ≡ ReadFault) ⊎ (f ≡ NoMemory) → is_done f ≡ true → ⊥
-not_done f (inl h) e = let k : is_done ReadFault ≡ true = subst (λ g. is_done g ≡ true) h e in cc
-not_done f (inr h) e = let k : is_done NoMemory ≡ true = subst (λ g. is_done g ≡ true) h e in cc
-
--- where reading ended the call, nothing was written
-pub nothing_written : (o : Option (Result Space End)) (f : End) (out err : Option (List ℕ)) → Reads o (Err f) → Written (option_map expected_of o) f out out err err
-nothing_written None f out err h = tt
-nothing_written (Some (Err e)) f out err h = record {
-  out = prefix_nothing out [];
-  err = prefix_nothing err [];
-  order = inr (takes_nothing err);
-  all = λ _. (takes_nothing out, takes_nothing err);
+-- the last file was read: all is
+pub all_read : {V W : Type 0} (items : W → List ℕ) (shows : V → Expected) (s : Step) (whole : List (List ℕ) → Option Expected) (i : Input) (v : W) (x : V)
+    → Loaded items s.name s.room i (Ok v) → s.refuse (items v) ≡ None → whole (items v ∷ []) ≡ Some (shows x) → IsDone (shows x).end → Reads shows (s ∷ []) whole i (Ok x)
+all_read items shows s whole i v x loaded kept made done = record {
+  found = items v ∷ [];
+  files = record {
+    as_told = (loaded.1, tt);
+    count = 1;
+    asked = loaded.0;
+    most = lit≤ tt;
+    in_order = λ j lt. open_at_first s [] whole (items v ∷ []) 1 j (lit≤ tt) lt;
+  };
+  led = subst (λ (r : Option End). Led shows (decided r (whole (items v ∷ []))) i (Ok x)) (sym (within s (items v) loaded.2 ∙ kept))
+      (subst (λ (o : Option Expected). Led shows o i (Ok x)) (sym made) (refl, done));
 }
-nothing_written (Some (Ok s)) f out err h = record {
-  out = prefix_nothing out (console_of s);
-  err = prefix_nothing err (report s);
-  order = inr (takes_nothing err);
-  all = λ e. absurd (not_done f h e);
-}
+
+same_told : (ss : List Step) (now told : List ℕ → Option (List ℕ)) (found : List (List ℕ)) → ((name : List ℕ) → now name ≡ told name) → AsTold ss now found → AsTold ss told found
+same_told [] now told [] same h = tt
+same_told [] now told (f ∷ fs) same h = absurd h
+same_told (s ∷ ss) now told [] same h = tt
+same_told (s ∷ ss) now told (f ∷ fs) same h = (subst (λ (t : Option (List ℕ)). Agrees t f) (same s.name) h.0, same_told ss now told fs same h.1)
+
+rose_earlier : (old mid new : ℕ) → old ≤ mid → Rose mid new → Rose old new
+rose_earlier old mid new le h = omega (arith, h)
+
+led_earlier : {V : Type 0} (shows : V → Expected) (o : Option Expected) (i j : Input) (r : Result V End)
+    → (Rose j.faults_before j.faults_after → Rose i.faults_before i.faults_after) → Led shows o j r → Led shows o i r
+led_earlier shows None i j (Ok v) rose h = absurd h
+led_earlier shows None i j (Err f) rose (inl h) = inl (h.0, rose h.1)
+led_earlier shows None i j (Err f) rose (inr h) = inr h
+led_earlier shows (Some e) i j (Ok v) rose h = h
+led_earlier shows (Some e) i j (Err f) rose h = h
+
+open_behind : (s : Step) (ss : List Step) (whole : List (List ℕ) → Option Expected) (b : List ℕ) (found : List (List ℕ)) (k : ℕ) → refusal_at s b ≡ None
+    → ((j : ℕ) → j < k → judge ss (λ rest. whole (b ∷ rest)) (take j found) ≡ None) → (j : ℕ) → j < suc k → judge (s ∷ ss) whole (take j (b ∷ found)) ≡ None
+open_behind s ss whole b found k kept order zero lt = refl
+open_behind s ss whole b found k kept order (suc j) lt =
+    ap (λ (r : Option End). decided r (judge ss (λ rest. whole (b ∷ rest)) (take j found))) kept ∙ order j (omega (arith, lt))
+
+-- the first file was read, and then the others
+pub then_read : {V W : Type 0} (items : W → List ℕ) (shows : V → Expected) (s : Step) (ss : List Step) (whole : List (List ℕ) → Option Expected)
+    (told now : List ℕ → Option (List ℕ)) (a b c : List (List ℕ)) (x y z : ℕ) (v : W) (r : Result V End)
+    → Loaded items s.name s.room (record { told = told; asked_before = a; asked_after = b; faults_before = x; faults_after = y }) (Ok v) → s.refuse (items v) ≡ None
+    → ((name : List ℕ) → now name ≡ told name) → x ≤ y
+    → Reads shows ss (λ rest. whole (items v ∷ rest)) (record { told = now; asked_before = b; asked_after = c; faults_before = y; faults_after = z }) r
+    → Reads shows (s ∷ ss) whole (record { told = told; asked_before = a; asked_after = c; faults_before = x; faults_after = z }) r
+then_read items shows s ss whole told now a b c x y z v r loaded kept same le h =
+    let none : refusal_at s (items v) ≡ None = within s (items v) loaded.2 ∙ kept in
+    let k = h.files.count in
+    record {
+      found = items v ∷ h.found;
+      files = record {
+        as_told = (loaded.1, same_told ss now told h.found same h.files.as_told);
+        count = suc k;
+        asked = h.files.asked ∙ ap (λ (l : List (List ℕ)). l ++ take k (names_of ss)) loaded.0 ∙ append_assoc a (s.name ∷ []) (take k (names_of ss));
+        most = omega (arith, h.files.most);
+        in_order = open_behind s ss whole (items v) h.found k none h.files.in_order;
+      };
+      led = subst (λ (d : Option End). Led shows (decided d (judge ss (λ rest. whole (items v ∷ rest)) h.found))
+          (record { told = told; asked_before = a; asked_after = c; faults_before = x; faults_after = z }) r) (sym none)
+          (led_earlier shows (judge ss (λ rest. whole (items v ∷ rest)) h.found) (record { told = told; asked_before = a; asked_after = c; faults_before = x; faults_after = z })
+          (record { told = now; asked_before = b; asked_after = c; faults_before = y; faults_after = z }) r (rose_earlier x y z le) h.led);
+    }
+
+-- a file that is too large has bytes, those that are told where they are told
+long : (n : ℕ) → length (replicate {A = ℕ} n 0) ≡ n
+long zero = refl
+long (suc n) = ap suc (long n)
+
+pub too_large : (told : Option (List ℕ)) (room : ℕ) → IfSome told (λ bytes. room < length bytes) → (bytes : List ℕ) × (Agrees told bytes × (nat_lt room (length bytes) ≡ true))
+too_large None room h = (replicate (room + 1) 0, (tt, grind (arith, long (room + 1))))
+too_large (Some bytes) room h = (bytes, (refl, grind (arith, h)))
+
+-- the last file is loaded, and read or not
+pub last_stage : {V W : Type 0} (items : W → List ℕ) (shows : V → Expected) (s : Step) (whole : List (List ℕ) → Option Expected) (i : Input) (v : W) (text : List ℕ) (r : Result V End)
+    → Loaded items s.name s.room i (Ok v) → text ≡ items v → Judged (s.refuse text) r → IfOk r (λ x. whole (text ∷ []) ≡ Some (shows x)) → ((x : V) → IsDone (shows x).end)
+    → Reads shows (s ∷ []) whole i r
+last_stage items shows s whole i v text (Ok x) loaded same judged made done =
+    all_read items shows s whole i v x loaded (ap s.refuse (sym same) ∙ judged) (ap (λ (t : List ℕ). whole (t ∷ [])) (sym same) ∙ made) (done x)
+last_stage items shows s whole i v text (Err f) loaded same judged made done = text_stopped items shows s [] whole i v text f loaded same judged
+
+done_by : (b : Bool) → IsDone (cond b Ret Trapped)
+done_by true = lit< tt
+done_by false = lit< tt
+
+pub shown_done : (x : Space) → IsDone (shown x).end
+shown_done x = done_by (has_returned (top_of x).status)
+
+pub root_shown : (root : Space) (r : Result Space End) → IfOk r (λ x. x ≡ root) → IfOk r (λ x. Some (shown root) ≡ Some (shown x))
+root_shown root (Ok x) h = ap (λ (y : Space). Some (shown y)) (sym h)
+root_shown root (Err f) h = tt
+
+-- the image is read, and then the script
+pub image_then_script : {W : Type 0} (items : W → List ℕ) (limit : ℕ) (image script : List ℕ)
+    (told now : List ℕ → Option (List ℕ)) (a b c : List (List ℕ)) (x y z : ℕ) (v : W) (text : List ℕ) (parsed : Image) (r : Result Space End)
+    → Loaded items image image_room (record { told = told; asked_before = a; asked_after = b; faults_before = x; faults_after = y }) (Ok v) → text ≡ items v → image_of text ≡ Ok parsed
+    → ((name : List ℕ) → now name ≡ told name) → x ≤ y
+    → Reads shown (script_step script ∷ []) (λ _. Some (shown (root_settled parsed limit))) (record { told = now; asked_before = b; asked_after = c; faults_before = y; faults_after = z }) r
+    → Reads shown (steps_of (run limit image script)) (whole_of (run limit image script)) (record { told = told; asked_before = a; asked_after = c; faults_before = x; faults_after = z }) r
+image_then_script items limit image script told now a b c x y z v text parsed r loaded e read same le h =
+    let is : image_of (items v) ≡ Ok parsed = ap image_of (sym e) ∙ read in
+    then_read items shown (image_step image) (script_step script ∷ []) (whole_of (run limit image script)) told now a b c x y z v r loaded (ap bad_image is) same le
+    (subst (λ (q : Result Image ImageError). Reads shown (script_step script ∷ []) (λ _. image_shown limit q) (record { told = now; asked_before = b; asked_after = c; faults_before = y; faults_after = z }) r) (sym is) h)

@@ -1,5 +1,5 @@
 -- Bytes that a sink takes piece by piece.
-use Rattle.std.proofs.Common.{◌≡◌, ◌≤◌, ◌+◌, ℕ, List, [], ◌++◌, length, take, drop, Option, Some, None, IfSome, sym, ap, ◌∙◌, append_assoc, arith}
+use Rattle.std.proofs.Common.{◌≡◌, ◌≤◌, ◌<◌, ◌+◌, ℕ, List, [], ◌++◌, length, take, drop, Option, Some, None, IfSome, sym, ap, ◌∙◌, append_assoc, arith}
 use Rattle.std.proofs.Math.Seq.{take-add}
 use Rattle.std.proofs.lemmas.List.{append-nil, nil_from_length, length-drop, take-append-drop}
 use Rattle.det_host.specs.Outside.{Takes}
@@ -33,3 +33,7 @@ took_prefix (Some before) new bytes k h = (k, h)
 pub took_all : (old new : Option (List ℕ)) (bytes : List ℕ) (k : ℕ) → length bytes ≤ k → TookFirst old new bytes k → Takes old new bytes
 took_all None new bytes k le h = tt
 took_all (Some before) new bytes k le h = h ∙ ap (λ (u : List ℕ). Some (before ++ u)) (take_long bytes k le)
+
+pub stopped_at : (old new : Option (List ℕ)) (bytes : List ℕ) (k : ℕ) → k < length bytes → TookFirst old new bytes k → (n : ℕ) × ((n < length bytes) × Takes old new (take n bytes))
+stopped_at None new bytes k lt h = (k, (lt, tt))
+stopped_at (Some before) new bytes k lt h = (k, (lt, h))

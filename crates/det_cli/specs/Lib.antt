@@ -1,6 +1,7 @@
-pub mod Loads
-pub mod Outcome
 pub mod Status
 pub mod Lines
 pub mod Writing
-pub mod Ends
+pub mod Files
+pub mod Commands
+pub mod Answers
+pub mod Stages

@@ -1,5 +1,5 @@
 -- The line that names a fault's cause.
-use Rattle.std.specs.Prelude.{ℕ, List, [], ◌∷◌, ◌++◌, codes, decimal, Bool, true, false}
+use Rattle.std.specs.Prelude.{ℕ, List, [], ◌∷◌, ◌++◌, codes, decimal}
 use Rattle.image_model.specs.Names.{error_text}
 use Rattle.source_model.specs.Names.{kind_name}
 use Rattle.det_cli.specs.declared.end.End.{End}
@@ -17,15 +17,3 @@ fault_line (TooLarge read) = codes "det: too large: " ++ (decimal read ++ (codes
 fault_line ReadFault = codes "det: read fault" ++ 10 ∷ []
 fault_line WriteFault = codes "det: write fault" ++ 10 ∷ []
 fault_line NoMemory = codes "det: out of memory" ++ 10 ∷ []
-
-abbrev pub is_out_of_memory : End → Bool
-is_out_of_memory Ret = false
-is_out_of_memory Trapped = false
-is_out_of_memory Usage = false
-is_out_of_memory (BadImage e) = false
-is_out_of_memory (BadScript e) = false
-is_out_of_memory (BadSource e) = false
-is_out_of_memory (TooLarge read) = false
-is_out_of_memory ReadFault = false
-is_out_of_memory WriteFault = false
-is_out_of_memory NoMemory = true

@@ -1,8 +1,9 @@
-ghost use Rattle.std.specs.Prelude.{◌≡◌, ◌≤◌, ◌⊎◌, ◌∷◌, [], true, Some, option_map, IfErr, IsErrOf, IfOk};
-ghost use Rattle.det_host.specs.Outside.{Rose, Takes};
+ghost use Rattle.std.specs.Prelude.{◌≡◌, ◌≤◌, Some, IfOk};
 ghost use Rattle.source_model.specs.Source.{source_of};
-ghost use Rattle.det_cli.specs.Loads.{LoadsFirst};
-ghost use Rattle.det_cli.specs.Ends.{assembled, image_expected, Ends, Written, Makes, is_early, is_refusal};
+ghost use Rattle.command_line.specs.Line.{asm};
+ghost use Rattle.det_cli.specs.Commands.{bad_source, source_shown, spelled, steps_of, whole_of};
+ghost use Rattle.det_cli.specs.Stages.{Judged, Reads};
+ghost use Rattle.det_cli.specs.Answers.{Course};
 
 use crate::end::End;
 use crate::reading::load;
@@ -18,9 +19,8 @@ const SOURCE_ROOM: u64 = 1_048_576;
 
 // The bytes of the image of a source text.
 fn image_of_text(alloc: Global, text: &[u8]) -> Result<Vec<u8>, End>
-    ensures makes { Makes (λ v. v.items) (Some (image_expected (source_of text.now))) result }
-    ensures refused { IfErr result (λ f. is_refusal f ≡ true) }
-    ensures no_fault { IsErrOf result End.ReadFault → ⊥ }
+    ensures ok { IfOk result (λ v. source_shown (source_of text.now) ≡ Some (spelled v.items)) }
+    ensures judged { Judged (bad_source (source_of text.now)) result }
 {
     let image = match assemble(alloc, text) {
         Ok(image) => image,
@@ -34,12 +34,16 @@ fn image_of_text(alloc: Global, text: &[u8]) -> Result<Vec<u8>, End>
 }
 
 // The bytes of the image of a source file, which is loaded once.
-#[tactic(auto, using(crate::proofs::Sources::load_refused, crate::proofs::Sources::text_made, crate::proofs::Sources::source_asked, crate::proofs::Sources::is_load_fault))]
 fn image_of_source<L: Loader>(alloc: Global, source: &str, files: &mut L) -> Result<Vec<u8>, End>
-    ensures makes { Makes (λ v. v.items) (option_map assembled (L.told files.old source.now)) result }
-    ensures refused { IfErr result (λ f. is_refusal f ≡ true) }
-    ensures fault { IsErrOf result End.ReadFault → Rose (L.faults files.old) (L.faults files.new) }
-    ensures asked { LoadsFirst (L.asked files.old) (L.asked files.new) (source.now ∷ []) }
+    ensures reads { Reads (λ v. spelled v.items) (steps_of (asm source.now)) (whole_of (asm source.now))
+        (record {
+          told = L.told files.old;
+          asked_before = L.asked files.old;
+          asked_after = L.asked files.new;
+          faults_before = L.faults files.old;
+          faults_after = L.faults files.new;
+        }) result }
+    ensures later { L.faults files.old ≤ L.faults files.new }
 {
     let text = match load(alloc, files, source, SOURCE_ROOM) {
         Ok(text) => text,
@@ -49,7 +53,6 @@ fn image_of_source<L: Loader>(alloc: Global, source: &str, files: &mut L) -> Res
 }
 
 /// Writes the image of a source file.
-#[tactic(auto, using(crate::proofs::Sources::not_made, crate::proofs::Sources::ends_early, crate::proofs::Sources::all_written, crate::proofs::Sources::part_written, crate::proofs::Sources::may_end))]
 pub(crate) fn assemble_source<L: Loader, O: Sink, E: Sink>(
     alloc: Global,
     source: &str,
@@ -57,14 +60,27 @@ pub(crate) fn assemble_source<L: Loader, O: Sink, E: Sink>(
     out: &mut O,
     err: &mut E,
 ) -> End
-    ensures ends { Ends (option_map assembled (L.told files.old source.now)) result }
-    ensures written { Written (option_map assembled (L.told files.old source.now)) result
-        (O.taken out.old) (O.taken out.new) (E.taken err.old) (E.taken err.new) }
-    ensures early { is_early result ≡ true → Takes (O.taken out.old) (O.taken out.new) [] × Takes (E.taken err.old) (E.taken err.new) [] }
-    ensures not_usage { result ≡ End.Usage → ⊥ }
-    ensures read_fault { result ≡ End.ReadFault → Rose (L.faults files.old) (L.faults files.new) }
-    ensures write_fault { result ≡ End.WriteFault → Rose (O.faults out.old) (O.faults out.new) ⊎ Rose (E.faults err.old) (E.faults err.new) }
-    ensures asked { LoadsFirst (L.asked files.old) (L.asked files.new) (source.now ∷ []) }
+    ensures course { Course (asm source.now)
+        (record {
+          told = L.told files.old;
+          asked_before = L.asked files.old;
+          asked_after = L.asked files.new;
+          faults_before = L.faults files.old;
+          faults_after = L.faults files.new;
+        })
+        (record {
+          taken_before = O.taken out.old;
+          taken_after = O.taken out.new;
+          faults_before = O.faults out.old;
+          faults_after = O.faults out.new;
+        })
+        (record {
+          taken_before = E.taken err.old;
+          taken_after = E.taken err.new;
+          faults_before = E.faults err.old;
+          faults_after = E.faults err.new;
+        }) result }
+    ensures files_later { L.faults files.old ≤ L.faults files.new }
     ensures out_later { O.faults out.old ≤ O.faults out.new }
     ensures err_later { E.faults err.old ≤ E.faults err.new }
 {

@@ -1,11 +1,6 @@
-ghost use Rattle.std.specs.Prelude.{◌≡◌, ◌≤◌, ◌⊎◌, map, string_bytes, None};
-ghost use Rattle.det_host.specs.Outside.{Rose};
-ghost use Rattle.command_line.specs.Line.{line, IsRefused};
-ghost use Rattle.det_cli.specs.Loads.{LoadsFirst, files_named};
+ghost use Rattle.std.specs.Prelude.{◌≡◌, ◌≤◌, ◌⊎◌, map, string_bytes};
 ghost use Rattle.det_cli.specs.Status.{status_of};
-ghost use Rattle.det_cli.specs.Ends.{expect, Ends, Says, WritesLine, IsComplete};
-ghost use Rattle.det_cli.specs.Lines.{fault_line};
-ghost use Rattle.det_cli.specs.Writing.{TakesPrefix};
+ghost use Rattle.det_cli.specs.Answers.{Says, Program};
 
 use crate::end::{End, status};
 use crate::fault_line::write_fault;
@@ -22,9 +17,13 @@ pub struct Exit {
 
 // Writes the line of an end. Where that finds no memory, that is the end.
 fn say<E: Sink>(alloc: Global, ended: End, err: &mut E) -> End
-    ensures line { Says result (E.taken err.old) (E.taken err.new) (E.faults err.old) (E.faults err.new) }
+    ensures line { Says (record {
+      taken_before = E.taken err.old;
+      taken_after = E.taken err.new;
+      faults_before = E.faults err.old;
+      faults_after = E.faults err.new;
+    }) result }
     ensures end { (result ≡ ended) ⊎ (result ≡ End.NoMemory) }
-    ensures prefix { TakesPrefix (E.taken err.old) (E.taken err.new) (fault_line ended) }
     ensures later { E.faults err.old ≤ E.faults err.new }
 {
     match write_fault(alloc, &ended, err) {
@@ -42,27 +41,30 @@ pub fn det_program<R: AllocGlobal, L: Loader, O: Sink, E: Sink, G: Gate>(
     err: &mut E,
     gate: &G,
 ) -> Exit
-    // Which end it is, and its status.
-    ensures ends { Ends (expect (line (map string_bytes words.now)) (L.told files.old)) result.end }
+    ensures answers { Program (record {
+      words = map string_bytes words.now;
+      input = record {
+        told = L.told files.old;
+        asked_before = L.asked files.old;
+        asked_after = L.asked files.new;
+        faults_before = L.faults files.old;
+        faults_after = L.faults files.new;
+      };
+      out = record {
+        taken_before = O.taken out.old;
+        taken_after = O.taken out.new;
+        faults_before = O.faults out.old;
+        faults_after = O.faults out.new;
+      };
+      err = record {
+        taken_before = E.taken err.old;
+        taken_after = E.taken err.new;
+        faults_before = E.faults err.old;
+        faults_after = E.faults err.new;
+      };
+      end = result.end;
+    }) }
     ensures status { result.status ≡ status_of result.end }
-
-    // What was written, and the fault line behind it.
-    ensures written { WritesLine (expect (line (map string_bytes words.now)) (L.told files.old)) result.end
-        (O.taken out.old) (O.taken out.new) (E.taken err.old) (E.taken err.new) (E.faults err.old) (E.faults err.new) }
-    ensures complete { IsComplete (expect (line (map string_bytes words.now)) (L.told files.old)) result.end
-        (Rose (L.faults files.old) (L.faults files.new) ⊎ Rose (O.faults out.old) (O.faults out.new) ⊎ Rose (E.faults err.old) (E.faults err.new))
-        (O.taken out.old) (O.taken out.new) (E.taken err.old) (E.taken err.new) }
-
-    // The causes of the ends that the files do not tell.
-    ensures usage { result.end ≡ End.Usage → line (map string_bytes words.now) ≡ None }
-    ensures no_command { line (map string_bytes words.now) ≡ None → (result.end ≡ End.Usage) ⊎ (result.end ≡ End.NoMemory) }
-    ensures refused { result.end ≡ End.Usage → IsRefused (map string_bytes words.now) }
-    ensures no_other { IsRefused (map string_bytes words.now) → (result.end ≡ End.Usage) ⊎ (result.end ≡ End.NoMemory) }
-    ensures read_fault { result.end ≡ End.ReadFault → Rose (L.faults files.old) (L.faults files.new) }
-    ensures write_fault { result.end ≡ End.WriteFault → Rose (O.faults out.old) (O.faults out.new) ⊎ Rose (E.faults err.old) (E.faults err.new) }
-
-    // What was loaded.
-    ensures asked { LoadsFirst (L.asked files.old) (L.asked files.new) (files_named (line (map string_bytes words.now))) }
 {
     let ended = det_main(rt, words, files, out, err, gate);
     let end = say(rt.alloc(), ended, err);

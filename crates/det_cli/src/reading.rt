@@ -1,10 +1,9 @@
-ghost use Rattle.std.specs.Prelude.{◌≡◌, ◌≤◌, ◌<◌, ◌^◌, ◌∷◌, [], IfOk, IfErr, IsErrOf, List, ℕ, true, Some, Ok, Err};
-ghost use Rattle.image_model.specs.declared.ImageError.{ImageError};
+ghost use Rattle.std.specs.Prelude.{◌≡◌, ◌≤◌, ◌<◌, ◌^◌, ◌∷◌, [], IfOk, List, ℕ, true, Some};
 ghost use Rattle.image_model.specs.Reading.{image_of};
 ghost use Rattle.space_model.specs.Space.{is_settled};
-ghost use Rattle.det_host.specs.Outside.{Rose};
-ghost use Rattle.det_cli.specs.Loads.{Asked, LoadsFirst};
-ghost use Rattle.det_cli.specs.Outcome.{Loaded, IsLoadFault, IsRefusal, IsBadImageOrMemory, Reads, outcome_of, with_script};
+ghost use Rattle.command_line.specs.Line.{run};
+ghost use Rattle.det_cli.specs.Commands.{bad_image, bad_script, script_step, root_settled, shown, steps_of, whole_of};
+ghost use Rattle.det_cli.specs.Stages.{Loaded, Judged, Reads};
 
 use crate::end::{End, ScriptError};
 use demand_eval::settle;
@@ -21,6 +20,7 @@ const IMAGE_ROOM: u64 = 16_777_216;
 const SCRIPT_ROOM: u64 = 1_048_576;
 
 /// The bytes of a file that has at most `room`.
+#[tactic(auto, using(crate::proofs::Stages::too_large))]
 pub(crate) fn load<L: Loader>(
     alloc: Global,
     files: &mut L,
@@ -28,12 +28,16 @@ pub(crate) fn load<L: Loader>(
     room: u64,
 ) -> Result<Vec<u8>, End>
     requires { room < 2 ^ 32 }
-    ensures loaded { Loaded (λ v. v.items) room (L.told files.old name.now) result }
-    ensures refused { IfErr result (IsLoadFault room) }
-    ensures fault { IsErrOf result End.ReadFault → Rose (L.faults files.old) (L.faults files.new) }
+    ensures loaded { Loaded (λ v. v.items) name.now room
+        (record {
+          told = L.told files.old;
+          asked_before = L.asked files.old;
+          asked_after = L.asked files.new;
+          faults_before = L.faults files.old;
+          faults_after = L.faults files.new;
+        }) result }
     ensures later { L.faults files.old ≤ L.faults files.new }
     ensures told { (other : List ℕ) → L.told files.new other ≡ L.told files.old other }
-    ensures asked { Asked (L.asked files.old) (L.asked files.new) name.now result }
 {
     match files.load(alloc, name, room) {
         Ok(bytes) => Ok(bytes),
@@ -45,8 +49,7 @@ pub(crate) fn load<L: Loader>(
 
 fn parse(alloc: Global, bytes: &[u8]) -> Result<Image, End>
     ensures ok { IfOk result (λ i. image_of bytes.now ≡ Ok i) }
-    ensures bad { (e : ImageError) → result ≡ Err (End.BadImage e) → image_of bytes.now ≡ Err e }
-    ensures kinds { IfErr result IsBadImageOrMemory }
+    ensures judged { Judged (bad_image (image_of bytes.now)) result }
 {
     match read_image(alloc, bytes) {
         Ok(image) => Ok(image),
@@ -58,9 +61,8 @@ fn parse(alloc: Global, bytes: &[u8]) -> Result<Image, End>
 // The root that an image and a script make, once it has settled.
 fn settled(alloc: Global, image: &Image, limit: u32, script: &[u8]) -> Result<Space, End>
     requires { 1 ≤ limit }
-    ensures reads { Reads (Some (with_script image.now limit script.now)) result }
-    ensures refused { IfErr result IsRefusal }
-    ensures no_fault { IsErrOf result End.ReadFault → ⊥ }
+    ensures ok { IfOk result (λ s. s ≡ root_settled image.now limit) }
+    ensures judged { Judged (bad_script script.now) result }
     ensures settled { IfOk result (λ s. is_settled s ≡ true) }
 {
     if let [_, ..] = script {
@@ -75,6 +77,33 @@ fn settled(alloc: Global, image: &Image, limit: u32, script: &[u8]) -> Result<Sp
     }
 }
 
+// The settled root of an image that was read and of a script that is loaded now.
+fn read_script<L: Loader>(
+    alloc: Global,
+    files: &mut L,
+    image: &Image,
+    limit: u32,
+    script: &str,
+) -> Result<Space, End>
+    requires { 1 ≤ limit }
+    ensures reads { Reads shown (script_step script.now ∷ []) (λ _. Some (shown (root_settled image.now limit)))
+        (record {
+          told = L.told files.old;
+          asked_before = L.asked files.old;
+          asked_after = L.asked files.new;
+          faults_before = L.faults files.old;
+          faults_after = L.faults files.new;
+        }) result }
+    ensures later { L.faults files.old ≤ L.faults files.new }
+    ensures settled { IfOk result (λ s. is_settled s ≡ true) }
+{
+    let script_bytes = match load(alloc, files, script, SCRIPT_ROOM) {
+        Ok(bytes) => bytes,
+        Err(end) => return Err(end),
+    };
+    settled(alloc, image, limit, &script_bytes)
+}
+
 /// The settled root of an image and a script, where each space has so much fuel. Each file is loaded once, and read before
 /// the next is loaded.
 pub(crate) fn read_root<L: Loader>(
@@ -85,11 +114,15 @@ pub(crate) fn read_root<L: Loader>(
     script: &str,
 ) -> Result<Space, End>
     requires { 1 ≤ limit }
-    ensures reads { Reads (outcome_of limit (L.told files.old image.now) (L.told files.old script.now)) result }
-    ensures refused { IfErr result IsRefusal }
-    ensures fault { IsErrOf result End.ReadFault → Rose (L.faults files.old) (L.faults files.new) }
+    ensures reads { Reads shown (steps_of (run limit image.now script.now)) (whole_of (run limit image.now script.now))
+        (record {
+          told = L.told files.old;
+          asked_before = L.asked files.old;
+          asked_after = L.asked files.new;
+          faults_before = L.faults files.old;
+          faults_after = L.faults files.new;
+        }) result }
     ensures later { L.faults files.old ≤ L.faults files.new }
-    ensures asked { LoadsFirst (L.asked files.old) (L.asked files.new) (image.now ∷ script.now ∷ []) }
     ensures settled { IfOk result (λ s. is_settled s ≡ true) }
 {
     let image_bytes = match load(alloc, files, image, IMAGE_ROOM) {
@@ -100,9 +133,5 @@ pub(crate) fn read_root<L: Loader>(
         Ok(parsed) => parsed,
         Err(end) => return Err(end),
     };
-    let script_bytes = match load(alloc, files, script, SCRIPT_ROOM) {
-        Ok(bytes) => bytes,
-        Err(end) => return Err(end),
-    };
-    settled(alloc, &parsed, limit, &script_bytes)
+    read_script(alloc, files, &parsed, limit, script)
 }

@@ -1,10 +1,8 @@
-ghost use Rattle.std.specs.Prelude.{◌≡◌, ◌≤◌, ◌⊎◌, ◌∷◌, [], true, false, length, ◌+◌, ◌<◌, option_map, Ok};
+ghost use Rattle.std.specs.Prelude.{◌≡◌, ◌≤◌, true};
 ghost use Rattle.space_model.specs.Space.{is_settled};
-ghost use Rattle.report_model.specs.Report.{console_of, report};
-ghost use Rattle.det_host.specs.Outside.{Rose, Takes};
-ghost use Rattle.det_cli.specs.Loads.{LoadsFirst};
-ghost use Rattle.det_cli.specs.Outcome.{outcome_of};
-ghost use Rattle.det_cli.specs.Ends.{expected_of, Ends, Written, end_of, Writes, is_early};
+ghost use Rattle.command_line.specs.Line.{run};
+ghost use Rattle.det_cli.specs.Commands.{end_of, shown};
+ghost use Rattle.det_cli.specs.Answers.{Course, Writes};
 
 use crate::end::End;
 use crate::reading::read_root;
@@ -40,10 +38,19 @@ pub(crate) fn write_end(error: SinkError) -> End
 // Writes the console and then the report of a settled root.
 fn write_root<O: Sink, E: Sink>(alloc: Global, space: &Space, out: &mut O, err: &mut E) -> End
     requires { is_settled space.now ≡ true }
-    ensures ends { (result ≡ end_of space.now) ⊎ ((result ≡ End.WriteFault) × (0 < length (console_of space.now) + length (report space.now))) ⊎ (result ≡ End.NoMemory) }
-    ensures writes { Writes (expected_of (Ok space.now)) result (O.taken out.old) (O.taken out.new) (E.taken err.old) (E.taken err.new) }
-    ensures cause { result ≡ End.WriteFault → Rose (O.faults out.old) (O.faults out.new) ⊎ Rose (E.faults err.old) (E.faults err.new) }
-    ensures late { is_early result ≡ false }
+    ensures writes { Writes (shown space.now)
+        (record {
+          taken_before = O.taken out.old;
+          taken_after = O.taken out.new;
+          faults_before = O.faults out.old;
+          faults_after = O.faults out.new;
+        })
+        (record {
+          taken_before = E.taken err.old;
+          taken_after = E.taken err.new;
+          faults_before = E.faults err.old;
+          faults_after = E.faults err.new;
+        }) result }
     ensures out_later { O.faults out.old ≤ O.faults out.new }
     ensures err_later { E.faults err.old ≤ E.faults err.new }
 {
@@ -70,14 +77,27 @@ pub(crate) fn run_image<L: Loader, O: Sink, E: Sink>(
     err: &mut E,
 ) -> End
     requires { 1 ≤ limit }
-    ensures ends { Ends (option_map expected_of (outcome_of limit (L.told files.old image.now) (L.told files.old script.now))) result }
-    ensures written { Written (option_map expected_of (outcome_of limit (L.told files.old image.now) (L.told files.old script.now))) result
-        (O.taken out.old) (O.taken out.new) (E.taken err.old) (E.taken err.new) }
-    ensures early { is_early result ≡ true → Takes (O.taken out.old) (O.taken out.new) [] × Takes (E.taken err.old) (E.taken err.new) [] }
-    ensures not_usage { result ≡ End.Usage → ⊥ }
-    ensures read_fault { result ≡ End.ReadFault → Rose (L.faults files.old) (L.faults files.new) }
-    ensures write_fault { result ≡ End.WriteFault → Rose (O.faults out.old) (O.faults out.new) ⊎ Rose (E.faults err.old) (E.faults err.new) }
-    ensures asked { LoadsFirst (L.asked files.old) (L.asked files.new) (image.now ∷ script.now ∷ []) }
+    ensures course { Course (run limit image.now script.now)
+        (record {
+          told = L.told files.old;
+          asked_before = L.asked files.old;
+          asked_after = L.asked files.new;
+          faults_before = L.faults files.old;
+          faults_after = L.faults files.new;
+        })
+        (record {
+          taken_before = O.taken out.old;
+          taken_after = O.taken out.new;
+          faults_before = O.faults out.old;
+          faults_after = O.faults out.new;
+        })
+        (record {
+          taken_before = E.taken err.old;
+          taken_after = E.taken err.new;
+          faults_before = E.faults err.old;
+          faults_after = E.faults err.new;
+        }) result }
+    ensures files_later { L.faults files.old ≤ L.faults files.new }
     ensures out_later { O.faults out.old ≤ O.faults out.new }
     ensures err_later { E.faults err.old ≤ E.faults err.new }
 {

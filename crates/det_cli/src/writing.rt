@@ -1,16 +1,20 @@
-ghost use Rattle.std.specs.Prelude.{◌≡◌, ◌≤◌, ◌<◌, OnOk, IsErrOf, length};
-ghost use Rattle.det_host.specs.Outside.{Rose, Takes};
-ghost use Rattle.det_cli.specs.Writing.{TakesPrefix};
+ghost use Rattle.std.specs.Prelude.{◌≤◌, OnOk, IsErrOf};
+ghost use Rattle.det_host.specs.Outside.{Takes};
+ghost use Rattle.det_cli.specs.Writing.{TakesPrefix, Stopped};
 
 use det_host::{Sink, SinkError};
 
 /// Writes all of the bytes, in as many pieces as the sink takes.
-#[tactic(auto, using(crate::proofs::Written::took_more, crate::proofs::Written::took_nothing, crate::proofs::Written::took_prefix, crate::proofs::Written::took_all))]
+#[tactic(auto, using(crate::proofs::Written::took_more, crate::proofs::Written::took_nothing, crate::proofs::Written::took_prefix, crate::proofs::Written::took_all, crate::proofs::Written::stopped_at))]
 pub(crate) fn write_all<S: Sink>(sink: &mut S, bytes: &[u8]) -> Result<(), SinkError>
     ensures ok { OnOk result (Takes (S.taken sink.old) (S.taken sink.new) bytes.now) }
     ensures prefix { TakesPrefix (S.taken sink.old) (S.taken sink.new) bytes.now }
-    ensures failed { IsErrOf result SinkError.Failed → Rose (S.faults sink.old) (S.faults sink.new) }
-    ensures something { IsErrOf result SinkError.Failed → 0 < length bytes.now }
+    ensures failed { IsErrOf result SinkError.Failed → Stopped (record {
+      taken_before = S.taken sink.old;
+      taken_after = S.taken sink.new;
+      faults_before = S.faults sink.old;
+      faults_after = S.faults sink.new;
+    }) bytes.now }
     ensures later { S.faults sink.old ≤ S.faults sink.new }
 {
     let mut done = 0;

@@ -1,0 +1,98 @@
+-- What the files of a command make: a settled root that is shown, or the image of a source.
+use Rattle.std.specs.Prelude.{ℕ, List, [], ◌∷◌, Option, Some, None, Result, Ok, Err, cond}
+use Rattle.command_line.specs.Line.{Line, run, asm}
+use Rattle.image_model.specs.declared.ImageError.{ImageError}
+use Rattle.image_model.specs.Image.{Image, image_bytes}
+use Rattle.image_model.specs.Reading.{image_of}
+use Rattle.source_model.specs.declared.error.AsmError.{AsmError}
+use Rattle.source_model.specs.Source.{source_of}
+use Rattle.space_model.specs.Space.{Space, top_of}
+use Rattle.space_model.specs.Stop.{has_returned}
+use Rattle.run_model.specs.Boot.{boot}
+use Rattle.run_model.specs.Demand.{settled}
+use Rattle.report_model.specs.Report.{console_of, report}
+use Rattle.det_cli.specs.declared.end.End.{End}
+use Rattle.det_cli.specs.declared.end.End.TheVariants.{Ret, Trapped, BadImage, BadScript, BadSource}
+use Rattle.det_cli.specs.Files.{Expected, Step, judge, told_files}
+
+-- the most bytes of an image file, of a script and of a source
+abbrev pub image_room : ℕ
+image_room = 16777216
+
+abbrev pub script_room : ℕ
+script_room = 1048576
+
+abbrev pub source_room : ℕ
+source_room = 1048576
+
+abbrev pub bad_image : Result Image ImageError → Option End
+bad_image (Ok image) = None
+bad_image (Err e) = Some (BadImage e)
+
+-- an empty script is the only one yet
+abbrev pub bad_script : List ℕ → Option End
+bad_script [] = None
+bad_script (b ∷ bs) = Some (BadScript (record { line = 1 }))
+
+abbrev pub bad_source : Result Image AsmError → Option End
+bad_source (Ok image) = None
+bad_source (Err e) = Some (BadSource e)
+
+abbrev pub image_step : List ℕ → Step
+image_step name = record { name = name; room = image_room; refuse = λ bytes. bad_image (image_of bytes) }
+
+abbrev pub script_step : List ℕ → Step
+script_step name = record { name = name; room = script_room; refuse = bad_script }
+
+abbrev pub source_step : List ℕ → Step
+source_step name = record { name = name; room = source_room; refuse = λ bytes. bad_source (source_of bytes) }
+
+-- the settled root of an image, where each space has so much fuel
+abbrev pub root_settled : Image → ℕ → Space
+root_settled image limit = settled (boot image (record { console = [] }) limit)
+
+-- the end of a settled root
+abbrev pub end_of : Space → End
+end_of s = let t = top_of s in cond (has_returned t.status) Ret Trapped
+
+-- a settled root is shown by its console and its report
+abbrev pub shown : Space → Expected
+shown s = record { out = console_of s; err = report s; end = end_of s }
+
+-- an image is written as it is spelled
+abbrev pub spelled : List ℕ → Expected
+spelled bytes = record { out = bytes; err = []; end = Ret }
+
+abbrev pub image_shown : ℕ → Result Image ImageError → Option Expected
+image_shown limit (Ok image) = Some (shown (root_settled image limit))
+image_shown limit (Err e) = None
+
+abbrev pub source_shown : Result Image AsmError → Option Expected
+source_shown (Ok image) = Some (spelled (image_bytes image))
+source_shown (Err e) = None
+
+abbrev pub run_whole : ℕ → List (List ℕ) → Option Expected
+run_whole limit [] = None
+run_whole limit (image ∷ rest) = image_shown limit (image_of image)
+
+abbrev pub asm_whole : List (List ℕ) → Option Expected
+asm_whole [] = None
+asm_whole (source ∷ rest) = source_shown (source_of source)
+
+-- the files of a command, in the order of the words
+abbrev pub steps_of : Line → List Step
+steps_of (run limit image script) = image_step image ∷ script_step script ∷ []
+steps_of (asm source) = source_step source ∷ []
+
+-- what all files of a command make, where none is refused
+abbrev pub whole_of : Line → List (List ℕ) → Option Expected
+whole_of (run limit image script) files = run_whole limit files
+whole_of (asm source) files = asm_whole files
+
+-- what a command makes of its first files
+abbrev pub made : Line → List (List ℕ) → Option Expected
+made l files = judge (steps_of l) (whole_of l) files
+
+-- what is expected of a command and of the files that are told; nothing where a file that counts is not told
+abbrev pub expect : Line → (List ℕ → Option (List ℕ)) → Option Expected
+expect l told = made l (told_files (steps_of l) told)

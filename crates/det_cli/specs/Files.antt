@@ -1,0 +1,73 @@
+-- The files of a command: one after another is loaded and read, up to the first that is refused.
+use Rattle.std.specs.Prelude.{◌≡◌, ◌<◌, ◌≤◌, ℕ, ◌+◌, List, [], ◌∷◌, ◌++◌, map, length, take, Option, Some, None, IfSome, cond, nat_lt}
+use Rattle.det_cli.specs.declared.end.End.{End}
+use Rattle.det_cli.specs.declared.end.End.TheVariants.{TooLarge}
+
+-- the bytes of standard output and of standard error, and the end
+pub record Expected : Type 0 where
+  pub out : List ℕ
+  pub err : List ℕ
+  pub end : End
+
+abbrev pub refusal : End → Expected
+refusal e = record { out = []; err = []; end = e }
+
+-- a file's name, the most bytes that it may have, and whether bytes within that limit are refused
+pub record Step : Type 0 where
+  pub name : List ℕ
+  pub room : ℕ
+  pub refuse : List ℕ → Option End
+
+abbrev pub names_of : List Step → List (List ℕ)
+names_of steps = map (λ s. s.name) steps
+
+-- the limit comes before the grammar
+abbrev pub refusal_at : Step → List ℕ → Option End
+refusal_at s bytes = cond (nat_lt s.room (length bytes)) (Some (TooLarge (s.room + 1))) (s.refuse bytes)
+
+abbrev pub decided : Option End → Option Expected → Option Expected
+decided None rest = rest
+decided (Some e) rest = Some (refusal e)
+
+-- What these first files decide, the first one first: the refusal of the first that is refused; else what all of them make; nothing
+-- while one is still to be read.
+abbrev pub judge : List Step → (List (List ℕ) → Option Expected) → List (List ℕ) → Option Expected
+judge [] whole files = whole []
+judge (s ∷ ss) whole [] = None
+judge (s ∷ ss) whole (f ∷ fs) = decided (refusal_at s f) (judge ss (λ rest. whole (f ∷ rest)) fs)
+
+abbrev pub told_from : Option (List ℕ) → List (List ℕ) → List (List ℕ)
+told_from None rest = []
+told_from (Some bytes) rest = bytes ∷ rest
+
+-- the first files, as far as they are told
+abbrev pub told_files : List Step → (List ℕ → Option (List ℕ)) → List (List ℕ)
+told_files [] told = []
+told_files (s ∷ ss) told = told_from (told s.name) (told_files ss told)
+
+-- what a loader tells and was asked for, and its count of faults, before and after a call
+pub record Input : Type 0 where
+  pub told : List ℕ → Option (List ℕ)
+  pub asked_before : List (List ℕ)
+  pub asked_after : List (List ℕ)
+  pub faults_before : ℕ
+  pub faults_after : ℕ
+
+-- bytes that a file may have: those that are told, where they are told
+abbrev pub Agrees : Option (List ℕ) → List ℕ → Type 0
+Agrees told bytes = IfSome told (λ known. bytes ≡ known)
+
+abbrev pub AsTold : List Step → (List ℕ → Option (List ℕ)) → List (List ℕ) → Type 0
+AsTold [] told [] = Unit {0}
+AsTold [] told (f ∷ fs) = ⊥
+AsTold (s ∷ ss) told [] = Unit {0}
+AsTold (s ∷ ss) told (f ∷ fs) = Agrees (told s.name) f × AsTold ss told fs
+
+-- The bytes of these first files were loaded. Some first names were asked for, in their order and each once, one at most behind these
+-- files, and each only while the files before it decide nothing.
+pub record ReadFiles (steps : List Step) (whole : List (List ℕ) → Option Expected) (found : List (List ℕ)) (i : Input) : Type 0 where
+  pub as_told : AsTold steps i.told found
+  pub count : ℕ
+  pub asked : i.asked_after ≡ i.asked_before ++ take count (names_of steps)
+  pub most : count ≤ length found + 1
+  pub in_order : (j : ℕ) → j < count → judge steps whole (take j found) ≡ None
