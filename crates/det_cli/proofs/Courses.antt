@@ -11,7 +11,7 @@ use Rattle.det_cli.specs.Status.{status_of, IsDone, IsBad, IsEarly}
 use Rattle.det_cli.specs.Writing.{Output, TakesPrefix, Untouched, Wrote, WrotePrefix, Stopped}
 use Rattle.det_cli.specs.Files.{Expected, Input, judge}
 use Rattle.det_cli.specs.Commands.{steps_of, whole_of, made}
-use Rattle.det_cli.specs.Answers.{Writes, Ends, Course, CourseOf}
+use Rattle.det_cli.specs.Answers.{Writes, Ends, Unasked, Course, CourseOf}
 use Rattle.det_cli.specs.Stages.{Led, Reads}
 use Rattle.det_cli.proofs.Stages.{none_told}
 
@@ -131,14 +131,14 @@ open_line : (l : Line) → made l [] ≡ None
 open_line (run limit image script) = refl
 open_line (asm source) = refl
 
-pub no_memory : (o : Option Line) (i : Input) (out err : Output) → i.asked_after ≡ i.asked_before → Untouched out → Untouched err → CourseOf o i out err NoMemory
+pub no_memory : (o : Option Line) (i : Input) (out err : Output) → Unasked i → Untouched out → Untouched err → CourseOf o i out err NoMemory
 no_memory None i out err e u w = (inr refl, e, u, w)
 no_memory (Some l) i out err e u w = record {
   found = [];
   files = record {
     as_told = none_told (steps_of l) i.told;
     count = 0;
-    asked = e ∙ sym (append-nil i.asked_before);
+    asked = e.0 ∙ sym (append-nil i.asked_before);
     most = lit≤ tt;
     in_order = λ j lt. absurd (omega (arith, lt));
   };

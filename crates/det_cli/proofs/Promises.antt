@@ -8,7 +8,7 @@ use Rattle.det_cli.specs.Status.{status_of, IsDone, IsBad, IsEarly}
 use Rattle.det_cli.specs.Writing.{Output, Untouched, Wrote}
 use Rattle.det_cli.specs.Files.{Expected, Input, told_files}
 use Rattle.det_cli.specs.Commands.{steps_of, whole_of, made, expect}
-use Rattle.det_cli.specs.Answers.{Writes, Ends, Course, NoCourse, CourseOf, Answer, Answers, Later, Says, until, since, Program}
+use Rattle.det_cli.specs.Answers.{Writes, Ends, Course, NoCourse, Unasked, CourseOf, Answer, Answers, Later, Says, until, since, Program}
 use Rattle.det_cli.proofs.Courses.{kind_of, not_usage, read_fault, write_fault, early, memory_after, memory_of, no_memory}
 use Rattle.det_cli.proofs.Told.{decides_all, asked_most}
 
@@ -91,10 +91,10 @@ memory_answers words i out err course told asked later = record {
 }
 
 -- memory ran out before the words were read
-pub unread_answers : (words : List (List ℕ)) (i : Input) (out err : Output) → i.asked_after ≡ i.asked_before → Untouched out → Untouched err → Later i out err
+pub unread_answers : (words : List (List ℕ)) (i : Input) (out err : Output) → Unasked i → Untouched out → Untouched err → Later i out err
     → Answers (record { words = words; input = i; out = out; err = err; end = NoMemory })
 unread_answers words i out err none u w later =
-    memory_answers words i out err (no_memory (line words) i out err none u w) (λ m e x p. inr (u, w, inr refl)) (λ m e j x p. omega (arith, ap length none)) later
+    memory_answers words i out err (no_memory (line words) i out err none u w) (λ m e x p. inr (u, w, inr refl)) (λ m e j x p. omega (arith, ap length none.0)) later
 
 late : (words : List (List ℕ)) (i : Input) (out err : Output) (end : End) → Answers (record { words = words; input = i; out = out; err = err; end = end })
     → Answers (record { words = words; input = i; out = out; err = err; end = NoMemory })

@@ -30,9 +30,13 @@ pub record Course (l : Line) (i : Input) (out err : Output) (end : End) : Type 0
   pub files : ReadFiles (steps_of l) (whole_of l) found i
   pub ends : Ends (made l found) i out err end
 
+-- the loader was not called
+abbrev pub Unasked : Input → Type 0
+Unasked i = (i.asked_after ≡ i.asked_before) × (i.faults_after ≡ i.faults_before)
+
 -- with no command nothing is loaded and nothing is written
 abbrev pub NoCourse : Input → Output → Output → End → Type 0
-NoCourse i out err end = ((end ≡ Usage) ⊎ (end ≡ NoMemory)) × (i.asked_after ≡ i.asked_before) × Untouched out × Untouched err
+NoCourse i out err end = ((end ≡ Usage) ⊎ (end ≡ NoMemory)) × Unasked i × Untouched out × Untouched err
 
 abbrev pub CourseOf : Option Line → Input → Output → Output → End → Type 0
 CourseOf None i out err end = NoCourse i out err end
