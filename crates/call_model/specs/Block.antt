@@ -1,4 +1,6 @@
 -- The register block: 34 words of four bytes each, the least byte first.
+-- Source: OSDI 2010, "Efficient System-Enforced Deterministic Parallelism", the kernel interface: Put and Get hand over registers.
+-- Our choice: the order of the words, and cause and value behind them.
 use Rattle.std.specs.Prelude.{◌≡◌, ℕ, ◌*◌, ◌/◌, ◌%◌, ◌<◌, List, [], ◌∷◌, ◌++◌, slice_index}
 use Rattle.std.specs.List.{flat_map}
 use Rattle.memory_model.specs.Memory.{number_from}

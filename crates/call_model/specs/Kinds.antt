@@ -1,4 +1,5 @@
 -- The kinds of calls and their numbers in register a7.
+-- Our choice: the numbers.
 use Rattle.std.specs.Prelude.{ℕ, ◌==◌, List, [], ◌∷◌, Option}
 use Rattle.std.specs.List.{find}
 use Rattle.call_model.specs.declared.Kind.{Kind}

@@ -1,4 +1,5 @@
 -- The numbers that bound what a call may name.
+-- Our choice: the numbers.
 use Rattle.std.specs.Prelude.{ℕ}
 
 -- the greatest number of a child

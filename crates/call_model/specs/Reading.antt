@@ -1,4 +1,5 @@
 -- The call that registers name, or the first test that they fail.
+-- Our choice: which register holds what.
 use Rattle.std.specs.Prelude.{◌≡◌, ℕ, ◌+◌, ◌^◌, ◌≤◌, Bool, false, List, Option, Some, None, Result, Ok, Err}
 use Rattle.call_model.specs.declared.Kind.{Kind}
 use Rattle.call_model.specs.declared.Kind.TheVariants as kinds

@@ -1,5 +1,6 @@
 -- The tests of a call on its registers, x0 to x31: a7 is the number of the call's kind, a0 to a6 are what it takes. Each test is
 -- told by the kinds that it concerns; the others pass it.
+-- Our choice: the tests, their numbers and their order.
 use Rattle.std.specs.Prelude.{ℕ, ◌+◌, ◌==◌, Bool, false, not, nat_lt, if◌then◌else◌, List, [], ◌∷◌, slice_index, Option, Some, None}
 use Rattle.call_model.specs.declared.Kind.{Kind}
 use Rattle.call_model.specs.declared.Kind.TheVariants.{Put, Get, ConsoleOut}

@@ -1,5 +1,7 @@
 -- What the words of a command line ask for: the command that `clap` gives for them by its definition
 -- for simple commands, or none where it refuses them.
+-- Source: the crate `clap`, whose definition of a command line this cites.
+-- Our choice: the commands, their options and ranges.
 use Rattle.std.specs.Prelude.{◌≡◌, ◌≤◌, ◌<◌, ◌^◌, ℕ, true, false, List, [], ◌∷◌, Option, Some, None, codes, if◌then◌else◌}
 use Rattle.std.specs.Prelude.{option_and_then, option_map}
 use Rattle.std.specs.Str.{bytes_eq}

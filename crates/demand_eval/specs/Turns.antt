@@ -1,4 +1,5 @@
 -- What a run does to a space, turn by turn.
+-- Our choice: a restatement for proofs.
 use Rattle.std.specs.Prelude.{◌≡◌, ℕ, ◌<◌, Bool, true, false}
 use Rattle.call_model.specs.declared.Call.{Call}
 use Rattle.space_model.specs.declared.Reach.{Reach}

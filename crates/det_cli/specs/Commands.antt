@@ -1,4 +1,5 @@
 -- What the files of a command make: a settled root that is shown, or the image of a source.
+-- Our choice: the commands, the limits of their files, and what they write.
 use Rattle.std.specs.Prelude.{ℕ, List, [], ◌∷◌, Option, Some, None, Result, Ok, Err, cond}
 use Rattle.command_line.specs.Line.{Line, run, asm}
 use Rattle.image_model.specs.declared.ImageError.{ImageError}

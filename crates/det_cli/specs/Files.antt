@@ -1,4 +1,5 @@
 -- The files of a command: one after another is loaded and read, up to the first that is refused.
+-- Our choice: one file after another, and that the first refusal counts.
 use Rattle.std.specs.Prelude.{◌≡◌, ◌<◌, ◌≤◌, ℕ, ◌+◌, List, [], ◌∷◌, ◌++◌, map, length, take, Option, Some, None, IfSome, cond, nat_lt}
 use Rattle.det_cli.specs.declared.end.End.{End}
 use Rattle.det_cli.specs.declared.end.End.TheVariants.{TooLarge}

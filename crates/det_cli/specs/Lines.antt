@@ -1,4 +1,5 @@
 -- The line that names a fault's cause.
+-- Our choice: the texts.
 use Rattle.std.specs.Prelude.{ℕ, List, [], ◌∷◌, ◌++◌, codes, decimal}
 use Rattle.image_model.specs.Names.{error_text}
 use Rattle.source_model.specs.Names.{kind_name}

@@ -1,4 +1,5 @@
 -- What the stages of reading a command's files promise one another.
+-- Our choice: a restatement for proofs.
 use Rattle.std.specs.Prelude.{◌≡◌, ◌⊎◌, ℕ, ◌+◌, List, [], ◌∷◌, ◌++◌, length, Option, Some, None, Result, Ok, Err, true, false, nat_lt}
 use Rattle.det_host.specs.Outside.{Rose}
 use Rattle.det_cli.specs.declared.end.End.{End}

@@ -1,4 +1,5 @@
 -- The status with which the program ends, and what it says of how far a call came.
+-- Our choice: the numbers.
 use Rattle.std.specs.Prelude.{◌≡◌, ◌<◌, ℕ}
 use Rattle.det_cli.specs.declared.end.End.{End}
 use Rattle.det_cli.specs.declared.end.End.TheVariants.{Ret, Trapped, Usage, ReadFault, WriteFault, NoMemory}

@@ -1,4 +1,5 @@
 -- What a loader and a sink in memory hold.
+-- Our choice: files and sinks in memory, for tests.
 use Rattle.std.specs.Prelude.{◌≡◌, ℕ, ◌+◌, ◌-◌, ◌^◌, min, List, [], ◌∷◌, ◌++◌, length, take, Option, Some, None, Result, Ok, Err, Bool, true, false, ◌&&◌, cond, string_bytes, nat_eq, nat_lt, if◌then◌else◌, refl}
 use Rattle.std.specs.Prelude.{String, Vec}
 use Rattle.std.specs.Global.{Global}

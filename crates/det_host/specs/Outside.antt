@@ -1,4 +1,5 @@
 -- What a loader and a sink tell of themselves, and how often they have failed.
+-- Our choice: what is said of the outside: bytes told, names asked, faults counted.
 use Rattle.std.specs.Prelude.{◌≡◌, ℕ, ◌+◌, ◌-◌, ◌^◌, ◌<◌, ◌≤◌, ◌⊎◌, min, List, [], ◌∷◌, ◌++◌, length, Option, Some, IfSome, Result, Ok, Err}
 use Rattle.std.specs.Io.KnownBytes.{Consumes}
 use Rattle.det_host.specs.declared.loader.LoadError.{LoadError}

@@ -1,4 +1,5 @@
 -- Paths as text that grows from parent to child.
+-- Our choice: a restatement for proofs.
 use Rattle.std.specs.Prelude.{ℕ, List, [], ◌∷◌}
 use Rattle.std.specs.List.{flat_map}
 use Rattle.std.specs.Fmt.{decimal}

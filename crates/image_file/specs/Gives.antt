@@ -1,4 +1,5 @@
 -- What a reader returned is what reading gives, unless memory ran out.
+-- Our choice: a restatement for proofs.
 use Rattle.std.specs.Prelude.{◌≡◌, Result, Ok, Err}
 use Rattle.image_model.specs.declared.error.ImageError.{ImageError}
 use Rattle.image_file.specs.declared.fault.ImageFault.{ImageFault}

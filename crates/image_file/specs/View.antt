@@ -1,4 +1,5 @@
 -- What a segment stands for.
+-- Our choice: a restatement for proofs.
 use Rattle.std.specs.Prelude.{List, map}
 use Rattle.image_file.specs.declared.image.Segment.{Segment}
 use Rattle.image_model.specs.Image as model

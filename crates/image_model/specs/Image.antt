@@ -1,4 +1,5 @@
 -- An image of a root's memory, and the one spelling of it in the format DTI1.
+-- Our choice: the format DTI1.
 use Rattle.std.specs.Prelude.{◌≡◌, ℕ, ◌+◌, ◌-◌, ◌/◌, ◌^◌, ◌≤◌, ◌<◌, List, [], ◌∷◌, ◌++◌, length, refl, codes}
 use Rattle.std.specs.Int.{w16, w32, to_le_bytes}
 use Rattle.std.specs.List.{flat_map}

@@ -1,4 +1,5 @@
 -- The names of the kinds of fault, and a fault as text.
+-- Our choice: the texts.
 use Rattle.std.specs.Prelude.{ℕ, List, ◌++◌, codes, decimal}
 use Rattle.image_model.specs.declared.error.ImageError.{ImageError}
 use Rattle.image_model.specs.declared.error.ImageErrorKind.{ImageErrorKind}

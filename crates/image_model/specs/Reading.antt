@@ -1,4 +1,5 @@
 -- An image read from left to right, with the first fault that is met, at the offset of its field.
+-- Our choice: the order of the tests, and the offset of each fault.
 use Rattle.std.specs.Prelude.{ℕ, zero, suc, ◌+◌, ◌/◌, ◌^◌, ◌<◌, List, [], ◌∷◌, length, slice_index, take, drop, Result, Ok, Err, nat_lt, ◌==◌, if◌then◌else◌, codes}
 use Rattle.std.specs.Int.{Width, w16, w32, byte_len, from_le_bytes}
 use Rattle.image_model.specs.declared.error.ImageError.{ImageError}

@@ -1,5 +1,6 @@
 -- What computations and comparisons make of two numbers of 32 bits (RISC-V Unprivileged ISA, RV32I, "Integer Computational
 -- Instructions" and "Conditional Branches").
+-- Source: RISC-V Unprivileged ISA, RV32I, "Integer Computational Instructions" and "Conditional Branches".
 use Rattle.std.specs.Prelude.{ℕ, ◌+◌, ◌*◌, ◌-◌, ◌/◌, ◌%◌, ◌^◌, ◌==◌, Bool, not, nat_lt, if◌then◌else◌, bit_and, bit_or, bit_xor, ℤ, pos, negsuc, int_lt}
 use Rattle.instruction_model.specs.declared.Comparison.{Comparison}
 use Rattle.instruction_model.specs.declared.Comparison.TheVariants.{Beq, Bne, Blt, Bge, Bltu, Bgeu}

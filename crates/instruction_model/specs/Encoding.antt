@@ -1,5 +1,7 @@
 -- The word of an instruction (RISC-V Unprivileged ISA, RV32I, "Base Instruction Formats", "Immediate Encoding Variants" and the
 -- instruction set listing). Many words spell FENCE; its word is that of a fence over all accesses.
+-- Source: RISC-V Unprivileged ISA, "RV32I Base Instruction Set" of the instruction set listings, and RV32I, "Base Instruction Formats".
+-- Our choice: the one word of FENCE, whose sets are all.
 use Rattle.std.specs.Prelude.{ℕ, ◌+◌, ◌*◌, ◌/◌, ◌%◌, ◌^◌}
 use Rattle.memory_model.specs.declared.Width.{Width}
 use Rattle.memory_model.specs.declared.Width.TheVariants.{One, Two, Four}

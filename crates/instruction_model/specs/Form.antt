@@ -1,5 +1,6 @@
 -- The fields that instructions have: registers, and immediates that their format can hold (RISC-V Unprivileged ISA, RV32I,
 -- "Immediate Encoding Variants").
+-- Source: RISC-V Unprivileged ISA, RV32I, "Base Instruction Formats" and "Immediate Encoding Variants".
 use Rattle.std.specs.Prelude.{◌≡◌, ℕ, ◌+◌, ◌-◌, ◌%◌, ◌^◌, ◌<◌}
 use Rattle.instruction_model.specs.declared.Operation.{Operation}
 use Rattle.instruction_model.specs.declared.Operation.TheVariants.{Add, Sub, Sll, Slt, Sltu, Xor, Srl, Sra, Or, And}

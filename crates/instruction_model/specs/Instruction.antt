@@ -1,4 +1,5 @@
 -- The words that spell an instruction (RISC-V Unprivileged ISA, "RV32I Base Instruction Set" of the instruction set listings).
+-- Source: RISC-V Unprivileged ISA, "RV32I Base Instruction Set" of the instruction set listings.
 use Rattle.std.specs.Prelude.{◌≡◌, ℕ, ◌<◌, ◌^◌, ◌==◌, ◌&&◌, ◌⊎◌, Bool, true, List, [], ◌∷◌, Option, Some, None, if◌then◌else◌}
 use Rattle.memory_model.specs.declared.Width.TheVariants.{One, Two, Four}
 use Rattle.instruction_model.specs.declared.Comparison.TheVariants.{Beq, Bne, Blt, Bge, Bltu, Bgeu}

@@ -1,5 +1,7 @@
 -- What the instruction at pc does (RISC-V Unprivileged ISA, RV32I base integer instruction set; numbers of causes as in the
 -- Privileged ISA, "Machine Cause").
+-- Source: RISC-V Unprivileged ISA, RV32I; numbers of causes: RISC-V Privileged ISA, "Machine Cause".
+-- Our choice: that misalignment is tested before access, and the value of each trap.
 use Rattle.std.specs.Prelude.{ℕ, ◌+◌, ◌-◌, ◌%◌, ◌^◌, ◌==◌, Option, Some, None, Bool, List, slice_index, slice_set, if◌then◌else◌}
 use Rattle.memory_model.specs.Memory.{Memory, byte_at, may_fetch, may_read, may_write, number_from, width_bytes}
 use Rattle.memory_model.specs.declared.Width.{Width}

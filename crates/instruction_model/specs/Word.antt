@@ -1,4 +1,5 @@
 -- The fields of an instruction word (RISC-V Unprivileged ISA, RV32I, "Base Instruction Formats" and "Immediate Encoding Variants").
+-- Source: RISC-V Unprivileged ISA, RV32I, "Base Instruction Formats" and "Immediate Encoding Variants".
 use Rattle.std.specs.Prelude.{ℕ, ◌+◌, ◌*◌, ◌-◌, ◌/◌, ◌%◌, ◌^◌, nat_lt, if◌then◌else◌}
 
 -- bits 6 to 0

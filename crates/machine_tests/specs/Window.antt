@@ -1,4 +1,5 @@
 -- The memory of the tests' bus: the bytes of a list from address 0x1000 on.
+-- Our choice: a bus for tests.
 use Rattle.std.specs.Prelude.{ℕ, ◌+◌, ◌-◌, ◌*◌, ◌/◌, ◌%◌, Bool, ◌&&◌, nat_lt, nat_le, List, length, slice_index, slice_set, if◌then◌else◌}
 use Rattle.memory_model.specs.declared.Width.{Width}
 use Rattle.memory_model.specs.declared.Width.TheVariants.{One, Two, Four}

@@ -1,6 +1,8 @@
 -- A memory: the bytes of 2 ^ 32 addresses, and the permissions of 2 ^ 20 pages of 4,096 bytes, each 0 where nothing else is kept.
 -- Permissions stand for pages as in OSDI 2010, "Efficient System-Enforced Deterministic Parallelism", the section on the kernel
 -- interface (the Perm option of Put and Get); the order of bytes in a number is that of RISC-V Unprivileged ISA, "Base Integer ISA".
+-- Source: RISC-V Unprivileged ISA, "Memory": bytes by address, the least byte of a word first.
+-- Our choice: pages of 4,096 bytes, each with a permission.
 use Rattle.std.specs.Prelude.{◌≡◌, ℕ, zero, suc, ◌+◌, ◌*◌, ◌/◌, ◌%◌, List, [], ◌∷◌, Option, Some, None, Bool, cond, ◌==◌, refl}
 use Rattle.std.specs.Coded.{Coded, coded×, code_by}
 use Rattle.memory_model.specs.Sparse.{Sparse, value_at, put, no_values, coded_sparse, same_sparse}

@@ -1,5 +1,7 @@
 -- What an operation over a range does to a memory: numbers in a row, and the pages of a range as the Zero, Copy and Perm options of
 -- Put and Get treat them (OSDI 2010, "Efficient System-Enforced Deterministic Parallelism", the section on the kernel interface).
+-- Source: OSDI 2010, "Efficient System-Enforced Deterministic Parallelism", the kernel interface: Zero, Copy and Perm.
+-- Our choice: that Copy carries permissions and Zero leaves them.
 use Rattle.std.specs.Prelude.{◌≡◌, ℕ, zero, suc, ◌+◌, ◌*◌, ◌^◌, ◌<◌, ◌≤◌, List, length, slice_index}
 use Rattle.memory_model.specs.Sparse.{Sparse, put}
 use Rattle.memory_model.specs.Memory.{Memory, byte_at, permission_at}

@@ -1,4 +1,5 @@
 -- A finite map from numbers to numbers above 0. A number that it lacks has 0, so two of these are equal where all values are.
+-- Our choice: how a memory is kept, so that equal memories are equal values.
 use Rattle.std.specs.Prelude.{◌≡◌, ℕ, Bool, true, false, cond, List, [], ◌∷◌, unwrap_or, ◌==◌, Option, Some, None}
 use Rattle.std.proofs.Common.{refl, sym, ◌∙◌, ap, arith, suc, zero}
 use Rattle.std.proofs.lemmas.Bool.Decides.{nat_tests}

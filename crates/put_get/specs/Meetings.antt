@@ -1,4 +1,5 @@
 -- A meeting of a space that has not paid for its call yet.
+-- Our choice: a restatement for proofs.
 use Rattle.std.specs.Prelude.{ℕ, Option}
 use Rattle.call_model.specs.declared.Call.{Call}
 use Rattle.space_model.specs.declared.Refusal.{Refusal}

@@ -1,4 +1,5 @@
 -- What Put and Get do to the destination's range, and when that is one change at most.
+-- Our choice: a restatement for proofs.
 use Rattle.std.specs.Prelude.{ℕ, List, [], ◌∷◌, Bool, not, ◌&&◌, ◌||◌, if◌then◌else◌}
 use Rattle.memory_model.specs.Memory.{Memory}
 use Rattle.call_model.specs.declared.Transfer.{Transfer}

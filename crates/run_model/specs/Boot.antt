@@ -1,4 +1,5 @@
 -- The root as an image and its devices make it.
+-- Our choice: the state in which a root begins.
 use Rattle.std.specs.Prelude.{ℕ, ◌+◌, ◌-◌, ◌/◌, List, [], ◌∷◌, Some, None, slice_set, replicate}
 use Rattle.memory_model.specs.Memory.{Memory, no_memory, with_bytes, with_permissions}
 use Rattle.image_model.specs.Image.{Image, Segment, last_page}

@@ -1,5 +1,6 @@
 -- The demand-driven meaning: a child runs when it is waited for, so no two spaces run at once. In Determinator (OSDI 2010) a child runs
 -- beside its parent from its Start on, and Put and Get wait for it. Beside each space stands the number of events that it took.
+-- Our choice: the meaning of a run; in OSDI 2010 a child runs beside its parent, and Put and Get wait for it.
 use Rattle.std.specs.Prelude.{ℕ, zero, suc, ◌+◌, cond, List, [], ◌∷◌, Option, Some, None}
 use Rattle.space_model.specs.Stop.{is_stopped}
 use Rattle.space_model.specs.Space.{Space, space, Children, none, child, Top, top_of, children_of, find, over}

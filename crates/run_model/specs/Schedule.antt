@@ -1,4 +1,6 @@
 -- Which spaces of a tree may go on, and what becomes of the tree: one event at one path, in any order that a scheduler may choose.
+-- Source: OSDI 2010, "Efficient System-Enforced Deterministic Parallelism", the kernel interface: Put and Get wait until the child has stopped.
+-- Our choice: one event at one path as the step of a schedule.
 use Rattle.std.specs.Prelude.{ℕ, pred, Bool, true, false, ◌&&◌, cond, List, [], ◌∷◌, Option, Some, None}
 use Rattle.space_model.specs.Stop.{is_stopped}
 use Rattle.space_model.specs.Space.{Space, space, Children, top_of, children_of, find, over, is_settled}

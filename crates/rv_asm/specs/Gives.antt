@@ -1,4 +1,5 @@
 -- What a function of the code returned is what a function of the grammar gives.
+-- Our choice: a restatement for proofs.
 use Rattle.std.specs.Prelude.{◌≡◌, ℕ, min, ◌^◌, Result, Ok, Err}
 use Rattle.source_model.specs.declared.error.AsmErrorKind.{AsmErrorKind}
 use Rattle.source_model.specs.declared.statement.Number.{Number}

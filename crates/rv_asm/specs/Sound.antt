@@ -1,4 +1,5 @@
 -- What statements that were read have.
+-- Our choice: a restatement for proofs.
 use Rattle.std.specs.Prelude.{◌+◌, ◌^◌, ◌≤◌, IfSome}
 use Rattle.instruction_model.specs.Form.{HasFields, IsRegister}
 use Rattle.instruction_model.specs.declared.Operation.{Operation}

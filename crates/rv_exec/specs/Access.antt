@@ -1,5 +1,6 @@
 -- What a bus answers to an aligned access, by what an instruction sees of it (numbers of causes as in the RISC-V Privileged ISA,
 -- "Machine Cause").
+-- Source: RISC-V Privileged ISA, "Machine Cause", for the numbers.
 use Rattle.std.specs.Prelude.{◌≡◌, ℕ, ◌+◌, ◌/◌, ◌%◌, ◌==◌, Bool, true, false, Result, Ok, Err, if◌then◌else◌}
 use Rattle.memory_model.specs.Memory.{number_from}
 use Rattle.memory_model.specs.declared.Width.{Width}

@@ -1,4 +1,5 @@
 -- What a step answers and changes, by an instruction's outcome.
+-- Our choice: a restatement for proofs.
 use Rattle.std.specs.Prelude.{◌≡◌, ℕ, Bool, true, Result, Ok, Err}
 use Rattle.std.specs.declared.alloc.AllocError.{AllocError}
 use Rattle.memory_model.specs.declared.Width.{Width}

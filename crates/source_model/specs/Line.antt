@@ -1,4 +1,6 @@
 -- A line: its label, and its statement or the first kind of fault that the line has by itself.
+-- Source: RISC-V Assembly Programmer's Manual, for the look of a line.
+-- Our choice: the grammar.
 use Rattle.std.specs.Prelude.{ℕ, Bool, false, List, Option, Some, None, is_some, not, Err, if◌then◌else◌}
 use Rattle.source_model.specs.declared.error.AsmErrorKind.TheVariants as kinds
 use Rattle.source_model.specs.declared.statement.Class.TheVariants.{Foreign}

@@ -1,4 +1,5 @@
 -- What a label is worth, in other words than those in which it is computed.
+-- Our choice: a restatement for proofs.
 use Rattle.std.specs.Prelude.{◌≡◌, ℕ, ◌+◌, true, false, List, [], ◌∷◌, ◌++◌, length}
 use Rattle.source_model.specs.declared.statement.Definition.{Definition}
 use Rattle.source_model.specs.declared.statement.Layout.{Layout}

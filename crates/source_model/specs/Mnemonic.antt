@@ -1,4 +1,6 @@
 -- The first words of statements (RISC-V Unprivileged ISA, RV32I, instruction names in lower case; the others are directives).
+-- Source: RISC-V Unprivileged ISA, RV32I, the names of instructions.
+-- Our choice: the directives.
 use Rattle.std.specs.Prelude.{ℕ, List, Option, Some, None, Result, if◌then◌else◌, codes}
 use Rattle.memory_model.specs.declared.Width.TheVariants as widths
 use Rattle.instruction_model.specs.declared.Comparison.TheVariants as comparisons

@@ -1,4 +1,5 @@
 -- The names of the kinds of fault.
+-- Our choice: the texts.
 use Rattle.std.specs.Prelude.{ℕ, List, codes}
 use Rattle.source_model.specs.declared.error.AsmErrorKind.{AsmErrorKind}
 use Rattle.source_model.specs.declared.error.AsmErrorKind.TheVariants as kinds

@@ -1,4 +1,5 @@
 -- Registers (RISC-V Assembly Programmer's Manual, "General registers").
+-- Source: RISC-V Assembly Programmer's Manual, "General registers".
 use Rattle.std.specs.Prelude.{ℕ, ◌+◌, ◌*◌, ◌==◌, nat_lt, ◌&&◌, List, [], ◌∷◌, drop, slice_index, Option, Some, None, option_and_then, Result, if◌then◌else◌, codes}
 use Rattle.source_model.specs.declared.error.AsmErrorKind.{AsmErrorKind}
 use Rattle.source_model.specs.declared.error.AsmErrorKind.TheVariants as kinds

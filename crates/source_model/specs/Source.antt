@@ -1,4 +1,5 @@
 -- The image that a source stands for, or its first fault: in the least line with one, the first kind of the list.
+-- Our choice: which fault counts, and the layout of segments.
 use Rattle.std.specs.Prelude.{◌≡◌, ℕ, ◌+◌, ◌-◌, ◌*◌, ◌/◌, ◌%◌, ◌^◌, Bool, false, not, ◌||◌, nat_lt, ◌==◌, List, [], ◌∷◌, ◌++◌, replicate, Option, Some, None, option_map, unwrap_or, Result, Ok, Err, if◌then◌else◌}
 use Rattle.std.specs.Int.{w32, to_le_bytes}
 use Rattle.image_model.specs.Image as model

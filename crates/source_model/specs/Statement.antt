@@ -1,5 +1,7 @@
 -- Statements: what follows the first word, read by shape, then registers, then numbers. Beside a statement stands the word
 -- that may name its label.
+-- Source: RISC-V Assembly Programmer's Manual, for operands and their order.
+-- Our choice: `li` is always two words; the directives.
 use Rattle.std.specs.Prelude.{ℕ, ◌*◌, ◌-◌, ◌^◌, List, [], Result, Ok, Err, if◌then◌else◌}
 use Rattle.memory_model.specs.declared.Width.{Width}
 use Rattle.instruction_model.specs.declared.Comparison.{Comparison}

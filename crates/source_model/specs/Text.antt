@@ -1,4 +1,5 @@
 -- The text of a source: bytes, lines, labels and words.
+-- Our choice: lines, labels and words.
 use Rattle.std.specs.Prelude.{ℕ, ◌-◌, Bool, true, false, not, ◌&&◌, ◌||◌, ◌==◌, nat_lt, List, [], ◌∷◌, length, slice_index, take, drop, Option, Some, None, Result, Ok, Err, if◌then◌else◌}
 use Rattle.std.specs.Str.{bytes_eq}
 use Rattle.source_model.specs.declared.error.AsmErrorKind.{AsmErrorKind}

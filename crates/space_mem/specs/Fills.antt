@@ -1,4 +1,5 @@
 -- Lists of runs with no gaps.
+-- Our choice: a restatement for proofs.
 use Rattle.std.specs.Prelude.{ℕ, ◌-◌, nat_lt, cond, List, [], ◌∷◌, ◌++◌, None}
 use Rattle.space_mem.specs.declared.layout.Run.{Run}
 use Rattle.space_mem.specs.Runs.{end_of}

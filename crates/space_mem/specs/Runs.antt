@@ -1,4 +1,5 @@
 -- A list of runs of pages, and the memory that it stands for.
+-- Our choice: how the code keeps a memory.
 use Rattle.std.specs.Prelude.{◌≡◌, ℕ, zero, suc, ◌+◌, ◌-◌, ◌/◌, ◌%◌, ◌<◌, ◌≤◌, Bool, cond, not, ◌&&◌, nat_lt, List, [], ◌∷◌, ◌++◌, take, drop, slice_index, slice_index_or, length, Option, Some, None, is_some, IsSome, true, false, ◌⊎◌}
 use Rattle.memory_model.specs.Sparse.{no_values}
 use Rattle.memory_model.specs.Memory.{Memory}

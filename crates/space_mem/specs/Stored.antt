@@ -1,4 +1,5 @@
 -- A memory after a store keeps the laws of a bus.
+-- Our choice: a restatement for proofs.
 use Rattle.std.proofs.Common.{◌≡◌, ℕ, ◌+◌, ◌/◌, ◌%◌, true, cond, ◌==◌, refl, ap, ◌∙◌}
 use Rattle.memory_model.specs.declared.Width.{Width}
 use Rattle.memory_model.specs.declared.Width.TheVariants.{One, Two, Four}

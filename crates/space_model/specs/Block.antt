@@ -1,4 +1,6 @@
 -- A top and the register block of Put and Get: what a block in memory holds, and the block that a top gives.
+-- Source: OSDI 2010, "Efficient System-Enforced Deterministic Parallelism", the kernel interface: Put and Get hand over registers.
+-- Our choice: number 22 for a space that runs.
 use Rattle.std.specs.Prelude.{ℕ, zero, suc, ◌+◌, List, [], ◌∷◌, drop}
 use Rattle.memory_model.specs.Memory.{Memory, byte_at, number_from, with_bytes}
 use Rattle.memory_model.specs.declared.Width.TheVariants.{Four}

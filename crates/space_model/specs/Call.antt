@@ -1,5 +1,6 @@
 -- Calls that meet children, by what they see of their children and what they edit (OSDI 2010, "Efficient System-Enforced
 -- Deterministic Parallelism", the section on the kernel interface: a space meets only its parent and its children).
+-- Source: OSDI 2010, "Efficient System-Enforced Deterministic Parallelism", the kernel interface: a space meets only its parent and its children.
 use Rattle.std.specs.Prelude.{ℕ, List, [], ◌∷◌, Option, Some, None, option_map}
 use Rattle.space_model.specs.declared.Reach.{Reach}
 use Rattle.space_model.specs.declared.Reach.TheVariants.{Itself, Whole}

@@ -1,4 +1,5 @@
 -- Changes of a top that events have in common.
+-- Our choice: a0 is 0 after a call; an event takes a unit of fuel and of the limit.
 use Rattle.std.specs.Prelude.{ℕ, ◌+◌, ◌-◌, option_map}
 use Rattle.instruction_model.specs.Outcome.{with_register, onward}
 use Rattle.space_model.specs.declared.Cause.{Cause}

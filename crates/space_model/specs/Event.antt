@@ -1,4 +1,6 @@
 -- One local event of a space: one instruction, one trap, or one stop. The order of the tests is the order of the lines.
+-- Source: OSDI 2010, "Efficient System-Enforced Deterministic Parallelism", the kernel interface: a trap is an implicit Ret.
+-- Our choice: fuel in each space, and the order of the tests.
 use Rattle.std.specs.Prelude.{◌≡◌, ℕ, zero, suc, ◌-◌, ◌<◌, Option, Some, None, Result, Ok, Err, List, ◌++◌}
 use Rattle.memory_model.specs.Memory.{may_read, bytes_from, first_without, with_number}
 use Rattle.instruction_model.specs.Outcome.{view_of, Outcome, goes, stores, calls, traps, outcome}

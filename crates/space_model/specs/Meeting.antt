@@ -1,6 +1,8 @@
 -- What calls that meet children do once the children that they wait for are ready (OSDI 2010, "Efficient System-Enforced Deterministic
 -- Parallelism", the section on the kernel interface). A meeting is its tests, in their order, and what it does where none of them stops the
 -- caller; so all tests come before any change.
+-- Source: OSDI 2010, "Efficient System-Enforced Deterministic Parallelism", the kernel interface: the options of Put and Get.
+-- Our choice: the order of their parts, and that all tests come before any change.
 use Rattle.std.specs.Prelude.{ℕ, ◌+◌, List, [], ◌∷◌, Option, Some, None, option_map, Bool, if◌then◌else◌, replicate, ◌≤◌, ◌<◌}
 use Rattle.memory_model.specs.Memory.{no_memory, may_read, may_write, first_without}
 use Rattle.call_model.specs.declared.Transfer.{Transfer}

@@ -1,6 +1,8 @@
 -- The parts of what calls do, each from tops to tops, and the options that ask for them (OSDI 2010, "Efficient System-Enforced Deterministic
 -- Parallelism", the section on the kernel interface: the options Regs, Copy, Zero, Perm, Start and Limit of Put and Get). A range of memory is
 -- its first page and its number of pages, so that all of memory is one.
+-- Source: OSDI 2010, "Efficient System-Enforced Deterministic Parallelism", the kernel interface: the options of Put and Get.
+-- Our choice: what each does, and that Copy carries permissions.
 use Rattle.std.specs.Prelude.{ℕ, ◌/◌, List, [], ◌∷◌, Option, Some, None, Bool, if◌then◌else◌}
 use Rattle.memory_model.specs.Memory.{Memory, with_permissions}
 use Rattle.memory_model.specs.Ranges.{with_zeros, with_copies}

@@ -1,4 +1,5 @@
 -- Spaces by their paths: the numbers of the children that lead to a space, from the root on.
+-- Our choice: spaces by the numbers of children that lead to them.
 use Rattle.std.specs.Prelude.{◌≡◌, ℕ, List, [], ◌∷◌, Option, Some, Bool, false, option_and_then}
 use Rattle.space_model.specs.Space.{Space, space, Children, Top, children_of, find, over, put_child}
 

@@ -1,5 +1,6 @@
 -- What holds of every space that is reached: no space is deeper than the greatest depth, numbers of children rise and are below
 -- 65,536, fuel and used add to one number in all, and the root alone has devices.
+-- Our choice: a depth of at most 8, child numbers below 65,536, one sum of fuel and used.
 use Rattle.std.specs.Prelude.{◌≡◌, ℕ, zero, suc, ◌+◌, ◌^◌, ◌<◌, ◌≤◌, Option, Some, None, Bool, true, false}
 use Rattle.call_model.specs.Limits.{greatest_depth}
 use Rattle.space_model.specs.Space.{Space, space, Children, none, child, Top, Devices}

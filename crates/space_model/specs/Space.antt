@@ -1,5 +1,6 @@
 -- The state of a space, without its children (its top) and with them (OSDI 2010, "Efficient System-Enforced Deterministic
 -- Parallelism": a tree of spaces, each with registers, a private memory and a snapshot; fuel and limits count instructions).
+-- Source: OSDI 2010, "Efficient System-Enforced Deterministic Parallelism", "Spaces": registers, a private memory, a snapshot, a limit.
 use Rattle.std.specs.Prelude.{◌≡◌, ℕ, ◌+◌, ◌≤◌, List, [], ◌∷◌, ◌++◌, Option, Some, None, ◌⊎◌, Bool, true, false, cond, ◌==◌, nat_lt, refl, map, suc}
 use Rattle.std.proofs.Common.{arith, sym, ◌∙◌, inl, inr, append_assoc}
 use Rattle.std.specs.Coded.{Coded, coded_ℕ, coded_list, coded_option, coded×, coded⊎, code_by}

@@ -1,4 +1,6 @@
 -- Causes and statuses: the number and the word of each cause.
+-- Source: RISC-V Privileged ISA, "Machine Cause", for numbers 0 to 7.
+-- Our choice: the other causes, and the words of all.
 use Rattle.std.specs.Prelude.{◌≡◌, ℕ, List, [], ◌∷◌, Option, Some, None, unwrap_or, ◌==◌, Bool, true, false, refl, codes}
 use Rattle.std.specs.List.{find}
 use Rattle.std.specs.Coded.{Coded, coded_ℕ, coded_option, coded×, code_by}

@@ -1,4 +1,5 @@
 -- A direct-mapped cache of decoded instructions: what it keeps of a memory.
+-- Our choice: how the code keeps decoded instructions.
 use Rattle.std.specs.Prelude.{◌≡◌, ℕ, ◌*◌, ◌/◌, ◌%◌, ◌<◌, true, List, length, slice_index_or, None, Some}
 use Rattle.memory_model.specs.Memory.{number_from}
 use Rattle.memory_model.specs.declared.Width.TheVariants.{Four}

@@ -1,4 +1,5 @@
 -- A run: local events of a space from a start on.
+-- Our choice: a restatement for proofs.
 use Rattle.std.specs.Prelude.{◌≡◌, ℕ, ◌-◌, ◌≤◌, refl}
 use Rattle.std.specs.Coded.{Coded, coded_ℕ, coded×, code_by}
 use Rattle.space_model.specs.Space.{Top, coded_top}

@@ -1,4 +1,5 @@
 -- Local events of a space, some at a time.
+-- Our choice: a restatement for proofs.
 use Rattle.std.specs.Prelude.{ℕ, ◌≤◌}
 use Rattle.space_model.specs.Space.{Top}
 use Rattle.space_model.specs.Event.{next, Follows, IsNotLocal}

@@ -1,4 +1,5 @@
 -- What stands at an address: an instruction or a trap, whatever the other registers hold.
+-- Our choice: a restatement for proofs.
 use Rattle.std.specs.Prelude.{◌≡◌, ℕ, ◌%◌}
 use Rattle.memory_model.specs.Memory.{Memory, width_bytes, with_number}
 use Rattle.memory_model.specs.declared.Width.{Width}

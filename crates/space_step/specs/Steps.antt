@@ -1,4 +1,5 @@
 -- What is next of a space, as calls answer it.
+-- Our choice: a restatement for proofs.
 use Rattle.std.specs.Prelude.{◌≡◌, ℕ, Result, Ok, Err}
 use Rattle.std.specs.declared.alloc.AllocError.{AllocError}
 use Rattle.space_step.specs.declared.event.Next.{Next}

@@ -1,4 +1,5 @@
 -- A stretch of instructions of one space, none of which is a call or a trap, over its registers and its memory alone.
+-- Our choice: a restatement for proofs.
 use Rattle.std.specs.Prelude.{◌≡◌, ℕ, zero, suc, ◌≤◌, ◌<◌, ◌==◌, min, IfSome, Bool, true, false, Option, Some, None, if◌then◌else◌}
 use Rattle.memory_model.specs.Memory.{Memory, with_number}
 use Rattle.instruction_model.specs.Outcome.{Registers, Outcome, goes, stores, calls, traps, view_of, outcome}
