@@ -6,29 +6,24 @@ use std::alloc::{AllocError, Global};
 use std::process::Abort;
 use std::test::Fail;
 
-// The fuel of the space at a path.
-fn fuel_at(space: &Space, path: &Path) -> Option<u32> {
-    match at(space, path) {
-        Some(found) => Some(found.top().fuel),
-        None => None,
-    }
-}
-
 #[test]
 fn spaces_at_paths(rt: HostRuntime) -> Result<(), Fail> {
     let alloc = rt.alloc();
     let mut tree = Space::alone(alloc, Top::fresh(alloc, 10));
     let mut path = Path::new();
     path.push(65_535);
-    assert_eq!(rt; fuel_at(&tree, &path), None);
+    assert!(rt; at(&tree, &path).is_none());
     put_at(&mut tree, &path, Space::alone(alloc, Top::fresh(alloc, 20)))?;
     let former = swap_top(&mut tree, &path, Top::fresh(alloc, 30));
     assert_eq!(rt; former.fuel, 20);
-    assert_eq!(rt; fuel_at(&tree, &path), Some(30));
+    assert_eq!(rt; at(&tree, &path).map(|space| space.top().fuel), Some(30));
     path.push(7);
     put_at(&mut tree, &path, Space::alone(alloc, Top::fresh(alloc, 40)))?;
-    assert_eq!(rt; fuel_at(&tree, &path), Some(40));
-    assert_eq!(rt; fuel_at(&tree, &Path::new()), Some(10));
+    assert_eq!(rt; at(&tree, &path).map(|space| space.top().fuel), Some(40));
+    assert_eq!(rt;
+        at(&tree, &Path::new()).map(|space| space.top().fuel),
+        Some(10)
+    );
     Ok(())
 }
 
