@@ -220,23 +220,23 @@ fn ended(alloc: Global, source: &[u8], stretch: u32) -> Result<Ending, Fail>
     })
 }
 
-fn ending<R: AllocGlobal + Abort>(rt: &R, source: &[u8], stretch: u32) -> Ending
+fn finish<R: AllocGlobal + Abort>(rt: &R, source: &[u8], stretch: u32) -> Ending
     requires { 1 ≤ stretch }
 {
     match ended(rt.alloc(), source, stretch) {
-        Ok(ending) => ending,
+        Ok(end) => end,
         Err(_) => panic!(rt; "a source is refused, or memory has run out"),
     }
 }
 
 // A program ends so, after so many events and with these first two words, in one stretch as in stretches too short for a cache.
 fn ends<R: AllocGlobal + Abort>(rt: &R, source: &[u8], status: Status, used: u32, words: [u32; 2]) {
-    let cached = ending(rt, source, 1_000_000);
+    let cached = finish(rt, source, 1_000_000);
     assert_eq!(rt; cached.status, status);
     assert_eq!(rt; cached.used, used);
     assert_eq!(rt; cached.words, words);
-    assert_eq!(rt; cached, ending(rt, source, 100));
-    assert_eq!(rt; cached, ending(rt, source, 1));
+    assert_eq!(rt; cached, finish(rt, source, 100));
+    assert_eq!(rt; cached, finish(rt, source, 1));
 }
 
 const fn stopped(cause: Cause, value: u32) -> Status {
