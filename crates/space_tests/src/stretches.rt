@@ -1,3 +1,5 @@
+ghost use Rattle.std.specs.Prelude.{◌≤◌};
+
 use demand_eval::settle;
 use det_core::boot;
 use rv_asm::assemble;
