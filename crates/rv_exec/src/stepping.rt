@@ -118,6 +118,7 @@ fn finish(regs: &mut Regs, rd: u8, value: u32) -> Result<Stepped, AllocError>
     Ok(Stepped::Next)
 }
 
+/// What an instruction does where pc stands, as `step` does it that has fetched and decoded it.
 #[inline(always)]
 pub fn perform<B: Bus>(
     regs: &mut Regs,
