@@ -7,4 +7,3 @@ pub mod CallEvents
 pub mod Following
 pub mod Advancing
 pub mod Caching
-pub mod Outliving
