@@ -1,5 +1,5 @@
 -- How a command goes, by what its stages answer; and what follows for its end.
-use Rattle.std.proofs.Common.{◌≡◌, ◌<◌, ◌+◌, ◌⊎◌, ℕ, List, [], ◌∷◌, ◌++◌, length, take, Option, Some, None, IfSome, Result, Ok, Err, inl, inr, refl, sym, ap, ◌∙◌, subst, lit≤, arith}
+use Rattle.std.proofs.Common.{◌≡◌, ◌⊎◌, ℕ, List, [], ◌++◌, length, take, Option, Some, None, Ok, Err, inl, inr, refl, sym, ap, ◌∙◌, subst, lit≤, arith}
 use Rattle.std.proofs.lemmas.List.{append-nil, take_all}
 use Rattle.det_host.specs.Outside.{Takes, Rose}
 use Rattle.command_line.specs.Line.{Line, run, asm}
@@ -9,7 +9,7 @@ use Rattle.det_cli.specs.declared.end.End.{End}
 use Rattle.det_cli.specs.declared.end.End.TheVariants.{Usage, ReadFault, WriteFault, NoMemory}
 use Rattle.det_cli.specs.Status.{status_of, IsDone, IsBad, IsEarly}
 use Rattle.det_cli.specs.Writing.{Output, TakesPrefix, Untouched, Wrote, WrotePrefix, Stopped}
-use Rattle.det_cli.specs.Files.{Expected, Input, judge}
+use Rattle.det_cli.specs.Files.{Expected, Input}
 use Rattle.det_cli.specs.Commands.{steps_of, whole_of, made}
 use Rattle.det_cli.specs.Answers.{Writes, Ends, Unasked, Course, CourseOf}
 use Rattle.det_cli.specs.Stages.{Led, Reads}

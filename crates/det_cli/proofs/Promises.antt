@@ -1,14 +1,14 @@
 -- What a call promises, by how it went.
-use Rattle.std.proofs.Common.{◌≡◌, ◌≤◌, ◌<◌, ◌+◌, ◌⊎◌, ℕ, List, length, take, Option, Some, None, inl, inr, refl, sym, ap, ◌∙◌, subst, arith}
+use Rattle.std.proofs.Common.{◌≡◌, ◌≤◌, ◌+◌, ◌⊎◌, ℕ, List, length, take, Option, Some, None, inl, inr, refl, sym, ap, subst, arith}
 use Rattle.det_host.specs.Outside.{Rose}
 use Rattle.command_line.specs.Line.{Line, line, IsRefused}
 use Rattle.det_cli.specs.declared.end.End.{End}
-use Rattle.det_cli.specs.declared.end.End.TheVariants.{Usage, ReadFault, WriteFault, NoMemory}
-use Rattle.det_cli.specs.Status.{status_of, IsDone, IsBad, IsEarly}
+use Rattle.det_cli.specs.declared.end.End.TheVariants.{NoMemory}
+use Rattle.det_cli.specs.Status.{status_of, IsDone}
 use Rattle.det_cli.specs.Writing.{Output, Untouched, Wrote}
 use Rattle.det_cli.specs.Files.{Expected, Input, told_files}
 use Rattle.det_cli.specs.Commands.{steps_of, whole_of, made, expect}
-use Rattle.det_cli.specs.Answers.{Writes, Ends, Course, NoCourse, Unasked, CourseOf, Answer, Answers, Later, Says, until, since, Program}
+use Rattle.det_cli.specs.Answers.{Writes, Ends, Course, NoCourse, Unasked, CourseOf, Answers, Later, Says, until, since, Program}
 use Rattle.det_cli.proofs.Courses.{kind_of, not_usage, read_fault, write_fault, early, memory_after, memory_of, no_memory}
 use Rattle.det_cli.proofs.Told.{decides_all, asked_most}
 

@@ -1,11 +1,11 @@
 -- What is answered at each stage of reading a command's files is what the files decide.
-use Rattle.std.proofs.Common.{◌≡◌, ◌≤◌, ◌<◌, ◌+◌, ◌⊎◌, ℕ, zero, suc, List, [], ◌∷◌, ◌++◌, map, length, take, replicate, Option, Some, None, IfSome, IfOk, Result, Ok, Err, Bool, true, false, cond, nat_lt, inl, inr, refl, sym, ap, ◌∙◌, subst, append_assoc, lit≤, lit<, arith}
+use Rattle.std.proofs.Common.{◌≡◌, ◌≤◌, ◌<◌, ◌+◌, ◌⊎◌, ℕ, zero, suc, List, [], ◌∷◌, ◌++◌, length, take, replicate, Option, Some, None, IfSome, IfOk, Result, Ok, Err, Bool, true, false, cond, nat_lt, inl, inr, refl, sym, ap, ◌∙◌, subst, append_assoc, lit≤, lit<, arith}
 use Rattle.std.proofs.lemmas.List.{append-nil}
 use Rattle.det_host.specs.Outside.{Rose}
 use Rattle.det_cli.specs.declared.end.End.{End}
 use Rattle.det_cli.specs.declared.end.End.TheVariants.{Ret, Trapped, TooLarge, ReadFault, NoMemory}
 use Rattle.det_cli.specs.Status.{IsDone, IsBad}
-use Rattle.det_cli.specs.Files.{Expected, refusal, Step, Input, Agrees, AsTold, ReadFiles, names_of, refusal_at, decided, judge}
+use Rattle.det_cli.specs.Files.{Expected, Step, Input, Agrees, AsTold, names_of, refusal_at, decided, judge}
 use Rattle.image_model.specs.declared.ImageError.{ImageError}
 use Rattle.image_model.specs.Image.{Image}
 use Rattle.image_model.specs.Reading.{image_of}

@@ -1,8 +1,8 @@
 -- Where what is told of the files decides, that is what a command makes, or the files were not read so far.
-use Rattle.std.proofs.Common.{◌≡◌, ◌≤◌, ◌<◌, ◌+◌, ◌⊎◌, ℕ, zero, suc, List, [], ◌∷◌, ◌++◌, length, take, Option, Some, None, IfSome, inl, inr, refl, sym, ap, ◌∙◌, subst, length-append, arith}
+use Rattle.std.proofs.Common.{◌≡◌, ◌≤◌, ◌<◌, ◌+◌, ◌⊎◌, ℕ, zero, suc, List, [], ◌∷◌, ◌++◌, length, take, Option, Some, None, inl, inr, refl, sym, ap, subst, length-append, arith}
 use Rattle.std.proofs.lemmas.List.{length-take}
 use Rattle.det_cli.specs.declared.end.End.{End}
-use Rattle.det_cli.specs.Files.{Expected, refusal, Step, Input, Agrees, AsTold, ReadFiles, names_of, refusal_at, decided, judge, told_from, told_files}
+use Rattle.det_cli.specs.Files.{Expected, Step, Input, Agrees, AsTold, ReadFiles, names_of, refusal_at, decided, judge, told_from, told_files}
 
 -- a file that is told is the one that was loaded
 told_first : (t : Option (List ℕ)) (s : Step) (ss : List Step) (whole : List (List ℕ) → Option Expected) (f : List ℕ) (rest : List (List ℕ)) (j : ℕ) (e : Expected) → Agrees t f

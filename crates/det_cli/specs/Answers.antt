@@ -1,6 +1,6 @@
 -- What a call of the program answers and writes.
 -- Our choice: the ends of a call, their causes, and what each leaves.
-use Rattle.std.specs.Prelude.{◌≡◌, ◌≤◌, ◌<◌, ◌+◌, ◌⊎◌, ℕ, List, length, take, Option, Some, None}
+use Rattle.std.specs.Prelude.{◌≡◌, ◌≤◌, ◌+◌, ◌⊎◌, ℕ, List, length, take, Option, Some, None}
 use Rattle.det_host.specs.Outside.{Rose}
 use Rattle.command_line.specs.Line.{Line, line, IsRefused}
 use Rattle.det_cli.specs.declared.end.End.{End}
