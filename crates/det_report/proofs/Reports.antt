@@ -3,7 +3,8 @@ use Rattle.std.proofs.Common.{◌≡◌, ◌<◌, ℕ, List, [], ◌∷◌, ◌+
 use Rattle.std.proofs.lemmas.List.{append-nil}
 use Rattle.std.specs.Fmt.{decimal}
 use Rattle.space_model.specs.Stop.{is_stopped}
-use Rattle.space_model.specs.Space.{Space, space, Top, children_from, is_settled, are_settled, size_of, sizes}
+use Rattle.space_model.specs.Space.{Space, space, Top, children_from, is_settled, are_settled}
+use Rattle.space_model.specs.Encoding.{size_of, sizes}
 use Rattle.report_model.specs.Report.{report_of, reports_of, line, path_text, state_text}
 use Rattle.det_report.specs.Paths.{steps_of, shown}
 

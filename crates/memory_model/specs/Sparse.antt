@@ -1,6 +1,6 @@
 -- A finite map from numbers to numbers above 0. A number that it lacks has 0, so two of these are equal where all values are.
 -- Our choice: how a memory is kept, so that equal memories are equal values.
-use Rattle.std.specs.Prelude.{◌≡◌, ℕ, Bool, true, false, cond, List, [], ◌∷◌, unwrap_or, ◌==◌, Option, Some, None}
+use Rattle.std.specs.Prelude.{◌≡◌, ℕ, Bool, true, false, cond, unwrap_or, ◌==◌, Option, Some, None}
 use Rattle.std.proofs.Common.{refl, sym, ◌∙◌, ap, arith, suc, zero}
 use Rattle.std.proofs.lemmas.Bool.Decides.{nat_tests}
 use Rattle.std.specs.Ordering.{nat_cmp, eq_by_cmp}
@@ -8,8 +8,6 @@ use Rattle.std.specs.Cmp.{nat_cmp_total}
 use Rattle.std.specs.FinMap.{FinMap, code, empty, get, insert, remove, get-empty, get-insert, get-remove, same_map, nat_cmp-IsAntisymmetric}
 use Rattle.std.specs.Coded.{Coded, coded_ℕ}
 use base.Stored.{coded_via}
-use Rattle.std.specs.Map.{lookup}
-use Rattle.std.specs.BTreeMap.{is_at}
 use mathlib.Core.HLevel.{Σ_prop_path}
 
 pub record Sparse : Type 0 where
@@ -90,37 +88,6 @@ unfolding value_at
 same_sparse s t h = same_map_field s t (same_map nat_cmp_total nat_cmp-IsAntisymmetric s.map t.map
     (λ q. same_option (get s.map q) (get t.map q) (s.positive q) (t.positive q) (h q)))
 
--- what the entries of a map stand for; of two entries at a key, the first counts
-unfoldable pub sparse_of : List (ℕ × ℕ) → Sparse
-sparse_of [] = no_values
-sparse_of (e ∷ es) = put (sparse_of es) e.0 e.1
-
 pub value_at-no_values : (k : ℕ) → value_at no_values k ≡ 0
 unfolding value_at no_values
 value_at-no_values k = ap (λ o. unwrap_or o 0) (get-empty {X = ℕ} nat_cmp k)
-
-split_or : (b : Bool) (v : ℕ) (o : Option ℕ) → unwrap_or (cond b (Some v) o) 0 ≡ cond b v (unwrap_or o 0)
-split_or true v o = refl
-split_or false v o = refl
-
-pub value_at-sparse_of : (es : List (ℕ × ℕ)) (k : ℕ) → value_at (sparse_of es) k ≡ unwrap_or (lookup (is_at (nat_cmp k)) es) 0
-unfolding sparse_of
-value_at-sparse_of [] k = value_at-no_values k
-value_at-sparse_of (e ∷ es) k =
-    value_at-put (sparse_of es) e.0 e.1 k
-    ∙ ap (λ n. cond (k == e.0) e.1 n) (value_at-sparse_of es k)
-    ∙ sym (split_or (k == e.0) e.1 (lookup (is_at (nat_cmp k)) es))
-    ∙ ap (λ b. unwrap_or (cond b (Some e.1) (lookup (is_at (nat_cmp k)) es)) 0) (sym (same_key k e.0))
-
-turned_key : (k q : ℕ) → is_at (nat_cmp k) q ≡ (q == k)
-turned_key k q = grind (arith, nat_tests)
-
--- what an insertion into a map does to what it stands for
-pub sparse_after_insert : (es fs : List (ℕ × ℕ)) (k v : ℕ) → ((q : ℕ) → lookup (is_at (nat_cmp q)) fs ≡ cond (is_at (nat_cmp k) q) (Some v) (lookup (is_at (nat_cmp q)) es)) → sparse_of fs ≡ put (sparse_of es) k v
-sparse_after_insert es fs k v h = same_sparse (sparse_of fs) (put (sparse_of es) k v) (λ q.
-    value_at-sparse_of fs q
-    ∙ ap (λ o. unwrap_or o 0) (h q)
-    ∙ split_or (is_at (nat_cmp k) q) v (lookup (is_at (nat_cmp q)) es)
-    ∙ ap (λ b. cond b v (unwrap_or (lookup (is_at (nat_cmp q)) es) 0)) (turned_key k q)
-    ∙ ap (λ n. cond (q == k) v n) (sym (value_at-sparse_of es q))
-    ∙ sym (value_at-put (sparse_of es) k v q))

@@ -8,7 +8,8 @@ use Rattle.std.specs.Map.{keys_of, lookup, set_value}
 use Rattle.call_model.specs.declared.Transfer.{Transfer}
 use Rattle.space_model.specs.Space.{Space, space, none, Top, top_of, children_of, find, put_child, children_from}
 use Rattle.space_model.specs.Call.{edit, change, below}
-use Rattle.space_model.specs.Meeting.{fresh, or_fresh}
+use Rattle.space_model.specs.Beginning.{fresh}
+use Rattle.space_model.specs.Meeting.{or_fresh}
 use Rattle.space_model.specs.Part.{child_after}
 use Rattle.space_model.proofs.Entries.{find_entries, set_entries, put_entries}
 

@@ -15,7 +15,8 @@ use Rattle.space_model.specs.Space.{Space, space, Children, Top, top_of, childre
 use Rattle.space_model.specs.Change.{paid, stop, succeeded}
 use Rattle.space_model.specs.Call.{edit, change, seen_of, apply_meeting}
 use Rattle.space_model.specs.Event.{MayPay}
-use Rattle.space_model.specs.Meeting.{fresh, or_fresh, awaits, block_refusal, first_refusal, action, unless_refused, meet, MayMeet}
+use Rattle.space_model.specs.Beginning.{fresh}
+use Rattle.space_model.specs.Meeting.{or_fresh, awaits, block_refusal, first_refusal, action, unless_refused, meet, MayMeet}
 use Rattle.space_model.specs.Part.{Part, optional, with_parts, get_parts, child_after, caller_after}
 use Rattle.space_model.specs.Sound.{IsSoundAt}
 use Rattle.space_model.proofs.Entries.{find_entries}

@@ -1,12 +1,12 @@
 -- The console and the report of a settled tree.
 -- Our choice: the text.
-use Rattle.std.specs.Prelude.{ℕ, ◌^◌, ◌-◌, List, [], ◌∷◌, ◌++◌, Option, Some, None, false}
+use Rattle.std.specs.Prelude.{ℕ, ◌^◌, ◌-◌, List, [], ◌∷◌, ◌++◌, false}
 use Rattle.std.specs.List.{flat_map}
 use Rattle.std.specs.Fmt.{decimal, digits, padded_integral, format_spec}
 use Rattle.space_model.specs.declared.Status.{Status}
 use Rattle.space_model.specs.declared.Status.TheVariants.{Running, Stopped}
 use Rattle.space_model.specs.Stop.{cause_word}
-use Rattle.space_model.specs.Space.{Space, space, Children, none, child, Top, Devices, top_of}
+use Rattle.space_model.specs.Space.{Space, space, Children, none, child, Top, top_of, console_bytes}
 
 -- eight hexadecimal digits in lower case, with zeros before them, as `{:08x}` writes them
 abbrev pub hex8 : ℕ → List ℕ
@@ -42,10 +42,6 @@ unfoldable mutual
 -- of a whole tree
 abbrev pub report : Space → List ℕ
 report s = report_of [] s
-
-abbrev pub console_bytes : Option Devices → List ℕ
-console_bytes None = []
-console_bytes (Some d) = d.console
 
 -- what the root has written to its console
 abbrev pub console_of : Space → List ℕ

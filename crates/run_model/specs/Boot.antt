@@ -1,10 +1,10 @@
 -- The root as an image and its devices make it.
 -- Our choice: the state in which a root begins.
-use Rattle.std.specs.Prelude.{ℕ, ◌+◌, ◌-◌, ◌/◌, List, [], ◌∷◌, Some, None, slice_set, replicate}
+use Rattle.std.specs.Prelude.{ℕ, ◌+◌, ◌-◌, ◌/◌, List, [], ◌∷◌}
 use Rattle.memory_model.specs.Memory.{Memory, no_memory, with_bytes, with_permissions}
 use Rattle.image_model.specs.Image.{Image, Segment, last_page}
-use Rattle.space_model.specs.declared.Status.TheVariants.{Running}
-use Rattle.space_model.specs.Space.{Space, space, none, Top, Devices}
+use Rattle.space_model.specs.Space.{Space, space, none, Devices}
+use Rattle.space_model.specs.Beginning.{root_of}
 
 -- a segment's bytes, and its permission on each page that it touches
 abbrev pub with_segment : Memory → Segment → Memory
@@ -13,19 +13,6 @@ with_segment m s = with_permissions (with_bytes m s.address s.content) (s.addres
 abbrev pub with_segments : Memory → List Segment → Memory
 with_segments m [] = m
 with_segments m (s ∷ ss) = with_segments (with_segment m s) ss
-
--- a root that is about to run: x2 is its stack pointer, every other register 0
-abbrev pub root_of : ℕ → ℕ → Memory → ℕ → Devices → Top
-root_of entry stack memory fuel devices = record {
-  registers = record { pc = entry; x = slice_set (replicate 32 0) 2 stack };
-  memory = memory;
-  snapshot = None;
-  limit = None;
-  fuel = fuel;
-  used = 0;
-  status = Running;
-  devices = Some devices;
-}
 
 unfoldable pub boot : Image → Devices → ℕ → Space
 boot i devices fuel = space (root_of i.entry i.stack (with_segments no_memory i.segments) fuel devices) none

@@ -1,5 +1,7 @@
 pub mod Stop
 pub mod Space
+pub mod Encoding
+pub mod Beginning
 pub mod Sound
 pub mod Path
 pub mod Change

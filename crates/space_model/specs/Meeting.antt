@@ -3,34 +3,21 @@
 -- caller; so all tests come before any change.
 -- Source: OSDI 2010, "Efficient System-Enforced Deterministic Parallelism", the kernel interface: the options of Put and Get.
 -- Our choice: the order of their parts, and that all tests come before any change.
-use Rattle.std.specs.Prelude.{ℕ, ◌+◌, List, [], ◌∷◌, Option, Some, None, option_map, Bool, if◌then◌else◌, replicate, ◌≤◌, ◌<◌}
-use Rattle.memory_model.specs.Memory.{no_memory, may_read, may_write, first_without}
+use Rattle.std.specs.Prelude.{ℕ, ◌+◌, List, [], ◌∷◌, Option, Some, None, option_map, Bool, if◌then◌else◌, ◌≤◌, ◌<◌}
+use Rattle.memory_model.specs.Memory.{may_read, may_write, first_without}
 use Rattle.call_model.specs.declared.Transfer.{Transfer}
 use Rattle.call_model.specs.declared.Call.{Call}
 use Rattle.call_model.specs.declared.Call.TheVariants.{Put, Get}
 use Rattle.call_model.specs.Options.{has, regs}
 use Rattle.space_model.specs.declared.Cause.{Cause}
-use Rattle.space_model.specs.declared.Cause.TheVariants.{LoadFault, StoreFault, Fresh}
-use Rattle.space_model.specs.declared.Status.TheVariants.{Stopped}
+use Rattle.space_model.specs.declared.Cause.TheVariants.{LoadFault, StoreFault}
 use Rattle.space_model.specs.declared.Refusal.{Refusal}
 use Rattle.space_model.specs.Space.{Space, Children, Top}
 use Rattle.space_model.specs.Change.{stop, succeeded}
+use Rattle.space_model.specs.Beginning.{fresh}
 use Rattle.space_model.specs.Part.{child_after, caller_after}
 use Rattle.space_model.specs.declared.Reach.TheVariants.{Itself}
 use Rattle.space_model.specs.Call.{Await, Seen, change, Meeting, seen_of, first_top, apply_meeting}
-
--- a space that has never run, with so much fuel
-abbrev pub fresh : ℕ → Top
-fresh fuel = record {
-  registers = record { pc = 0; x = replicate 32 0 };
-  memory = no_memory;
-  snapshot = None;
-  limit = None;
-  fuel = fuel;
-  used = 0;
-  status = Stopped Fresh 0;
-  devices = None;
-}
 
 -- a missing child of a caller is read as a fresh one, with the fuel that every space had at first
 abbrev pub or_fresh : Top → Option Top → Top

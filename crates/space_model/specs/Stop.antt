@@ -1,9 +1,8 @@
 -- Causes and statuses: the number and the word of each cause.
 -- Source: RISC-V Privileged ISA, "Machine Cause", for numbers 0 to 7.
 -- Our choice: the other causes, and the words of all.
-use Rattle.std.specs.Prelude.{◌≡◌, ℕ, List, [], ◌∷◌, Option, Some, None, unwrap_or, ◌==◌, Bool, true, false, refl, codes}
+use Rattle.std.specs.Prelude.{ℕ, List, [], ◌∷◌, unwrap_or, ◌==◌, Bool, true, false, codes}
 use Rattle.std.specs.List.{find}
-use Rattle.std.specs.Coded.{Coded, coded_ℕ, coded_option, coded×, code_by}
 use Rattle.space_model.specs.declared.Status.{Status}
 use Rattle.space_model.specs.declared.Status.TheVariants.{Running, Stopped}
 use Rattle.space_model.specs.declared.Cause.{Cause}
@@ -34,22 +33,6 @@ causes =
 abbrev pub cause_of : ℕ → Cause
 cause_of n = unwrap_or (find (λ c. n == cause_number c) causes) Fresh
 
-pub cause_of-cause_number : (c : Cause) → cause_of (cause_number c) ≡ c
-cause_of-cause_number FetchMisaligned = refl
-cause_of-cause_number FetchFault = refl
-cause_of-cause_number Illegal = refl
-cause_of-cause_number Breakpoint = refl
-cause_of-cause_number LoadMisaligned = refl
-cause_of-cause_number LoadFault = refl
-cause_of-cause_number StoreMisaligned = refl
-cause_of-cause_number StoreFault = refl
-cause_of-cause_number Badcall = refl
-cause_of-cause_number Conflict = refl
-cause_of-cause_number Limit = refl
-cause_of-cause_number Fuel = refl
-cause_of-cause_number Ret = refl
-cause_of-cause_number Fresh = refl
-
 -- the word of a cause in a report
 abbrev pub cause_word : Cause → List ℕ
 cause_word FetchMisaligned = codes "fetch-misaligned"
@@ -77,21 +60,3 @@ is_stopped (Stopped cause value) = true
 abbrev pub has_returned : Status → Bool
 has_returned Running = false
 has_returned (Stopped cause value) = is_ret cause
-
-abbrev pub coded_cause : Coded Cause
-coded_cause = code_by ℕ coded_ℕ cause_number cause_of cause_of-cause_number
-
-abbrev pub status_parts : Status → Option (Cause × ℕ)
-status_parts Running = None
-status_parts (Stopped cause value) = Some (cause, value)
-
-abbrev pub status_from : Option (Cause × ℕ) → Status
-status_from None = Running
-status_from (Some p) = Stopped p.0 p.1
-
-pub status_from-status_parts : (s : Status) → status_from (status_parts s) ≡ s
-status_from-status_parts Running = refl
-status_from-status_parts (Stopped cause value) = refl
-
-abbrev pub coded_status : Coded Status
-coded_status = code_by (Option (Cause × ℕ)) (coded_option (coded× coded_cause coded_ℕ)) status_parts status_from status_from-status_parts

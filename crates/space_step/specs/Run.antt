@@ -2,7 +2,8 @@
 -- Our choice: a restatement for proofs.
 use Rattle.std.specs.Prelude.{◌≡◌, ℕ, ◌-◌, ◌≤◌, refl}
 use Rattle.std.specs.Coded.{Coded, coded_ℕ, coded×, code_by}
-use Rattle.space_model.specs.Space.{Top, coded_top}
+use Rattle.space_model.specs.Space.{Top}
+use Rattle.space_model.specs.Encoding.{coded_top}
 use Rattle.space_model.specs.Event.{next, Follows, IsNotLocal}
 
 pub record Run : Type 0 where

@@ -10,7 +10,8 @@ pub struct Devices {
 }
 
 impl Model for Devices {
-    ghost use Rattle.space_model.specs.Space.{Devices, coded_devices};
+    ghost use Rattle.space_model.specs.Space.{Devices};
+    ghost use Rattle.space_model.specs.Encoding.{coded_devices};
 
     ghost Value = { Devices };
 

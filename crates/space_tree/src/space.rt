@@ -15,7 +15,8 @@ pub struct Space {
 }
 
 impl Model for Space {
-    ghost use Rattle.space_model.specs.Space.{Space, space, coded_space, children_from, size_of, most_le_sizes};
+    ghost use Rattle.space_model.specs.Space.{Space, space, children_from};
+    ghost use Rattle.space_model.specs.Encoding.{coded_space, size_of, most_le_sizes};
     ghost use Rattle.std.proofs.Common.{arith};
 
     ghost Value = { Space };

@@ -1,10 +1,9 @@
 ghost use Rattle.std.specs.Prelude.{◌≡◌, ◌≤◌, ◌<◌, ◌+◌, ◌^◌, true, IfSome, IfOk};
-ghost use Rattle.run_model.specs.Boot.{root_of};
-ghost use Rattle.report_model.specs.Report.{console_bytes};
 ghost use Rattle.space_model.specs.Stop.{is_stopped};
 ghost use Rattle.space_model.specs.Sound.{has_devices};
 ghost use Rattle.space_model.specs.Change.{stop, succeeded, spent};
-ghost use Rattle.space_model.specs.Meeting.{fresh};
+ghost use Rattle.space_model.specs.Beginning.{fresh, root_of};
+ghost use Rattle.space_model.specs.Space.{console_bytes};
 
 use crate::devices::Devices;
 use rv_exec::Regs;
@@ -34,7 +33,8 @@ pub struct Top {
 
 impl Model for Top {
     ghost use Rattle.std.specs.Prelude.{◌≡◌, ◌≤◌, ◌<◌, ◌^◌, ◌+◌};
-    ghost use Rattle.space_model.specs.Space.{Top, coded_top};
+    ghost use Rattle.space_model.specs.Space.{Top};
+    ghost use Rattle.space_model.specs.Encoding.{coded_top};
 
     ghost Value = { Top };
 

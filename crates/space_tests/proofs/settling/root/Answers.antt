@@ -2,7 +2,7 @@ use Rattle.std.proofs.Common.{arith, ap, ◌∙◌, sym, subst, refl, ℕ, ◌<�
 use Rattle.memory_model.specs.Memory.{Memory}
 use Rattle.space_model.specs.Space.{space, none, Devices}
 use Rattle.space_model.specs.Sound.{IsSound}
-use Rattle.run_model.specs.Boot.{root_of}
+use Rattle.space_model.specs.Beginning.{root_of}
 use Rattle.space_tests.proofs.settling.root.Goals as goal
 
 root_sound : (entry stack fuel : ℕ) (m : Memory) (d : Devices) → 1 ≤ fuel → fuel < 2 ^ 32 → IsSound (space (root_of entry stack m fuel d) none)
