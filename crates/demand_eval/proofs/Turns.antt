@@ -1,5 +1,5 @@
 -- A space that has had local events, or a call, goes on to the same end.
-use Rattle.std.proofs.Common.{◌≡◌, ℕ, zero, suc, pred, ◌+◌, ◌≤◌, ◌<◌, Bool, true, false, cond, refl, sym, ap, ◌∙◌, subst, arith}
+use Rattle.std.proofs.Common.{◌≡◌, ℕ, zero, suc, pred, ◌+◌, ◌≤◌, ◌<◌, Bool, true, false, cond, Option, Some, refl, sym, ap, ◌∙◌, subst, arith}
 use Rattle.call_model.specs.declared.Transfer.{Transfer}
 use Rattle.call_model.specs.declared.Call.{Call}
 use Rattle.call_model.specs.declared.Call.TheVariants.{Put, Get, Ret, ConsoleOut}
@@ -10,14 +10,30 @@ use Rattle.space_model.specs.declared.Reach.TheVariants.{Itself}
 use Rattle.space_model.specs.Path.{under}
 use Rattle.space_model.specs.Change.{paid}
 use Rattle.space_model.specs.Meeting.{MayMeet, awaits, meet}
-use Rattle.space_model.specs.Event.{next, rests, moves, meets, Follows, IsNotLocal, MayPay}
+use Rattle.space_model.specs.Event.{next, rests, meets, Follows, MayPay}
 use Rattle.space_model.proofs.Sound.{no_children}
-use Rattle.space_model.proofs.Next.{next_meets, follows_sound, not_local}
+use Rattle.space_model.proofs.Next.{next_meets, follows_sound}
+use Rattle.space_step.specs.declared.event.Next.{Next}
+use Rattle.space_step.specs.declared.event.Next.TheVariants as answers
+use Rattle.space_step.specs.Running.{Ended}
 use Rattle.run_model.specs.Demand.{run, left_of, of_children, wait_for}
 use Rattle.run_model.proofs.Fuel.{left_falls, stopped_rests}
 use Rattle.run_model.proofs.Run.{run_on, run-run_on, run_on-follows, run_on-rests, run_on-meets, meet_fuel, call_costs, wait_for-put, wait_for-get}
 use Rattle.run_model.proofs.Sound.{KeepsSound, wait_for_sound, meaning_sound, next_meets_sound}
 use Rattle.demand_eval.specs.Turns.{IsSoundBelow, GoesOn, with_awaited}
+
+-- what a space that has gone on is told of what is next
+told : (levels quantum ran : ℕ) (o p : Option Next) (t : Top) → Ended levels quantum ran o t → o ≡ p → Ended levels quantum ran p t
+told levels quantum ran o p t h e = subst (λ (q : Option Next). Ended levels quantum ran q t) e h
+
+pub told_local : (levels quantum ran : ℕ) (o : Option Next) (t : Top) → Ended levels quantum ran o t → o ≡ Some answers.Local → ran ≡ quantum
+told_local levels quantum ran o t h e = told levels quantum ran o (Some answers.Local) t h e
+
+pub told_meet : (levels quantum ran : ℕ) (o : Option Next) (k : Call) (t : Top) → Ended levels quantum ran o t → o ≡ Some (answers.Meet k) → next levels t ≡ meets k (paid t t)
+told_meet levels quantum ran o k t h e = (told levels quantum ran o (Some (answers.Meet k)) t h e).1
+
+pub told_stopped : (levels quantum ran : ℕ) (o : Option Next) (t : Top) → Ended levels quantum ran o t → o ≡ Some answers.Stopped → next levels t ≡ rests
+told_stopped levels quantum ran o t h e = (told levels quantum ran o (Some answers.Stopped) t h e).1
 
 -- so many events leave so many fewer
 pub follows_left : (levels n : ℕ) (t u : Top) → Follows levels n t u → left_of u + n ≤ left_of t
@@ -39,11 +55,6 @@ advanced levels n t u cs s ok is follows some =
     let fewer = follows_left levels n t u follows in
     let top : top_of s ≡ t = ap top_of (sym is) in
     record { same = run-follows levels n t u cs follows ∙ ap (run levels) is; sound = advanced_sound levels n t u cs s ok is follows; fewer = rw top (omega arith) }
-
--- a stretch after which a local event is next was as long as it might be
-pub went_on : (levels n quantum : ℕ) (u : Top) → (n < quantum → IsNotLocal (next levels u)) → (v : Top) × (next levels u ≡ moves v) → 1 ≤ quantum → 1 ≤ n
-went_on levels zero quantum u ends is some = absurd (not_local levels u is.0 is.1 (ends (omega arith)))
-went_on levels (suc n) quantum u ends is some = omega arith
 
 -- or has stopped
 pub advanced_stopped : (levels n : ℕ) (t u : Top) (cs : Children) (s : Space) → space t cs ≡ s → Follows levels n t u → next levels u ≡ rests → space u cs ≡ run levels s

@@ -9,7 +9,7 @@ ghost use Rattle.demand_eval.specs.Turns.{IsSoundBelow, GoesOn, Turned, end_of, 
 
 use put_get::apply;
 use space_model::Reach;
-use space_step::{Next, advance, peek};
+use space_step::{Next, advance};
 use space_tree::Space;
 use std::alloc::{AllocError, Global};
 use std::collections::BTreeMap;
@@ -71,8 +71,8 @@ fn turn(alloc: Global, space: &mut Space, depth: u8) -> Result<bool, AllocError>
     requires sound { IsSoundBelow (8 - depth) space.old }
     ensures { IfOk result (λ stopped. Turned (8 - depth) stopped space.old space.new) }
 {
-    advance(&mut space.top, depth, STRETCH)?;
-    match peek(&space.top, depth) {
+    let reached = advance(&mut space.top, depth, STRETCH)?;
+    match reached.next.ok_or(AllocError)? {
         Next::Local => Ok(false),
         Next::Meet(call) => {
             meet(alloc, call, space, depth)?;

@@ -1,12 +1,33 @@
 -- Local events of a space, some at a time.
 -- Our choice: a restatement for proofs.
-use Rattle.std.specs.Prelude.{ℕ, ◌≤◌}
+use Rattle.std.specs.Prelude.{◌≡◌, ℕ, ◌≤◌, ◌<◌, Option, Some, None}
 use Rattle.space_model.specs.Space.{Top}
-use Rattle.space_model.specs.Event.{next, Follows, IsNotLocal}
+use Rattle.space_model.specs.Change.{paid}
+use Rattle.space_model.specs.Event.{next, rests, meets, Follows}
+use Rattle.space_step.specs.declared.event.Next.{Next}
+use Rattle.space_step.specs.declared.event.Next.TheVariants.{Local, Meet, Stopped}
+use Rattle.space_step.specs.declared.event.Advance.{Advance}
 use Rattle.space_step.specs.declared.running.Progress.{Progress}
 use Rattle.space_step.specs.declared.running.Progress.TheVariants.{Went, Blocked}
 
--- at most so many local events; none only where what is next is no local event
-abbrev pub Advances : ℕ → ℕ → Progress → Top → Top → Type 0
-Advances levels quantum (Went n) old new = Follows levels n old new × (n ≤ quantum) × (1 ≤ n)
-Advances levels quantum (Blocked n) old new = Follows levels n old new × (n ≤ quantum) × IsNotLocal (next levels new)
+-- what is next is no local event, and this; or there was no memory for it
+abbrev pub IsBlocked : ℕ → Option Next → Top → Type 0
+IsBlocked levels None t = Unit {0}
+IsBlocked levels (Some Local) t = ⊥
+IsBlocked levels (Some (Meet k)) t = next levels t ≡ meets k (paid t t)
+IsBlocked levels (Some Stopped) t = next levels t ≡ rests
+
+-- why there were so many events, where there might have been so many
+abbrev pub Ended : ℕ → ℕ → ℕ → Option Next → Top → Type 0
+Ended levels quantum ran (Some Local) t = ran ≡ quantum
+Ended levels quantum ran other t = (ran < quantum) × IsBlocked levels other t
+
+-- so many local events, and why no more
+pub record Advances (levels quantum : ℕ) (a : Advance) (old new : Top) : Type 0 where
+  pub follows : Follows levels a.ran old new
+  pub ended : Ended levels quantum a.ran a.next new
+
+-- some local events of at most so many; or any number, and what is next is none
+abbrev pub Goes : ℕ → ℕ → Progress → Top → Top → Type 0
+Goes levels quantum (Went n) old new = Follows levels n old new × (n ≤ quantum) × (1 ≤ n)
+Goes levels quantum (Blocked n next) old new = Follows levels n old new × (n < quantum) × IsBlocked levels next new

@@ -10,3 +10,13 @@ pub enum Next {
     /// Nothing: the space has stopped.
     Stopped,
 }
+
+/// How far a space has gone on.
+#[derive(Clone, Copy, Debug, PartialEq, Eq)]
+pub struct Advance {
+    /// How many local events there were.
+    pub ran: u32,
+    /// What is next: `Local` where there were as many events as there might be, and nothing is said of the next one. None where
+    /// there was no memory for it.
+    pub next: Option<Next>,
+}

@@ -12,7 +12,7 @@ mod source;
 mod stepping;
 mod stretch;
 
-pub use event::Next;
+pub use event::{Advance, Next};
 pub use peeking::peek;
 pub use run::{Run, run_local};
 pub use running::{advance, next};

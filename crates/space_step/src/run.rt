@@ -1,7 +1,9 @@
-ghost use Rattle.std.specs.Prelude.{◌≡◌, ◌-◌, ◌≤◌, ◌<◌, IfOk};
+ghost use Rattle.std.specs.Prelude.{◌≡◌, ℕ, Bool, ◌-◌, ◌≤◌, ◌<◌, IfOk};
 ghost use Rattle.space_model.specs.Event.{next, IsNotLocal};
+ghost use Rattle.space_model.specs.Sound.{IsSoundTop};
 ghost use Rattle.space_step.specs.Run.{IsRun};
 
+use crate::event::Advance;
 use crate::running::advance;
 use space_tree::Top;
 use std::alloc::AllocError;
@@ -58,9 +60,10 @@ impl Run {
         self.ran
     }
 
-    /// What a run is: its events lead from its start to its top.
+    /// What a run is: its events lead from its start to its top, which is as sound.
     pub fn leads(&self)
-        ensures { IsRun self.now }
+        ensures run { IsRun self.now }
+        ensures sound { (fuel : ℕ) (root : Bool) → IsSoundTop fuel root self.now.start → IsSoundTop fuel root self.now.top }
     {
         let _ran = self.ran;
     }
@@ -76,6 +79,7 @@ impl Run {
 
 /// Runs a space at a depth of at most 8: at most as many local events as the quantum, which is at least 1, and fewer only where
 /// what is next is no local event. The run's start is a copy. Its one error is want of memory, for the copy or for an event.
+#[tactic(auto, using(crate::proofs::Advancing::ended_within, crate::proofs::Advancing::ended_early))]
 pub fn run_local(mut top: Top, depth: u8, quantum: u32) -> Result<Run, AllocError>
     requires depth { depth ≤ 8 }
     requires quantum { 1 ≤ quantum }
@@ -84,13 +88,17 @@ pub fn run_local(mut top: Top, depth: u8, quantum: u32) -> Result<Run, AllocErro
     ensures within { IfOk result (λ r. r.ran ≤ quantum) }
     ensures fewer { IfOk result (λ r. r.ran < quantum → IsNotLocal (next (8 - depth) r.top)) }
     ensures none { IfOk result (λ r. r.ran ≡ 0 → IsNotLocal (next (8 - depth) r.start)) }
+    ensures sound { (fuel : ℕ) (root : Bool) → IsSoundTop fuel root top → IfOk result (λ r. IsSoundTop fuel root r.top) }
 {
     let start = top.copied()?;
-    let ran = advance(&mut top, depth, quantum)?;
-    Ok(Run {
-        depth,
-        start,
-        top,
-        ran,
-    })
+    let Advance { ran, next } = advance(&mut top, depth, quantum)?;
+    match next {
+        Some(_) => Ok(Run {
+            depth,
+            start,
+            top,
+            ran,
+        }),
+        None => Err(AllocError),
+    }
 }

@@ -1,27 +1,27 @@
-ghost use Rattle.std.specs.Prelude.{◌≡◌, ℕ, ◌-◌, ◌≤◌, ◌<◌, IfOk, OnErr, IsTrue, IsFalse};
+ghost use Rattle.std.specs.Prelude.{◌≡◌, ℕ, Bool, ◌-◌, ◌≤◌, ◌<◌, None, IfOk, OnErr};
 ghost use Rattle.instruction_model.specs.Outcome.{view_of, outcome, traps};
-ghost use Rattle.space_model.specs.Event.{next, moves, Follows, IsNotLocal, MayPay};
+ghost use Rattle.space_model.specs.Event.{next, moves, Follows, MayPay};
+ghost use Rattle.space_model.specs.Sound.{IsSoundTop};
 ghost use Rattle.space_step.specs.Stretch.{Ends, Pays};
-ghost use Rattle.space_step.specs.Running.{Advances};
+ghost use Rattle.space_step.specs.Running.{Advances, Goes};
 ghost use Rattle.space_step.specs.Steps.{Steps};
 
 use crate::calling::call;
-use crate::event::Next;
+use crate::event::{Advance, Next};
 use crate::paying::{budget, run_out};
-use crate::peeking::peek;
 use crate::stretch::{End, Stretch, execute};
 use space_model::Status;
 use space_tree::Top;
 use std::alloc::AllocError;
 use trap_ret::cause_of;
 
-/// How many local events of a space there were.
+/// How many local events of a space there were, and whether it may have more.
 #[derive(Clone, Copy, Debug, PartialEq, Eq)]
 pub(crate) enum Progress {
-    /// At least one.
+    /// At least one; what is next is not known.
     Went(u32),
-    /// Any number, and what is next is no local event.
-    Blocked(u32),
+    /// Any number, and what is next, which is no local event; none where there was no memory for it.
+    Blocked(u32, Option<Next>),
 }
 
 // The trap at pc of a space that may pay for it.
@@ -50,75 +50,92 @@ fn execute_paid(top: &mut Top, budget: u32) -> Stretch
 }
 
 // Local events of a space that can pay for so many, at least one: instructions, and the call or the trap that ends them.
-fn run_stretch(top: &mut Top, depth: u8, budget: u32) -> Result<Progress, AllocError>
+fn run_stretch(top: &mut Top, depth: u8, budget: u32) -> Progress
     requires depth { depth ≤ 8 }
     requires some { 1 ≤ budget }
     requires running { top.old.status ≡ Status.Running }
     requires pays { Pays budget top.old }
-    ensures ok { IfOk result (λ p. Advances (8 - depth) budget p top.old top.new) }
-    ensures err { OnErr result ((n : ℕ) × (n < budget) × Follows (8 - depth) n top.old top.new) }
+    ensures { Goes (8 - depth) budget result top.old top.new }
 {
     let Stretch { count, end } = execute_paid(top, budget);
     match end {
-        End::Budget => Ok(Progress::Went(count)),
-        End::Call => match call(top, depth)? {
-            Next::Local => Ok(Progress::Went(count + 1)),
-            Next::Meet(_) | Next::Stopped => Ok(Progress::Blocked(count)),
+        End::Budget => Progress::Went(count),
+        End::Call => match call(top, depth) {
+            Ok(Next::Local) => Progress::Went(count + 1),
+            other => Progress::Blocked(count, other.ok()),
         },
         End::Trap { number, value } => {
             trap(top, number, value);
-            Ok(Progress::Went(count + 1))
+            Progress::Went(count + 1)
         }
-        End::Memory => Err(AllocError),
+        End::Memory => Progress::Blocked(count, None),
     }
 }
 
-// Local events of a space at a depth, at most so many: at least one, unless what is next is no local event. Where memory ran
-// out, there were fewer.
-fn proceed(top: &mut Top, depth: u8, quantum: u32) -> Result<Progress, AllocError>
+// Local events of a space at a depth, at most so many: at least one, unless something blocks the first.
+fn proceed(top: &mut Top, depth: u8, quantum: u32) -> Progress
     requires depth { depth ≤ 8 }
     requires quantum { 1 ≤ quantum }
-    ensures ok { IfOk result (λ p. Advances (8 - depth) quantum p top.old top.new) }
-    ensures err { OnErr result ((n : ℕ) × (n < quantum) × Follows (8 - depth) n top.old top.new) }
+    ensures { Goes (8 - depth) quantum result top.old top.new }
 {
     if top.is_stopped() {
-        return Ok(Progress::Blocked(0));
+        return Progress::Blocked(0, Some(Next::Stopped));
     }
     let budget = budget(top, quantum);
     if budget == 0 {
         run_out(top);
-        return Ok(Progress::Went(1));
+        return Progress::Went(1);
     }
     run_stretch(top, depth, budget)
 }
 
-/// Local events of a space at a depth of at most 8: at most as many as the quantum, which is at least 1, and fewer only where
-/// what is next is no local event. Where memory ran out, the events before it have happened, and the one that wanted memory
-/// has changed nothing.
-pub fn advance(top: &mut Top, depth: u8, quantum: u32) -> Result<u32, AllocError>
+// Local events of a space at a depth, as many as the quantum, unless something blocks it.
+fn go_on(top: &mut Top, depth: u8, quantum: u32) -> Advance
     requires depth { depth ≤ 8 }
-    requires quantum { 1 ≤ quantum }
-    ensures ok { IfOk result (λ ran. Follows (8 - depth) ran top.old top.new × (ran ≤ quantum) × (ran < quantum → IsNotLocal (next (8 - depth) top.new))) }
-    ensures err { OnErr result ((n : ℕ) × (n < quantum) × Follows (8 - depth) n top.old top.new) }
+    ensures { Advances (8 - depth) quantum result top.old top.new }
 {
     let mut ran = 0;
     'stretches: while ran < quantum {
-        match proceed(top, depth, quantum - ran)? {
+        match proceed(top, depth, quantum - ran) {
             Progress::Went(events) => ran += events,
-            Progress::Blocked(events) => return Ok(ran + events),
+            Progress::Blocked(events, next) => {
+                return Advance {
+                    ran: ran + events,
+                    next,
+                };
+            }
         }
     }
-    Ok(ran)
+    Advance {
+        ran,
+        next: Some(Next::Local),
+    }
+}
+
+/// Local events of a space at a depth of at most 8: as many as the quantum, which is at least 1, and fewer only where what is
+/// next is no local event, or where there was no memory for it. Its one error is want of memory for the first event, and then
+/// nothing has changed.
+pub fn advance(top: &mut Top, depth: u8, quantum: u32) -> Result<Advance, AllocError>
+    requires depth { depth ≤ 8 }
+    requires quantum { 1 ≤ quantum }
+    ensures ok { IfOk result (λ a. Advances (8 - depth) quantum a top.old top.new) }
+    ensures some { IfOk result (λ a. a.next ≡ None → 1 ≤ a.ran) }
+    ensures err { OnErr result (top.new ≡ top.old) }
+    ensures sound { (fuel : ℕ) (root : Bool) → IsSoundTop fuel root top.old → IsSoundTop fuel root top.new }
+{
+    let advance = go_on(top, depth, quantum);
+    if advance.ran == 0 && advance.next.is_none() {
+        return Err(AllocError);
+    }
+    Ok(advance)
 }
 
 /// The next event of a space at a depth of at most 8: a local event, which has happened, or a call that meets a child or
 /// nothing, and then nothing has changed. Where memory ran out nothing has changed.
 pub fn next(top: &mut Top, depth: u8) -> Result<Next, AllocError>
     requires { depth ≤ 8 }
-    ensures { Steps (8 - depth) result top.old top.new }
+    ensures steps { Steps (8 - depth) result top.old top.new }
+    ensures sound { (fuel : ℕ) (root : Bool) → IsSoundTop fuel root top.old → IsSoundTop fuel root top.new }
 {
-    if advance(top, depth, 1)? == 0 {
-        return Ok(peek(top, depth));
-    }
-    Ok(Next::Local)
+    go_on(top, depth, 1).next.ok_or(AllocError)
 }

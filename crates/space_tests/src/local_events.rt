@@ -1,6 +1,6 @@
 ghost use Rattle.std.specs.Prelude.{◌≤◌};
 
-use space_step::{Next, Run, advance, next, peek, run_local};
+use space_step::{Advance, Next, Run, advance, next, peek, run_local};
 use space_tree::{Cause, Devices, Mem, Pages, Status, Top};
 use std::alloc::{AllocError, Global};
 use std::process::Abort;
@@ -120,13 +120,13 @@ fn root_of(rt: &impl Abort, alloc: Global, words: [u32; 4], fuel: u32) -> Top
     }
 }
 
-// How many events of a space there are, of at most `quantum`.
-fn advanced(rt: &impl Abort, top: &mut Top, depth: u8, quantum: u32) -> u32
+// How far a space goes on, for at most `quantum` events.
+fn advanced(rt: &impl Abort, top: &mut Top, depth: u8, quantum: u32) -> Advance
     requires depth { depth ≤ 8 }
     requires quantum { 1 ≤ quantum }
 {
     match advance(top, depth, quantum) {
-        Ok(ran) => ran,
+        Ok(advance) => advance,
         Err(_) => panic!(rt; "no memory"),
     }
 }
@@ -161,12 +161,13 @@ fn assert_stands(rt: &impl Abort, top: &Top, status: Status, pc: u32, used: u32)
 fn fuel_ends_at_a_call(rt: HostRuntime) -> Result<(), Fail> {
     let mut top = root_of(&rt, rt.alloc(), COUNTS, 3);
     top.limit = Some(3);
-    let ran = advanced(&rt, &mut top, 0, 100);
+    let ran = advanced(&rt, &mut top, 0, 100).ran;
     assert_eq!(rt; ran, 4);
     assert_eq!(rt; top.fuel, 0);
     assert_stands(&rt, &top, stopped(Cause::Fuel, 0), 0x100c, 3);
-    let ran = advanced(&rt, &mut top, 0, 100);
-    assert_eq!(rt; ran, 0);
+    let stays = advanced(&rt, &mut top, 0, 100);
+    assert_eq!(rt; stays.ran, 0);
+    assert_eq!(rt; stays.next, Some(Next::Stopped));
     let next = next_of(&rt, &mut top, 0);
     assert_eq!(rt; next, Next::Stopped);
     Ok(())
@@ -188,7 +189,7 @@ fn put_meets_a_child(rt: HostRuntime) -> Result<(), Fail> {
     assert!(rt; is_put(peek(&top, 7)));
     let next = next_of(&rt, &mut top, 7);
     assert!(rt; is_put(next));
-    let ran = advanced(&rt, &mut top, 7, 5);
+    let ran = advanced(&rt, &mut top, 7, 5).ran;
     assert_eq!(rt; ran, 0);
     Ok(())
 }
@@ -217,7 +218,7 @@ fn put_is_refused_at_depth_8(rt: HostRuntime) -> Result<(), Fail> {
 #[test]
 fn console(rt: HostRuntime) -> Result<(), Fail> {
     let mut top = root_of(&rt, rt.alloc(), WRITES, 100);
-    let ran = advanced(&rt, &mut top, 0, 100);
+    let ran = advanced(&rt, &mut top, 0, 100).ran;
     assert_eq!(rt; ran, 5);
     assert_eq!(rt; top.console(), [0x93, 0x08].as_slice());
     assert_stands(&rt, &top, stopped(Cause::Illegal, 0), 0x1010, 5);

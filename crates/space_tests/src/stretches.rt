@@ -209,7 +209,7 @@ fn ended(alloc: Global, source: &[u8], stretch: u32) -> Result<Ending, Fail>
     let image = assemble(alloc, source)?;
     let mut root = boot(alloc, &image, Devices::new(alloc), 1_000_000)?;
     for _ in 0..10_000 {
-        if advance(&mut root.top, 0, stretch)? == 0 {
+        if advance(&mut root.top, 0, stretch)?.ran == 0 {
             break;
         }
     }

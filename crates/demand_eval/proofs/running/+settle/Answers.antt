@@ -1,8 +1,8 @@
-use Rattle.std.proofs.Common.{◌-◌, pred, arith, inl, inr, ap, sym, ◌∙◌}
+use Rattle.std.proofs.Common.{◌-◌, pred, arith, inl, inr, Some, ap, sym, ◌∙◌}
 use Rattle.std.proofs.lemmas.Result.{on_ok_weaker}
 use Rattle.demand_eval.specs.Turns.{end_of, with_awaited}
 use Rattle.demand_eval.proofs.Children.{child_below, child_becomes, child_missing, one_below}
-use Rattle.demand_eval.proofs.Turns.{may_meet, may_pay, met, awaited_put, awaited_get, went_on, advanced_sound, advanced, advanced_then, advanced_stopped}
+use Rattle.demand_eval.proofs.Turns.{may_meet, may_pay, met, awaited_put, awaited_get, told_local, told_meet, told_stopped, advanced_sound, advanced, advanced_then, advanced_stopped}
 use Rattle.demand_eval.proofs.Everyone.{over_all-more, over_all-done, settled_all, one_settled, run_then, ran_sound}
 use Rattle.demand_eval.proofs.running.+settle.Goals as goal
 use Rattle.demand_eval.proofs.running.+settle.Goals.{wait_for_child-in-Some, wait_for_child-in-None}
@@ -44,18 +44,23 @@ meet-returns t c =
     on_ok_weaker c.apply.result (λ h. met _ _ _ _ _ c.requires.sound c.requires.next waited h) c.apply.ensures.ok
 
 pub turn-meet-requires : goal.turn-meet-requires
-turn-meet-requires t c = (omega arith, (c.requires.depth, (advanced_sound _ _ _ _ _ _ c.requires.sound c.space.view_is c.in_ok-advance.ensures.ok.0, c.in-Meet.ensures)))
+turn-meet-requires t c =
+    let ran = c.in_ok-reached.ensures.ok in
+    (omega arith, (c.requires.depth, (advanced_sound _ _ _ _ _ _ c.requires.sound c.space.view_is ran.follows, told_meet _ _ _ _ _ _ ran.ended (c.in_ok-ok_or.ensures.ok_part ∙ ap Some c.in-Meet.is))))
 
 pub turn-returns-in-Local : goal.turn-returns-in-Local
 turn-returns-in-Local t c =
-    let ran = c.in_ok-advance.ensures.ok in
-    advanced _ _ _ _ _ _ c.requires.sound c.space.view_is ran.0 (went_on _ _ 1048576 _ ran.2 c.in-Local.ensures (omega arith))
+    let ran = c.in_ok-reached.ensures.ok in
+    let all = told_local _ _ _ _ _ ran.ended (c.in_ok-ok_or.ensures.ok_part ∙ ap Some c.in-Local.is) in
+    advanced _ _ _ _ _ _ c.requires.sound c.space.view_is ran.follows (omega (arith, all))
 
 pub turn-returns-in_ok-meet-in-Meet : goal.turn-returns-in_ok-meet-in-Meet
-turn-returns-in_ok-meet-in-Meet t c = advanced_then _ _ _ _ _ _ _ c.space.view_is c.in_ok-advance.ensures.ok.0 c.in_ok-meet-in-Meet.ensures
+turn-returns-in_ok-meet-in-Meet t c = advanced_then _ _ _ _ _ _ _ c.space.view_is c.in_ok-reached.ensures.ok.follows c.in_ok-meet-in-Meet.ensures
 
 pub turn-returns-in-Stopped : goal.turn-returns-in-Stopped
-turn-returns-in-Stopped t c = advanced_stopped _ _ _ _ _ _ c.space.view_is c.in_ok-advance.ensures.ok.0 c.in-Stopped.ensures
+turn-returns-in-Stopped t c =
+    let ran = c.in_ok-reached.ensures.ok in
+    advanced_stopped _ _ _ _ _ _ c.space.view_is ran.follows (told_stopped _ _ _ _ _ ran.ended (c.in_ok-ok_or.ensures.ok_part ∙ ap Some c.in-Stopped.is))
 
 pub settle_children-loop-number-preserved : goal.settle_children-loop-number-preserved
 settle_children-loop-number-preserved t c = record {
