@@ -1,15 +1,15 @@
 -- What a cache keeps of a memory is so after a store to a word that it does not keep.
-use Rattle.std.proofs.Common.{◌≡◌, ℕ, ◌+◌, ◌*◌, ◌/◌, ◌%◌, ◌<◌, ◌==◌, true, false, List, length, slice_index_or, Some, None, if◌then◌else◌, refl, sym, ap, ◌∙◌, arith}
+use Rattle.std.proofs.Common.{◌≡◌, ℕ, ◌+◌, ◌*◌, ◌/◌, ◌%◌, ◌<◌, ◌==◌, true, List, refl, sym, ap, ◌∙◌, arith}
 use Rattle.std.proofs.lemmas.List.{get_or-replicate, length-replicate}
 use Rattle.std.proofs.Math.ListN.{replicate}
 use Rattle.std.proofs.lemmas.Bool.Decides.{nat_tests}
 use Rattle.std.proofs.lemmas.Grind.{common_steps}
 use Rattle.memory_model.specs.declared.Width.{Width}
 use Rattle.memory_model.specs.declared.Width.TheVariants.{One, Two, Four}
-use Rattle.memory_model.specs.Memory.{Memory, byte_at, may_fetch, number_from, width_bytes, with_number}
+use Rattle.memory_model.specs.Memory.{Memory, byte_at, number_from, width_bytes, with_number}
 use Rattle.instruction_model.specs.declared.Instruction.{Instruction}
 use Rattle.instruction_model.specs.Instruction.{spelled}
-use Rattle.instruction_model.specs.Outcome.{View, Registers, view_of, outcome, perform}
+use Rattle.instruction_model.specs.Outcome.{View, view_of, outcome}
 use Rattle.rv_exec.specs.Access.{stored_byte}
 use Rattle.space_mem.specs.Stored.{byte_stored, may_fetch_stored}
 use Rattle.space_step.specs.declared.decode_cache.Entry.{Entry}
