@@ -12,7 +12,7 @@ use std::alloc::{AllocError, Global};
 // A segment's bytes, and its permission on each page that it touches.
 fn write_segment(memory: &mut Mem, segment: &Segment) -> Result<(), AllocError>
     requires { IsSegment 0 (segment_view segment.now) }
-    ensures { OnOk result (memory.new ≡ with_segment memory.old (segment_view segment.now)) }
+    ensures { OnOk result (memory.new.memory ≡ with_segment memory.old.memory (segment_view segment.now)) }
 {
     let length = segment.bytes.len() as u64;
     let first = segment.addr / 4096;
@@ -27,7 +27,7 @@ fn write_segment(memory: &mut Mem, segment: &Segment) -> Result<(), AllocError>
 
 // The memory of an image: its segments, one after the other.
 fn load(alloc: Global, image: &Image) -> Result<Mem, AllocError>
-    ensures { IfOk result (λ m. m ≡ with_segments no_memory image.now.segments) }
+    ensures { IfOk result (λ m. m.memory ≡ with_segments no_memory image.now.segments) }
 {
     let mut memory = Mem::new(alloc);
     for segment in image.segments() {

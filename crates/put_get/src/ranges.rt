@@ -39,7 +39,7 @@ fn zero(x: &Transfer, top: &mut Top) -> Result<(), AllocError>
 #[tactic(auto, using(crate::proofs::Places::copied_pages, crate::proofs::Places::source_pages))]
 fn copy(x: &Transfer, source: &Mem, top: &mut Top) -> Result<(), AllocError>
     requires { IsTransfer x.now }
-    ensures ok { OnOk result (top.new ≡ optional (options_of.has options_of.copy x.now.options) (copy_part source.now (source_page x.now) (destination_page x.now) (page_count x.now)) top.old) }
+    ensures ok { OnOk result (top.new ≡ optional (options_of.has options_of.copy x.now.options) (copy_part source.now.memory (source_page x.now) (destination_page x.now) (page_count x.now)) top.old) }
     ensures err { OnErr result (top.new ≡ top.old) }
     ensures asked { OnErr result (options_of.has options_of.copy x.now.options ≡ true) }
     ensures kept { record top.new { memory = top.old.memory } ≡ top.old }
@@ -81,7 +81,7 @@ pub fn is_one_range(x: &Transfer) -> bool
 // changed.
 pub fn change_range(x: &Transfer, source: &Mem, top: &mut Top) -> Result<(), AllocError>
     requires { IsTransfer x.now }
-    ensures ok { OnOk result (top.new ≡ with_parts x.now.options (range_parts x.now source.now) top.old) }
+    ensures ok { OnOk result (top.new ≡ with_parts x.now.options (range_parts x.now source.now.memory) top.old) }
     ensures err { OnErr result (one_range x.now.options ≡ true → top.new ≡ top.old) }
     ensures kept { record top.new { memory = top.old.memory } ≡ top.old }
 {

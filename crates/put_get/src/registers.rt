@@ -11,7 +11,7 @@ const NO_CAUSE: u32 = 22;
 pub fn read_registers(memory: &Mem, at: u32) -> Regs
     requires aligned { at % 4 ≡ 0 }
     requires within { at + 136 ≤ 2 ^ 32 }
-    ensures { result ≡ registers_at memory.now at }
+    ensures { result ≡ registers_at memory.now.memory at }
 {
     let mut registers = Regs::new(memory.word(at));
     for number in 1..32 {

@@ -7,9 +7,9 @@ use Rattle.std.proofs.lemmas.List.{get_or_default}
 use Rattle.std.proofs.lemmas.List.Edits.{get_or-insert_below}
 use Rattle.page_store.specs.declared.PageRef.{PageRef}
 use Rattle.space_mem.specs.declared.layout.Run.{Run}
-use Rattle.space_mem.specs.Runs.{end_of, run_of, permission_of, byte_in, byte_of, has_bytes, IsKept, IsRun, Ordered, IsPlace, IsCut, SamePages}
+use Rattle.space_mem.specs.Runs.{end_of, run_of, permission_of, byte_in, byte_of, has_bytes, IsKept, IsRun, Ordered, IsPlace, IsCut, SamePages, SameOwned}
 use Rattle.space_mem.proofs.Places.{run_at, read_at}
-use Rattle.space_mem.proofs.Lookups.{run_of-here, run_of-before, run_of-after, cases_run, place_past, same_cons}
+use Rattle.space_mem.proofs.Lookups.{run_of-here, run_of-before, run_of-after, cases_run, place_past, same_cons, owned_cons}
 
 -- a run parted in two at a page
 pub record IsParted (r head tail : Run) (page : ℕ) : Type 0 where
@@ -24,33 +24,36 @@ pub record IsParted (r head tail : Run) (page : ℕ) : Type 0 where
   pub kept : (is_some head.page ≡ is_some r.page) × (is_some tail.page ≡ is_some r.page)
 
 -- what is the same of runs at the head of a list where they have the same of each page
-same_two : (r head tail : Run) (rs : List Run) (page : ℕ) → IsParted r head tail page → SamePages (head ∷ tail ∷ rs) (r ∷ rs)
-same_two r head tail rs page parted = record { permission = λ p. (case p).0; byte = λ p. (case p).1.0; kept = λ p kept. (case p).1.1 ∙ kept }
-  where
-    case : (p : ℕ) → (permission_of (run_of (head ∷ tail ∷ rs) p) ≡ permission_of (run_of (r ∷ rs) p))
-        × (((k : ℕ) → byte_of (run_of (head ∷ tail ∷ rs) p) k ≡ byte_of (run_of (r ∷ rs) p) k) × (has_bytes (run_of (head ∷ tail ∷ rs) p) ≡ has_bytes (run_of (r ∷ rs) p)))
-    case p = elim (cases_run head p) [
-      | inl before ↦
+two_pages : (r head tail : Run) (rs : List Run) (page : ℕ) → IsParted r head tail page → (p : ℕ) → (permission_of (run_of (head ∷ tail ∷ rs) p) ≡ permission_of (run_of (r ∷ rs) p)) × (((k : ℕ) → byte_of (run_of (head ∷ tail ∷ rs) p) k ≡ byte_of (run_of (r ∷ rs) p) k) × (has_bytes (run_of (head ∷ tail ∷ rs) p) ≡ has_bytes (run_of (r ∷ rs) p)))
+two_pages r head tail rs page parted p = elim (cases_run head p) [
+  | inl before ↦
+      let e : run_of (head ∷ tail ∷ rs) p ≡ run_of (r ∷ rs) p =
+      run_of-before head (tail ∷ rs) p before ∙ run_of-before tail rs p (omega (arith, parted.on, parted.cut, parted.head_run.some)) ∙ sym (run_of-before r rs p (omega (arith, parted.from))) in
+      (ap permission_of e, (λ k. ap (λ o. byte_of o k) e, ap has_bytes e))
+  | inr later ↦ elim later [
+    | inl within ↦
+        let e : run_of (head ∷ tail ∷ rs) p ≡ Some head = run_of-here head (tail ∷ rs) p within.0 within.1 in
+        let f : run_of (r ∷ rs) p ≡ Some r = run_of-here r rs p (omega (arith, within.0, parted.from)) (omega (arith, within.1, parted.cut, parted.on, parted.to, parted.tail_run.some)) in
+        (ap permission_of e ∙ parted.permission.0 ∙ sym (ap permission_of f), (λ k. ap (λ o. byte_of o k) e ∙ (parted.byte k).0 ∙ sym (ap (λ o. byte_of o k) f), ap has_bytes e ∙ parted.kept.0 ∙ sym (ap has_bytes f)))
+    | inr after ↦ elim (cases_lt p (end_of tail)) [
+      | inl to ↦
+          let e : run_of (head ∷ tail ∷ rs) p ≡ Some tail = run_of-after head (tail ∷ rs) p after ∙ run_of-here tail rs p (omega (arith, parted.cut, parted.on)) to in
+          let f : run_of (r ∷ rs) p ≡ Some r = run_of-here r rs p (omega (arith, parted.from, parted.head_run.some)) (omega (arith, parted.to)) in
+          (ap permission_of e ∙ parted.permission.1 ∙ sym (ap permission_of f), (λ k. ap (λ o. byte_of o k) e ∙ (parted.byte k).1 ∙ sym (ap (λ o. byte_of o k) f), ap has_bytes e ∙ parted.kept.1 ∙ sym (ap has_bytes f)))
+      | inr past ↦
           let e : run_of (head ∷ tail ∷ rs) p ≡ run_of (r ∷ rs) p =
-          run_of-before head (tail ∷ rs) p before ∙ run_of-before tail rs p (omega (arith, parted.on, parted.cut, parted.head_run.some)) ∙ sym (run_of-before r rs p (omega (arith, parted.from))) in
+          run_of-after head (tail ∷ rs) p after ∙ run_of-after tail rs p past ∙ sym (run_of-after r rs p (omega (arith, parted.to))) in
           (ap permission_of e, (λ k. ap (λ o. byte_of o k) e, ap has_bytes e))
-      | inr later ↦ elim later [
-        | inl within ↦
-            let e : run_of (head ∷ tail ∷ rs) p ≡ Some head = run_of-here head (tail ∷ rs) p within.0 within.1 in
-            let f : run_of (r ∷ rs) p ≡ Some r = run_of-here r rs p (omega (arith, within.0, parted.from)) (omega (arith, within.1, parted.cut, parted.on, parted.to, parted.tail_run.some)) in
-            (ap permission_of e ∙ parted.permission.0 ∙ sym (ap permission_of f), (λ k. ap (λ o. byte_of o k) e ∙ (parted.byte k).0 ∙ sym (ap (λ o. byte_of o k) f), ap has_bytes e ∙ parted.kept.0 ∙ sym (ap has_bytes f)))
-        | inr after ↦ elim (cases_lt p (end_of tail)) [
-          | inl to ↦
-              let e : run_of (head ∷ tail ∷ rs) p ≡ Some tail = run_of-after head (tail ∷ rs) p after ∙ run_of-here tail rs p (omega (arith, parted.cut, parted.on)) to in
-              let f : run_of (r ∷ rs) p ≡ Some r = run_of-here r rs p (omega (arith, parted.from, parted.head_run.some)) (omega (arith, parted.to)) in
-              (ap permission_of e ∙ parted.permission.1 ∙ sym (ap permission_of f), (λ k. ap (λ o. byte_of o k) e ∙ (parted.byte k).1 ∙ sym (ap (λ o. byte_of o k) f), ap has_bytes e ∙ parted.kept.1 ∙ sym (ap has_bytes f)))
-          | inr past ↦
-              let e : run_of (head ∷ tail ∷ rs) p ≡ run_of (r ∷ rs) p =
-              run_of-after head (tail ∷ rs) p after ∙ run_of-after tail rs p past ∙ sym (run_of-after r rs p (omega (arith, parted.to))) in
-              (ap permission_of e, (λ k. ap (λ o. byte_of o k) e, ap has_bytes e))
-        ]
-      ]
     ]
+  ]
+]
+
+same_two : (r head tail : Run) (rs : List Run) (page : ℕ) → IsParted r head tail page → SamePages (head ∷ tail ∷ rs) (r ∷ rs)
+same_two r head tail rs page parted = record {
+  permission = λ p. (two_pages r head tail rs page parted p).0;
+  byte = λ p. (two_pages r head tail rs page parted p).1.0;
+  kept = λ p kept. (two_pages r head tail rs page parted p).1.1 ∙ kept;
+}
 
 -- the list with a run parted
 abbrev pub parted_at : List Run → ℕ → Run → Run → List Run
@@ -75,6 +78,7 @@ pub record IsPartedList (low high page : ℕ) (rs ss : List Run) (i : ℕ) : Typ
   pub cut : IsCut page ss
   pub place : IsPlace page ss (suc i)
   pub kept : (q : ℕ) → IsCut q rs → IsCut q ss
+  pub owned : SameOwned ss rs
 
 -- past a page all runs are
 pub cut_past : (low high page : ℕ) (rs : List Run) → Ordered low high rs → page ≤ low → IsCut page rs
@@ -94,6 +98,7 @@ parted low high page (x ∷ rs) zero r head tail o within is p =
         elim cut.0 [ inl le ↦ inl (omega (arith, q.cut, q.on, q.to)) | inr ge ↦ inr (omega (arith, q.from)) ],
         (elim cut.0 [ inl le ↦ inl (omega (arith, q.to)) | inr ge ↦ inr (omega (arith, q.from, q.on, q.cut, q.head_run.some)) ], cut.1),
       );
+      owned = λ p. (two_pages x head tail rs page q p).1.1;
     }
 parted low high page (x ∷ rs) (suc i) r head tail o within is p =
     let h = parted (end_of x) high page rs i r head tail o.1.1 (omega arith) is p in
@@ -105,6 +110,7 @@ parted low high page (x ∷ rs) (suc i) r head tail o within is p =
       cut = (inl to, h.cut);
       place = (to, h.place);
       kept = λ n cut. (cut.0, h.kept n cut.1);
+      owned = owned_cons x _ _ h.owned;
     }
 
 pub parted_at_list : (low high page : ℕ) (rs : List Run) (i : ℕ) (r head tail : Run) → Ordered low high rs → i < length rs → r ≡ get_or rs i r → IsParted r head tail page → IsPartedList low high page rs (parted_at rs i head tail) i

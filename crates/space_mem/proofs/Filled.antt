@@ -3,7 +3,7 @@ use Rattle.std.specs.Prelude.{◌≡◌, ℕ, ◌+◌, ◌-◌, ◌<◌, ◌≤�
 use Rattle.std.proofs.Common.{refl, sym, ◌∙◌, ap, arith, subst, inl, inr, append_assoc}
 use Rattle.std.proofs.lemmas.Bool.{cases_lt, lt-ltb, le-ltb}
 use Rattle.space_mem.specs.declared.layout.Run.{Run}
-use Rattle.space_mem.specs.Runs.{end_of, run_of, permission_of, byte_of, Ordered, IsFilled}
+use Rattle.space_mem.specs.Runs.{end_of, run_of, permission_of, byte_of, has_bytes, Ordered, IsFilled}
 use Rattle.space_mem.specs.Fills.{blank_runs, filled_runs}
 use Rattle.space_mem.proofs.Lookups.{run_of-here, run_of-before, run_of-after, run_of-low}
 use Rattle.space_mem.proofs.Splits.{ordered_append, run_of-append_left, run_of-append_right}
@@ -39,11 +39,23 @@ blank_byte at end permission p k = elim (cases_lt at end) [
     one false true = refl
     one false false = refl
 
+blank_owned : (at end permission p : ℕ) → has_bytes (run_of (blank_runs at end permission) p) ≡ false
+blank_owned at end permission p = elim (cases_lt at end) [
+  | inl less ↦ ap (λ l. has_bytes (run_of l p)) (blank_some at end permission less) ∙ one (nat_lt p at) (nat_lt p (at + (end - at)))
+  | inr none ↦ ap (λ l. has_bytes (run_of l p)) (blank_none at end permission none)
+]
+  where
+    one : (a b : Bool) → has_bytes (cond (not a && b) (Some (blank at end permission)) None) ≡ false
+    one true b = refl
+    one false true = refl
+    one false false = refl
+
 pub filled_is : (at end permission : ℕ) (rs : List Run) → Ordered at end rs → permission < 4 → IsFilled at end permission rs (filled_runs at end permission rs)
 filled_is at end permission [] o small = record {
   ordered = ordered_blank at end permission o small;
   permission = blank_permission at end permission;
   byte = λ p k. blank_byte at end permission p k;
+  owned = blank_owned at end permission;
 }
 filled_is at end permission (r ∷ rs) o small =
     let rest = filled_is (end_of r) end permission rs o.1.1 small in
@@ -67,6 +79,15 @@ filled_is at end permission (r ∷ rs) o small =
         | inr later ↦ ap (λ o. byte_of o k) (run_of-append_right at r.first (blank_runs at r.first permission) (s ∷ ss) p head later) ∙ elim (cases_lt p (end_of r)) [
           | inl within ↦ ap (λ o. byte_of o k) (run_of-here s ss p later within) ∙ sym (ap (λ o. byte_of o k) (run_of-here r rs p later within))
           | inr after ↦ ap (λ o. byte_of o k) (run_of-after s ss p after) ∙ rest.byte p k ∙ sym (ap (λ o. byte_of o k) (run_of-after r rs p after))
+        ]
+      ];
+      owned = λ p. elim (cases_lt p r.first) [
+        | inl before ↦
+            ap has_bytes (run_of-append_left r.first end (blank_runs at r.first permission) (s ∷ ss) p tail before) ∙ blank_owned at r.first permission p
+            ∙ sym (ap has_bytes (run_of-before r rs p before ∙ run_of-low (end_of r) end rs p o.1.1 (omega arith)))
+        | inr later ↦ ap has_bytes (run_of-append_right at r.first (blank_runs at r.first permission) (s ∷ ss) p head later) ∙ elim (cases_lt p (end_of r)) [
+          | inl within ↦ ap has_bytes (run_of-here s ss p later within) ∙ sym (ap has_bytes (run_of-here r rs p later within))
+          | inr after ↦ ap has_bytes (run_of-after s ss p after) ∙ rest.owned p ∙ sym (ap has_bytes (run_of-after r rs p after))
         ]
       ];
     }

@@ -5,9 +5,9 @@ use Rattle.std.proofs.Common.{sym, ◌∙◌, ap, arith, get_or, subst, inl, inr
 use Rattle.std.proofs.lemmas.List.{get_or_default}
 use Rattle.std.proofs.lemmas.List.Edits.{get_or-insert_at, length-insert}
 use Rattle.space_mem.specs.declared.layout.Run.{Run}
-use Rattle.space_mem.specs.Runs.{end_of, run_of, permission_of, byte_in, byte_of, has_bytes, IsRun, Ordered, IsPlace, IsCut, IsEntry, SamePages}
+use Rattle.space_mem.specs.Runs.{end_of, run_of, permission_of, byte_in, byte_of, has_bytes, IsRun, Ordered, IsPlace, IsCut, IsEntry, SamePages, SameOwned}
 use Rattle.space_mem.proofs.Places.{read_at}
-use Rattle.space_mem.proofs.Lookups.{run_of-here, run_of-before, run_of-after, run_of-low, cases_run, place_past, same_cons}
+use Rattle.space_mem.proofs.Lookups.{run_of-here, run_of-before, run_of-after, run_of-low, cases_run, place_past, same_cons, owned_cons}
 
 -- of an ordered list whose first run starts later
 ordered_from : (low n high : ℕ) (rs : List Run) → Ordered low high rs → n ≤ high → ((d : Run) → 0 < length rs → n ≤ (get_or rs 0 d).first) → Ordered n high rs
@@ -15,20 +15,24 @@ ordered_from low n high [] o room from = room
 ordered_from low n high (r ∷ rs) o room from = (o.0, (from r (omega arith), o.1.1))
 
 -- a run with nothing in it, before all others
+blank_page : (x : Run) (rs : List Run) (high : ℕ) → Ordered (end_of x) high rs → x.permission ≡ 0 → x.page ≡ None → (p : ℕ) → (permission_of (run_of (x ∷ rs) p) ≡ permission_of (run_of rs p)) × (((k : ℕ) → byte_of (run_of (x ∷ rs) p) k ≡ byte_of (run_of rs p) k) × (has_bytes (run_of (x ∷ rs) p) ≡ has_bytes (run_of rs p)))
+blank_page x rs high o permission page p = elim (cases_run x p) [
+  | inl before ↦ (ap permission_of (run_of-before x rs p before), (λ k. ap (λ o. byte_of o k) (run_of-before x rs p before), ap has_bytes (run_of-before x rs p before)))
+  | inr later ↦ elim later [
+    | inl within ↦
+        let e : run_of (x ∷ rs) p ≡ Some x = run_of-here x rs p within.0 within.1 in
+        let f : run_of rs p ≡ None = run_of-low (end_of x) high rs p o within.1 in
+        (ap permission_of e ∙ permission ∙ sym (ap permission_of f), (λ k. ap (λ o. byte_of o k) e ∙ ap (λ o. byte_in o k) page ∙ sym (ap (λ o. byte_of o k) f), ap has_bytes e ∙ ap is_some page ∙ sym (ap has_bytes f)))
+    | inr after ↦ (ap permission_of (run_of-after x rs p after), (λ k. ap (λ o. byte_of o k) (run_of-after x rs p after), ap has_bytes (run_of-after x rs p after)))
+  ]
+]
+
 same_blank : (x : Run) (rs : List Run) (high : ℕ) → Ordered (end_of x) high rs → x.permission ≡ 0 → x.page ≡ None → SamePages (x ∷ rs) rs
-same_blank x rs high o permission page = record { permission = λ p. (case p).0; byte = λ p. (case p).1.0; kept = λ p kept. (case p).1.1 ∙ kept }
-  where
-    case : (p : ℕ) → (permission_of (run_of (x ∷ rs) p) ≡ permission_of (run_of rs p)) × (((k : ℕ) → byte_of (run_of (x ∷ rs) p) k ≡ byte_of (run_of rs p) k) × (has_bytes (run_of (x ∷ rs) p) ≡ has_bytes (run_of rs p)))
-    case p = elim (cases_run x p) [
-      | inl before ↦ (ap permission_of (run_of-before x rs p before), (λ k. ap (λ o. byte_of o k) (run_of-before x rs p before), ap has_bytes (run_of-before x rs p before)))
-      | inr later ↦ elim later [
-        | inl within ↦
-            let e : run_of (x ∷ rs) p ≡ Some x = run_of-here x rs p within.0 within.1 in
-            let f : run_of rs p ≡ None = run_of-low (end_of x) high rs p o within.1 in
-            (ap permission_of e ∙ permission ∙ sym (ap permission_of f), (λ k. ap (λ o. byte_of o k) e ∙ ap (λ o. byte_in o k) page ∙ sym (ap (λ o. byte_of o k) f), ap has_bytes e ∙ ap is_some page ∙ sym (ap has_bytes f)))
-        | inr after ↦ (ap permission_of (run_of-after x rs p after), (λ k. ap (λ o. byte_of o k) (run_of-after x rs p after), ap has_bytes (run_of-after x rs p after)))
-      ]
-    ]
+same_blank x rs high o permission page = record {
+  permission = λ p. (blank_page x rs high o permission page p).0;
+  byte = λ p. (blank_page x rs high o permission page p).1.0;
+  kept = λ p kept. (blank_page x rs high o permission page p).1.1 ∙ kept;
+}
 
 -- a new run in a gap
 pub record IsBlank (x : Run) : Type 0 where
@@ -36,14 +40,14 @@ pub record IsBlank (x : Run) : Type 0 where
   pub permission : x.permission ≡ 0
   pub page : x.page ≡ None
 
-inserted : (low high : ℕ) (rs : List Run) (i : ℕ) (x : Run) → Ordered low high rs → IsBlank x → IsPlace x.first rs i → low ≤ x.first → end_of x ≤ high → ((d : Run) → i < length rs → end_of x ≤ (get_or rs i d).first) → Ordered low high (insert rs i x) × SamePages (insert rs i x) rs
+inserted : (low high : ℕ) (rs : List Run) (i : ℕ) (x : Run) → Ordered low high rs → IsBlank x → IsPlace x.first rs i → low ≤ x.first → end_of x ≤ high → ((d : Run) → i < length rs → end_of x ≤ (get_or rs i d).first) → Ordered low high (insert rs i x) × (SamePages (insert rs i x) rs × SameOwned (insert rs i x) rs)
 inserted low high rs zero x o blank place from to gap =
     let after : Ordered (end_of x) high rs = ordered_from low (end_of x) high rs o to gap in
-    ((blank.run, (from, after)), same_blank x rs high after blank.permission blank.page)
+    ((blank.run, (from, after)), (same_blank x rs high after blank.permission blank.page, λ p. (blank_page x rs high after blank.permission blank.page p).1.1))
 inserted low high [] (suc i) x o blank place from to gap = absurd (omega arith)
 inserted low high (r ∷ rs) (suc i) x o blank place from to gap =
     let h = inserted (end_of r) high rs i x o.1.1 blank place.1 place.0 to (λ d within. gap d (omega arith)) in
-    ((o.0, (o.1.0, h.0)), same_cons r _ _ h.1)
+    ((o.0, (o.1.0, h.0)), (same_cons r _ _ h.1.0, owned_cons r _ _ h.1.1))
 
 -- a cut, by index
 pub cut_at : (page : ℕ) (rs : List Run) (i : ℕ) (d : Run) → IsCut page rs → i < length rs → (end_of (get_or rs i d) ≤ page) ⊎ (page ≤ (get_or rs i d).first)
@@ -76,6 +80,7 @@ gap_there page rs i cut place other d within =
 pub record IsEntered (page : ℕ) (old new : List Run) (i : ℕ) : Type 0 where
   pub ordered : Ordered 0 1048576 new
   pub same : SamePages new old
+  pub owned : SameOwned new old
   pub entry : IsEntry page new i
 
 pub entered : (page : ℕ) (rs ss : List Run) (i : ℕ) (x : Run) → Ordered 0 1048576 rs → IsPlace page rs i → i ≤ length rs → page < 1048576 → x.first ≡ page → x.count ≡ 1 → IsBlank x → ((d : Run) → i < length rs → page + 1 ≤ (get_or rs i d).first) → ss ≡ insert rs i x → IsEntered page rs ss i
@@ -84,7 +89,8 @@ entered page rs ss i x o place within room first count blank gap is =
     let more : length (insert rs i x) ≡ length rs + 1 = length-insert rs i x within in
     subst (λ l. IsEntered page rs l i) (sym is) (record {
       ordered = h.0;
-      same = h.1;
+      same = h.1.0;
+      owned = h.1.1;
       entry = record {
         in_range = omega arith;
         run = λ d. let e : get_or (insert rs i x) i d ≡ x = get_or-insert_at rs i x d within in (ap (λ y. y.first) e ∙ first, ap (λ y. y.count) e ∙ count);

@@ -9,6 +9,7 @@ pub mod PageEdits
 pub mod Writes
 pub mod Bounds
 pub mod Splits
+pub mod Owned
 pub mod Filled
 pub mod Ranges
 pub mod Walks

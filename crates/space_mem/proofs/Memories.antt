@@ -19,7 +19,7 @@ use Rattle.space_mem.proofs.Lookups.{run_of-high}
 pub memory_same : (rs ss : List Run) → SamePages rs ss → memory_of rs ≡ memory_of ss
 memory_same rs ss same = λ i. memory_by (λ p. same.permission p i) (λ p k. same.byte p k i)
 
-row_value : (value : ℕ → ℕ) (n k : ℕ) → (n ≤ k → value k ≡ 0) → value_at (with_row no_values 0 value n) k ≡ value k
+pub row_value : (value : ℕ → ℕ) (n k : ℕ) → (n ≤ k → value k ≡ 0) → value_at (with_row no_values 0 value n) k ≡ value k
 row_value value n k high = elim (cases_lt k n) [
   | inl below ↦ value_at-row_key no_values 0 value n k (omega arith) (omega arith) ∙ ap value {x = k - 0} {y = k} (omega arith)
   | inr above ↦ value_at-row_after no_values 0 value n k (omega arith) ∙ value_at-no_values k ∙ sym (high above)

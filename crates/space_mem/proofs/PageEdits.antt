@@ -1,5 +1,5 @@
 -- What an edit of a page's bytes does to an ordered list.
-use Rattle.std.specs.Prelude.{◌≡◌, ℕ, ◌+◌, ◌-◌, ◌%◌, ◌<◌, ◌≤◌, List, ◌++◌, take, drop, length, slice_index, slice_set, Option, Some, None, is_some, IsOk, OnOk, OnErr, false}
+use Rattle.std.specs.Prelude.{◌≡◌, ℕ, ◌+◌, ◌-◌, ◌%◌, ◌<◌, ◌≤◌, List, ◌++◌, take, drop, length, slice_index, slice_set, Option, Some, None, is_some, IsSome, IsOk, OnOk, OnErr, false}
 use Rattle.std.proofs.Common.{Result, Ok, Err, refl, sym, ◌∙◌, ap, arith, get_or, set, subst, inl, inr}
 use Rattle.std.proofs.lemmas.List.{get_or-set_same, get_or-set_other, length-set, length-take-le, length-append, length-drop, get_or_append_left, get_or-append_right, get_or-take, get_or-drop}
 use Rattle.std.proofs.lemmas.Bool.{cases_eq, cases_lt, true≢false, false≢true}
@@ -9,10 +9,10 @@ use Rattle.memory_model.specs.Memory.{width_bytes}
 use Rattle.page_store.specs.declared.PageRef.{PageRef}
 use Rattle.page_store.specs.Bytes.{bytes_of, IsPage, with_number_in, overwritten}
 use Rattle.space_mem.specs.declared.layout.Run.{Run}
-use Rattle.space_mem.specs.Runs.{run_of, byte_in, byte_of, IsRun, Ordered, IsEntry, SamePages, SetsPage, IsEdited}
+use Rattle.space_mem.specs.Runs.{run_of, byte_in, byte_of, IsRun, Ordered, IsEntry, OwnsToo, SamePages, SetsPage, IsEdited}
 use Rattle.space_mem.proofs.Places.{read_at}
 use Rattle.space_mem.proofs.Lookups.{run_of-read}
-use Rattle.space_mem.proofs.Sets.{ordered_set, sets_page, same_set}
+use Rattle.space_mem.proofs.Sets.{ordered_set, owned_set, sets_page, same_set}
 
 pub page_set : (bytes : List ℕ) (k v : ℕ) → IsPage bytes → k < 4096 → v < 256 → IsPage (slice_set bytes k v)
 page_set bytes k v page within small = record {
@@ -55,18 +55,23 @@ edited_list page rs i r p q edit o entry is has whole is_edit new =
     }
 
 -- a page of zeros where none was kept
-pub filled_list : (page : ℕ) (rs : List Run) (i : ℕ) (r : Run) (q : PageRef) → Ordered 0 1048576 rs → IsEntry page rs i → r ≡ get_or rs i r → r.page ≡ None → IsPage (bytes_of q) → ((k : ℕ) → slice_index (bytes_of q) k ≡ 0) → Ordered 0 1048576 (set rs i (record r { page = Some q })) × SamePages (set rs i (record r { page = Some q })) rs
+pub filled_list : (page : ℕ) (rs : List Run) (i : ℕ) (r : Run) (q : PageRef) → Ordered 0 1048576 rs → IsEntry page rs i → r ≡ get_or rs i r → r.page ≡ None → IsPage (bytes_of q) → ((k : ℕ) → slice_index (bytes_of q) k ≡ 0) → Ordered 0 1048576 (set rs i (record r { page = Some q })) × (SamePages (set rs i (record r { page = Some q })) rs × OwnsToo page rs (set rs i (record r { page = Some q })))
 filled_list page rs i r q o entry is has whole zeros =
     let run = (read_at 0 1048576 rs i r o entry.in_range is).run in
     let first : r.first ≡ page = ap (λ x. x.first) is ∙ (entry.run r).0 in
     let count : r.count ≡ 1 = ap (λ x. x.count) is ∙ (entry.run r).1 in
     let good : IsRun (record r { page = Some q }) = record { some = run.some; permission = run.permission; kept = (count, whole) } in
-    let here : run_of rs page ≡ Some r = run_of-read 0 1048576 rs i page r o entry.in_range is (omega arith) (omega arith) in (
+    let here : run_of rs page ≡ Some r = run_of-read 0 1048576 rs i page r o entry.in_range is (omega arith) (omega arith) in
+    let sets = sets_page page rs i r (record r { page = Some q }) (bytes_of q) o entry.in_range is first count refl refl refl good (λ k. refl) refl in (
       ordered_set 0 1048576 rs i r (record r { page = Some q }) o is refl refl good,
-      same_set page (bytes_of q) rs (set rs i (record r { page = Some q }))
-          (sets_page page rs i r (record r { page = Some q }) (bytes_of q) o entry.in_range is first count refl refl refl good (λ k. refl) refl)
-          (λ k. ap (λ o. byte_of o k) here ∙ ap (λ o. byte_in o k) has ∙ sym (zeros k)),
+      (same_set page (bytes_of q) rs (set rs i (record r { page = Some q })) sets (λ k. ap (λ o. byte_of o k) here ∙ ap (λ o. byte_in o k) has ∙ sym (zeros k)), sets.owned),
     )
+
+-- a page's own run that keeps bytes already
+pub kept_list : (page : ℕ) (rs : List Run) (i : ℕ) (r : Run) → Ordered 0 1048576 rs → IsEntry page rs i → r ≡ get_or rs i r → IsSome r.page → OwnsToo page rs (set rs i r)
+kept_list page rs i r o entry is some =
+    let run = (read_at 0 1048576 rs i r o entry.in_range is).run in
+    owned_set page rs i r r o entry.in_range is (ap (λ x. x.first) is ∙ (entry.run r).0) (ap (λ x. x.count) is ∙ (entry.run r).1) refl refl run some
 
 -- what a result that is no error promised
 pub promised : {T E : Type 0} (r : Result T E) (P : Type 0) → IsOk r → OnOk r P → P
@@ -80,6 +85,10 @@ no_value (Some x) none = absurd (true≢false none)
 pub always : {T E : Type 0} (r : Result T E) (P : Type 0) → P → OnOk r P
 always (Ok x) P p = p
 always (Err e) P p = tt
+
+pub on_ok : {T E : Type 0} (r : Result T E) (P Q : Type 0) → OnOk r P → (P → Q) → OnOk r Q
+on_ok (Ok x) P Q p f = f p
+on_ok (Err e) P Q p f = tt
 
 pub at_error : {T E : Type 0} (r : Result T E) (P : Type 0) → P → OnErr r P
 at_error (Ok x) P p = tt

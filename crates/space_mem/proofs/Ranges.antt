@@ -6,7 +6,7 @@ use Rattle.std.proofs.lemmas.List.{drop-take, take-take}
 use Rattle.memory_model.specs.Memory.{Memory, with_permissions}
 use Rattle.memory_model.proofs.Runs.{permission_at-with_permissions, permission_at-with_permissions_out, byte_at-with_permissions}
 use Rattle.space_mem.specs.declared.layout.Run.{Run}
-use Rattle.space_mem.specs.Runs.{permission_of, byte_of, memory_of, Ordered, IsSpan, IsRefilled}
+use Rattle.space_mem.specs.Runs.{permission_of, byte_of, has_bytes, memory_of, Ordered, SameOwned, IsSpan, IsRefilled}
 use Rattle.space_mem.proofs.Memories.{memory_is, byte_at-memory_of, permission_at-memory_of}
 use Rattle.space_mem.proofs.Splits.{IsReplaced, replaced}
 
@@ -44,6 +44,18 @@ refilled first end right rs ss i j span re o le =
             ]
           ]),
     )
+
+-- of the same pages bytes are kept
+pub refilled_owned : (first end right : ℕ) (rs ss : List Run) (i j : ℕ) → IsSpan first end rs i j → IsRefilled first end right rs ss i j → SameOwned ss rs
+refilled_owned first end right rs ss i j span re p =
+    let r : IsReplaced first end rs re.middle ss i j = subst (λ l. IsReplaced first end rs re.middle l i j) (sym re.list) (replaced first end rs re.middle i j span re.filled.ordered) in
+    elim (cases_lt p first) [
+      | inl before ↦ ap has_bytes (r.before p before)
+      | inr from ↦ elim (cases_lt p end) [
+        | inl to ↦ let h = r.here p from to in ap has_bytes h.0 ∙ re.filled.owned p ∙ sym (ap has_bytes h.1)
+        | inr after ↦ ap has_bytes (r.after p after)
+      ]
+    ]
 
 -- three lists in a row, put together in two steps
 pub joined : (ls ls' ms rs rs' ss ts : List Run) → ss ≡ ls ++ ms → ts ≡ ss ++ rs → ls ≡ ls' → rs ≡ rs' → ts ≡ ls' ++ (ms ++ rs')

@@ -39,7 +39,7 @@ cleared_turn rs now from i x is le within read =
     ∙ append_assoc (take from rs) (map cleared (take (i - from) d)) (cleared r ∷ drop (i + 1) rs)
     ∙ ap (λ l. take from rs ++ l) (sym (append_assoc (map cleared (take (i - from) d)) (cleared r ∷ []) (drop (i + 1) rs)) ∙ ap (λ l. l ++ drop (i + 1) rs) (sym more))
 
-ordered_cleared : (low high : ℕ) (rs : List Run) → Ordered low high rs → Ordered low high (map cleared rs)
+pub ordered_cleared : (low high : ℕ) (rs : List Run) → Ordered low high rs → Ordered low high (map cleared rs)
 ordered_cleared low high [] o = o
 ordered_cleared low high (r ∷ rs) o = (record { some = o.0.some; permission = o.0.permission; kept = tt }, (o.1.0, ordered_cleared (end_of r) high rs o.1.1))
 

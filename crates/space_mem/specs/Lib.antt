@@ -1,3 +1,4 @@
+pub mod Held
 pub mod Runs
 pub mod Fills
 pub mod Stored

@@ -1,12 +1,13 @@
 -- A list of runs of pages, and the memory that it stands for.
 -- Our choice: how the code keeps a memory.
-use Rattle.std.specs.Prelude.{◌≡◌, ℕ, zero, suc, ◌+◌, ◌-◌, ◌/◌, ◌%◌, ◌<◌, ◌≤◌, Bool, cond, not, ◌&&◌, nat_lt, List, [], ◌∷◌, ◌++◌, take, drop, slice_index, slice_index_or, length, Option, Some, None, is_some, IsSome, true, false, ◌⊎◌}
-use Rattle.memory_model.specs.Sparse.{no_values}
+use Rattle.std.specs.Prelude.{◌≡◌, ℕ, zero, suc, ◌+◌, ◌-◌, ◌/◌, ◌%◌, ◌<◌, ◌≤◌, ◌==◌, Bool, cond, not, ◌&&◌, nat_lt, List, [], ◌∷◌, ◌++◌, take, drop, slice_index, slice_index_or, length, Option, Some, None, is_some, IsSome, true, false, ◌⊎◌}
+use Rattle.memory_model.specs.Sparse.{Sparse, no_values}
 use Rattle.memory_model.specs.Memory.{Memory}
 use Rattle.memory_model.specs.Ranges.{with_row}
 use Rattle.page_store.specs.declared.PageRef.{PageRef}
 use Rattle.page_store.specs.Bytes.{bytes_of, IsPage}
 use Rattle.space_mem.specs.declared.layout.Run.{Run}
+use Rattle.space_mem.specs.Held.{Held}
 
 -- the first page past a run
 abbrev pub end_of : Run → ℕ
@@ -51,6 +52,22 @@ memory_of rs = memory_by (λ p. permission_of (run_of rs p)) (λ p. byte_of (run
 abbrev pub has_bytes : Option Run → Bool
 has_bytes None = false
 has_bytes (Some r) = is_some r.page
+
+-- the set of these pages
+abbrev pub owned_by : (ℕ → Bool) → Sparse
+owned_by owned = with_row no_values 0 (λ p. cond (owned p) 1 0) 1048576
+
+-- what contracts see of runs: a page is owned where bytes of it are kept
+abbrev pub held_of : List Run → Held
+held_of rs = record { memory = memory_of rs; owned = owned_by (λ p. has_bytes (run_of rs p)) }
+
+-- bytes are kept of the same pages
+abbrev pub SameOwned : List Run → List Run → Type 0
+SameOwned rs ss = (p : ℕ) → has_bytes (run_of rs p) ≡ has_bytes (run_of ss p)
+
+-- bytes are kept of the same pages and of one page
+abbrev pub OwnsToo : ℕ → List Run → List Run → Type 0
+OwnsToo page old new = (p : ℕ) → has_bytes (run_of new p) ≡ cond (p == page) true (has_bytes (run_of old p))
 
 -- bytes of a page are kept
 abbrev pub IsOwned : List Run → ℕ → Type 0
@@ -100,6 +117,7 @@ pub record SetsPage (page : ℕ) (bytes : List ℕ) (old new : List Run) : Type 
   pub byte : (k : ℕ) → byte_of (run_of new page) k ≡ slice_index bytes k
   pub other : (p k : ℕ) → (p ≡ page → ⊥) → byte_of (run_of new p) k ≡ byte_of (run_of old p) k
   pub kept : (p : ℕ) → IsOwned old p → IsOwned new p
+  pub owned : OwnsToo page old new
 
 -- the run at an index keeps bytes
 abbrev pub HasPage : List Run → ℕ → Type 0
@@ -126,11 +144,12 @@ pub record IsSpan (first end : ℕ) (rs : List Run) (i j : ℕ) : Type 0 where
   pub middle : Ordered first end (take (j - i) (drop i rs))
   pub right : Ordered end 1048576 (drop j rs)
 
--- each page between two has a permission; bytes are as in other runs
+-- each page between two has a permission; bytes, and of which pages they are kept, are as in other runs
 pub record IsFilled (first end right : ℕ) (rs ss : List Run) : Type 0 where
   pub ordered : Ordered first end ss
   pub permission : (p : ℕ) → first ≤ p → p < end → permission_of (run_of ss p) ≡ right
   pub byte : (p k : ℕ) → byte_of (run_of ss p) k ≡ byte_of (run_of rs p) k
+  pub owned : SameOwned ss rs
 
 -- filled runs stand in the place of those between two indices
 pub record IsRefilled (first end right : ℕ) (rs ss : List Run) (i j : ℕ) : Type 0 where

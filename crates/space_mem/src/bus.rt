@@ -1,5 +1,5 @@
 ghost use Rattle.std.specs.Prelude.{ℕ, true};
-ghost use Rattle.memory_model.specs.Memory.{with_number};
+ghost use Rattle.space_mem.specs.Held.{with_stored};
 ghost use Rattle.instruction_model.specs.Outcome.{view_of};
 
 use crate::memory::Mem;
@@ -8,11 +8,11 @@ use rv_exec::{Bus, Fault, StoreFault, Width};
 impl Bus for Mem {
     ghost use Rattle.space_mem.specs.Stored as laws;
 
-    ghost view = { view_of };
+    ghost view = { λ h. view_of h.memory };
 
     ghost takes_memory = { λ _. true };
 
-    ghost stored = { with_number };
+    ghost stored = { with_stored };
 
     #[inline(always)]
     fn fetch(&self, at: u32) -> Result<u32, Fault> {
@@ -40,13 +40,13 @@ impl Bus for Mem {
         }
     }
 
-    ghost byte_stored = { λ s a w v q h i j. laws.byte_stored s a w v q };
+    ghost byte_stored = { λ s a w v q h i j. laws.byte_stored s.memory a w v q };
 
-    ghost may_fetch_stored = { λ s a w v q h i j. laws.may_fetch_stored s a w v q };
+    ghost may_fetch_stored = { λ s a w v q h i j. laws.may_fetch_stored s.memory a w v q };
 
-    ghost may_read_stored = { λ s a w v q h i j. laws.may_read_stored s a w v q };
+    ghost may_read_stored = { λ s a w v q h i j. laws.may_read_stored s.memory a w v q };
 
-    ghost may_write_stored = { λ s a w v q h i j. laws.may_write_stored s a w v q };
+    ghost may_write_stored = { λ s a w v q h i j. laws.may_write_stored s.memory a w v q };
 
     ghost takes_memory_stored = { λ s a w v h i j. laws.true_is_true };
 }

@@ -1,6 +1,7 @@
 ghost use Rattle.std.specs.Prelude.{◌≡◌, ℕ, ◌+◌, ◌-◌, ◌*◌, ◌<◌, ◌≤◌, ◌++◌, take, drop, IfOk, OnOk, OnErr, IsOk, length, vec_len};
 ghost use Rattle.memory_model.specs.Ranges.{with_copies};
-ghost use Rattle.space_mem.specs.Runs.{Ordered, IsRun, IsPlace, IsMoved, AreMoved, memory_of};
+ghost use Rattle.space_mem.specs.Runs.{Ordered, IsRun, IsPlace, IsMoved, AreMoved, memory_of, held_of};
+ghost use Rattle.space_mem.specs.Held.{OwnSameOutside};
 
 use crate::layout::Run;
 use crate::search::place;
@@ -23,7 +24,8 @@ pub fn copy(
     requires in_range { from + (end - first) ≤ 1048576 }
     ensures ordered { Ordered 0 1048576 runs.new.items }
     ensures ok { OnOk result (memory_of runs.new.items ≡ with_copies (memory_of runs.old.items) (memory_of source.now) from first (end - first)) }
-    ensures err { OnErr result (memory_of runs.new.items ≡ memory_of runs.old.items) }
+    ensures err { OnErr result (held_of runs.new.items ≡ held_of runs.old.items) }
+    ensures outside { OnOk result (OwnSameOutside first end (held_of runs.new.items) (held_of runs.old.items)) }
 {
     let moved = moved_runs(*runs.allocator(), source, from, first, end)?;
     let span = part_at(runs, first, end)?;

@@ -1,5 +1,5 @@
 ghost use Rattle.std.specs.Prelude.{◌≡◌, ℕ, ◌+◌, ◌<◌, ◌≤◌, IfOk, OnOk, OnErr, length};
-ghost use Rattle.space_mem.specs.Runs.{Ordered, IsPlace, IsCut, IsEntry, SamePages};
+ghost use Rattle.space_mem.specs.Runs.{Ordered, IsPlace, IsCut, IsEntry, SamePages, SameOwned};
 
 use crate::layout::Run;
 use crate::search::place;
@@ -10,6 +10,7 @@ pub fn cut(runs: &mut Vec<Run>, page: u32) -> Result<(), AllocError>
     requires ordered { Ordered 0 1048576 runs.old.items }
     ensures ordered { Ordered 0 1048576 runs.new.items }
     ensures same { SamePages runs.new.items runs.old.items }
+    ensures owned { SameOwned runs.new.items runs.old.items }
     ensures cut { OnOk result (IsCut page runs.new.items) }
     ensures kept { (q : ℕ) → IsCut q runs.old.items → IsCut q runs.new.items }
 {
@@ -37,6 +38,7 @@ pub fn entry(runs: &mut Vec<Run>, page: u32) -> Result<usize, AllocError>
     requires in_range { page < 1048576 }
     ensures ordered { Ordered 0 1048576 runs.new.items }
     ensures same { SamePages runs.new.items runs.old.items }
+    ensures owned { SameOwned runs.new.items runs.old.items }
     ensures entry { IfOk result (λ i. IsEntry page runs.new.items i) }
 {
     cut(runs, page)?;

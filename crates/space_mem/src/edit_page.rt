@@ -1,8 +1,7 @@
 ghost use Rattle.std.specs.Prelude.{◌≡◌, ℕ, ◌+◌, ◌*◌, ◌/◌, ◌%◌, ◌<◌, ◌≤◌, IfOk, OnOk, OnErr, IsOk, IsTrue, IfSome, IsNone, length, slice_set, slice_index_or, IsSome};
 ghost use Rattle.memory_model.specs.Memory.{width_bytes};
-ghost use Rattle.memory_model.specs.Ranges.{IsZeroPage};
 ghost use Rattle.page_store.specs.Bytes.{bytes_of, with_number_in, overwritten};
-ghost use Rattle.space_mem.specs.Runs.{Ordered, IsEntry, IsOwned, HasPage, SamePages, SetsPage, IsEdited, memory_of};
+ghost use Rattle.space_mem.specs.Runs.{Ordered, IsEntry, IsOwned, HasPage, SamePages, SameOwned, OwnsToo, SetsPage, IsEdited};
 
 use crate::access::found;
 use crate::edit::entry;
@@ -11,8 +10,7 @@ use memory_model::Width;
 use page_store::PageRef;
 use std::alloc::AllocError;
 
-// The index of the run of `page` alone, which keeps bytes from then on. It takes no memory where bytes of the page are kept,
-// as those of a page that has a byte other than 0 are.
+// The index of the run of `page` alone, which keeps bytes from then on. It takes no memory where it kept some before.
 pub fn page_at(runs: &mut Vec<Run>, page: u32) -> Result<usize, AllocError>
     requires ordered { Ordered 0 1048576 runs.old.items }
     requires in_range { page < 1048576 }
@@ -20,7 +18,8 @@ pub fn page_at(runs: &mut Vec<Run>, page: u32) -> Result<usize, AllocError>
     ensures same { SamePages runs.new.items runs.old.items }
     ensures entry { IfOk result (λ i. IsEntry page runs.new.items i) }
     ensures kept { IfOk result (λ i. HasPage runs.new.items i) }
-    ensures there { (IsZeroPage (memory_of runs.old.items) page → ⊥) → IsOk result }
+    ensures more { OnOk result (OwnsToo page runs.old.items runs.new.items) }
+    ensures none { OnErr result (SameOwned runs.new.items runs.old.items) }
     ensures owned { IsOwned runs.old.items page → IsOk result }
 {
     match kept(runs, page) {
@@ -33,8 +32,7 @@ pub fn page_at(runs: &mut Vec<Run>, page: u32) -> Result<usize, AllocError>
 fn kept(runs: &[Run], page: u32) -> Option<usize>
     requires ordered { Ordered 0 1048576 runs.now }
     ensures some { IfSome result (λ i. IsEntry page runs.now i × HasPage runs.now i) }
-    ensures none { IsNone result → IsZeroPage (memory_of runs.now) page }
-    ensures bare { IsNone result → IsOwned runs.now page → ⊥ }
+    ensures none { IsNone result → IsOwned runs.now page → ⊥ }
 {
     let place = found(runs, page)?;
     let run = &runs[place];
@@ -53,6 +51,8 @@ fn make_page(runs: &mut Vec<Run>, page: u32) -> Result<usize, AllocError>
     ensures same { SamePages runs.new.items runs.old.items }
     ensures entry { IfOk result (λ i. IsEntry page runs.new.items i) }
     ensures kept { IfOk result (λ i. HasPage runs.new.items i) }
+    ensures more { OnOk result (OwnsToo page runs.old.items runs.new.items) }
+    ensures none { OnErr result (SameOwned runs.new.items runs.old.items) }
 {
     let at = entry(runs, page)?;
     let alloc = *runs.allocator();

@@ -1,5 +1,5 @@
 ghost use Rattle.std.specs.Prelude.{◌≡◌, ℕ, ◌+◌, ◌-◌, ◌*◌, ◌<◌, ◌≤◌, ◌++◌, [], ◌∷◌, take, drop, IfOk, OnOk, OnErr, IsOk, length, vec_len, vec_capacity};
-ghost use Rattle.space_mem.specs.Runs.{Ordered, IsSpan, IsFilled, IsRefilled, memory_of};
+ghost use Rattle.space_mem.specs.Runs.{Ordered, IsSpan, IsFilled, IsRefilled, memory_of, held_of};
 ghost use Rattle.memory_model.specs.Memory.{with_permissions};
 ghost use Rattle.space_mem.specs.Fills.{blank_runs};
 
@@ -114,8 +114,8 @@ pub fn set_permission(
     requires within { end ≤ 1048576 }
     requires permission { permission < 4 }
     ensures ordered { Ordered 0 1048576 runs.new.items }
-    ensures ok { OnOk result (memory_of runs.new.items ≡ with_permissions (memory_of runs.old.items) first (end - first) permission) }
-    ensures err { OnErr result (memory_of runs.new.items ≡ memory_of runs.old.items) }
+    ensures ok { OnOk result (held_of runs.new.items ≡ record (held_of runs.old.items) { memory = with_permissions (memory_of runs.old.items) first (end - first) permission }) }
+    ensures err { OnErr result (held_of runs.new.items ≡ held_of runs.old.items) }
 {
     let span = part_at(runs, first, end)?;
     refill(runs, span, first, end, permission)?;

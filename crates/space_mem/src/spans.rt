@@ -1,5 +1,5 @@
 ghost use Rattle.std.specs.Prelude.{◌≡◌, ℕ, ◌+◌, ◌-◌, ◌*◌, ◌<◌, ◌≤◌, ◌++◌, take, drop, IfOk, OnOk, OnErr, IsOk, length, vec_len};
-ghost use Rattle.space_mem.specs.Runs.{Ordered, SamePages, IsSpan};
+ghost use Rattle.space_mem.specs.Runs.{Ordered, SamePages, SameOwned, IsSpan};
 
 use crate::edit::cut;
 use crate::layout::Run;
@@ -20,6 +20,7 @@ pub fn part_at(runs: &mut Vec<Run>, first: u32, end: u32) -> Result<Span, AllocE
     requires within { end ≤ 1048576 }
     ensures ordered { Ordered 0 1048576 runs.new.items }
     ensures same { SamePages runs.new.items runs.old.items }
+    ensures owned { SameOwned runs.new.items runs.old.items }
     ensures span { IfOk result (λ s. IsSpan first end runs.new.items s.from s.to) }
 {
     cut(runs, first)?;

@@ -1,8 +1,9 @@
 ghost use Rattle.std.specs.Prelude.{◌≡◌, ℕ, ◌+◌, ◌*◌, ◌/◌, ◌%◌, ◌<◌, ◌≤◌, ◌^◌, IfOk, OnOk, OnErr, IsOk, IsTrue, length, if◌then◌else◌};
-ghost use Rattle.memory_model.specs.Memory.{may_write, width_bytes, with_byte, with_bytes, with_number};
-ghost use Rattle.memory_model.specs.Ranges.{IsZeroPage, with_page};
+ghost use Rattle.memory_model.specs.Memory.{may_write, width_bytes, with_bytes};
+ghost use Rattle.memory_model.specs.Ranges.{with_page};
 ghost use Rattle.page_store.specs.Bytes.{bytes_of};
-ghost use Rattle.space_mem.specs.Runs.{Ordered, IsEntry, IsOwned, HasPage, SamePages, memory_of};
+ghost use Rattle.space_mem.specs.Held.{Owns, owning, with_stored, with_written};
+ghost use Rattle.space_mem.specs.Runs.{Ordered, IsEntry, IsOwned, HasPage, SamePages, memory_of, held_of};
 
 use crate::access::can_store;
 use crate::edit::entry;
@@ -25,9 +26,9 @@ pub fn store(
     requires ordered { Ordered 0 1048576 runs.old.items }
     requires aligned { at % width_bytes width ≡ 0 }
     ensures ordered { Ordered 0 1048576 runs.new.items }
-    ensures ok { OnOk result (memory_of runs.new.items ≡ with_number (memory_of runs.old.items) at width value) }
-    ensures err { OnErr result (memory_of runs.new.items ≡ memory_of runs.old.items) }
-    ensures kept { (IsZeroPage (memory_of runs.old.items) (at / 4096) → ⊥) → IsOk result }
+    ensures ok { OnOk result (held_of runs.new.items ≡ with_stored (held_of runs.old.items) at width value) }
+    ensures err { OnErr result (held_of runs.new.items ≡ held_of runs.old.items) }
+    ensures kept { Owns (held_of runs.old.items) (at / 4096) → IsOk result }
 {
     let asked = guesses.of(at / 4096);
     if asked < runs.len() && keeps(runs, asked, at / 4096) {
@@ -58,9 +59,9 @@ fn store_slow(
     requires ordered { Ordered 0 1048576 runs.old.items }
     requires aligned { at % width_bytes width ≡ 0 }
     ensures ordered { Ordered 0 1048576 runs.new.items }
-    ensures ok { OnOk result (memory_of runs.new.items ≡ with_number (memory_of runs.old.items) at width value) }
-    ensures err { OnErr result (memory_of runs.new.items ≡ memory_of runs.old.items) }
-    ensures kept { (IsZeroPage (memory_of runs.old.items) (at / 4096) → ⊥) → IsOk result }
+    ensures ok { OnOk result (held_of runs.new.items ≡ with_stored (held_of runs.old.items) at width value) }
+    ensures err { OnErr result (held_of runs.new.items ≡ held_of runs.old.items) }
+    ensures kept { Owns (held_of runs.old.items) (at / 4096) → IsOk result }
 {
     let page = at / 4096;
     let place = page_at(runs, page)?;
@@ -81,10 +82,10 @@ pub fn try_store(
     requires aligned { at % width_bytes width ≡ 0 }
     ensures ordered { Ordered 0 1048576 runs.new.items }
     ensures allowed { IfOk result (λ stored. stored ≡ may_write (memory_of runs.old.items) at) }
-    ensures ok { IfOk result (λ stored. memory_of runs.new.items ≡ (if stored then with_number (memory_of runs.old.items) at width value else memory_of runs.old.items)) }
-    ensures err { OnErr result (memory_of runs.new.items ≡ memory_of runs.old.items) }
+    ensures ok { IfOk result (λ stored. held_of runs.new.items ≡ (if stored then with_stored (held_of runs.old.items) at width value else held_of runs.old.items)) }
+    ensures err { OnErr result (held_of runs.new.items ≡ held_of runs.old.items) }
     ensures wanted { OnErr result (IsTrue (may_write (memory_of runs.old.items) at)) }
-    ensures kept { (IsZeroPage (memory_of runs.old.items) (at / 4096) → ⊥) → IsOk result }
+    ensures kept { Owns (held_of runs.old.items) (at / 4096) → IsOk result }
 {
     let asked = guesses.of(at / 4096);
     if asked < runs.len() && keeps(runs, asked, at / 4096) {
@@ -110,10 +111,10 @@ fn try_store_slow(
     requires aligned { at % width_bytes width ≡ 0 }
     ensures ordered { Ordered 0 1048576 runs.new.items }
     ensures allowed { IfOk result (λ stored. stored ≡ may_write (memory_of runs.old.items) at) }
-    ensures ok { IfOk result (λ stored. memory_of runs.new.items ≡ (if stored then with_number (memory_of runs.old.items) at width value else memory_of runs.old.items)) }
-    ensures err { OnErr result (memory_of runs.new.items ≡ memory_of runs.old.items) }
+    ensures ok { IfOk result (λ stored. held_of runs.new.items ≡ (if stored then with_stored (held_of runs.old.items) at width value else held_of runs.old.items)) }
+    ensures err { OnErr result (held_of runs.new.items ≡ held_of runs.old.items) }
     ensures wanted { OnErr result (IsTrue (may_write (memory_of runs.old.items) at)) }
-    ensures kept { (IsZeroPage (memory_of runs.old.items) (at / 4096) → ⊥) → IsOk result }
+    ensures kept { Owns (held_of runs.old.items) (at / 4096) → IsOk result }
 {
     if !can_store(runs, guesses, at) {
         return Ok(false);
@@ -126,9 +127,9 @@ fn try_store_slow(
 pub fn write(runs: &mut Vec<Run>, at: u32, value: u8) -> Result<(), AllocError>
     requires { Ordered 0 1048576 runs.old.items }
     ensures ordered { Ordered 0 1048576 runs.new.items }
-    ensures ok { OnOk result (memory_of runs.new.items ≡ with_byte (memory_of runs.old.items) at value) }
-    ensures err { OnErr result (memory_of runs.new.items ≡ memory_of runs.old.items) }
-    ensures kept { (IsZeroPage (memory_of runs.old.items) (at / 4096) → ⊥) → IsOk result }
+    ensures ok { OnOk result (held_of runs.new.items ≡ with_written (held_of runs.old.items) at value) }
+    ensures err { OnErr result (held_of runs.new.items ≡ held_of runs.old.items) }
+    ensures kept { Owns (held_of runs.old.items) (at / 4096) → IsOk result }
 {
     let page = at / 4096;
     let place = page_at(runs, page)?;
@@ -142,6 +143,9 @@ pub fn write_bytes(runs: &mut Vec<Run>, at: u32, bytes: &[u8]) -> Result<(), All
     ensures ordered { Ordered 0 1048576 runs.new.items }
     ensures ok { OnOk result (memory_of runs.new.items ≡ with_bytes (memory_of runs.old.items) at bytes.now) }
     ensures err { OnErr result (memory_of runs.new.items ≡ memory_of runs.old.items) }
+    ensures owns { OnOk result ((k : ℕ) → k < length bytes.now → Owns (held_of runs.new.items) ((at + k) / 4096)) }
+    ensures stays { (page : ℕ) → Owns (held_of runs.old.items) page → Owns (held_of runs.new.items) page }
+    ensures idle { ((k : ℕ) → k < length bytes.now → Owns (held_of runs.old.items) ((at + k) / 4096)) → IsOk result }
 {
     if bytes.is_empty() {
         return Ok(());
@@ -161,6 +165,7 @@ fn write_owned(runs: &mut Vec<Run>, at: u32, bytes: &[u8]) -> Result<(), AllocEr
     requires owned { (page : ℕ) → at / 4096 ≤ page → 4096 * page < at + length bytes.now → IsOwned runs.old.items page }
     ensures ordered { Ordered 0 1048576 runs.new.items }
     ensures ok { OnOk result (memory_of runs.new.items ≡ with_bytes (memory_of runs.old.items) at bytes.now) }
+    ensures kept { (page : ℕ) → IsOwned runs.old.items page → IsOwned runs.new.items page }
     ensures own { IsOk result }
 {
     let mut done: usize = 0;
@@ -180,7 +185,8 @@ fn write_in_page(runs: &mut Vec<Run>, at: u32, bytes: &[u8]) -> Result<(), Alloc
     ensures ordered { Ordered 0 1048576 runs.new.items }
     ensures ok { OnOk result (memory_of runs.new.items ≡ with_bytes (memory_of runs.old.items) at bytes.now) }
     ensures err { OnErr result (memory_of runs.new.items ≡ memory_of runs.old.items) }
-    ensures kept { OnOk result ((page : ℕ) → IsOwned runs.old.items page → IsOwned runs.new.items page) }
+    ensures kept { (page : ℕ) → IsOwned runs.old.items page → IsOwned runs.new.items page }
+    ensures here { OnOk result (IsOwned runs.new.items (at / 4096)) }
     ensures own { IsOwned runs.old.items (at / 4096) → IsOk result }
 {
     let page = at / 4096;
@@ -193,8 +199,8 @@ pub fn put_page(runs: &mut Vec<Run>, page: u32, new: PageRef) -> Result<(), Allo
     requires ordered { Ordered 0 1048576 runs.old.items }
     requires in_range { page < 1048576 }
     ensures ordered { Ordered 0 1048576 runs.new.items }
-    ensures ok { OnOk result (memory_of runs.new.items ≡ with_page (memory_of runs.old.items) page (bytes_of new)) }
-    ensures err { OnErr result (memory_of runs.new.items ≡ memory_of runs.old.items) }
+    ensures ok { OnOk result (held_of runs.new.items ≡ owning (held_of runs.old.items) page (with_page (memory_of runs.old.items) page (bytes_of new))) }
+    ensures err { OnErr result (held_of runs.new.items ≡ held_of runs.old.items) }
 {
     let place = entry(runs, page)?;
     set_page(runs, place, page, new);
@@ -208,6 +214,9 @@ pub fn own(runs: &mut Vec<Run>, first: u32, end: u32) -> Result<(), AllocError>
     ensures ordered { Ordered 0 1048576 runs.new.items }
     ensures same { SamePages runs.new.items runs.old.items }
     ensures owned { OnOk result ((page : ℕ) → first ≤ page → page < end → IsOwned runs.new.items page) }
+    ensures owns { OnOk result ((page : ℕ) → first ≤ page → page < end → Owns (held_of runs.new.items) page) }
+    ensures stays { (page : ℕ) → Owns (held_of runs.old.items) page → Owns (held_of runs.new.items) page }
+    ensures idle { ((page : ℕ) → first ≤ page → page < end → Owns (held_of runs.old.items) page) → IsOk result }
 {
     for page in first..end {
         page_at(runs, page)?;

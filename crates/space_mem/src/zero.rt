@@ -1,6 +1,7 @@
 ghost use Rattle.std.specs.Prelude.{◌≡◌, ℕ, ◌+◌, ◌-◌, ◌*◌, ◌<◌, ◌≤◌, ◌++◌, map, take, drop, IfOk, OnOk, OnErr, IsOk, length, vec_len};
 ghost use Rattle.memory_model.specs.Ranges.{with_zeros};
-ghost use Rattle.space_mem.specs.Runs.{Ordered, memory_of};
+ghost use Rattle.space_mem.specs.Runs.{Ordered, memory_of, held_of};
+ghost use Rattle.space_mem.specs.Held.{OwnSameOutside};
 ghost use Rattle.space_mem.specs.Fills.{cleared};
 
 use crate::layout::Run;
@@ -14,7 +15,8 @@ pub fn zero(runs: &mut Vec<Run>, first: u32, end: u32) -> Result<(), AllocError>
     requires within { end ≤ 1048576 }
     ensures ordered { Ordered 0 1048576 runs.new.items }
     ensures ok { OnOk result (memory_of runs.new.items ≡ with_zeros (memory_of runs.old.items) first (end - first)) }
-    ensures err { OnErr result (memory_of runs.new.items ≡ memory_of runs.old.items) }
+    ensures err { OnErr result (held_of runs.new.items ≡ held_of runs.old.items) }
+    ensures outside { OnOk result (OwnSameOutside first end (held_of runs.new.items) (held_of runs.old.items)) }
 {
     let span = part_at(runs, first, end)?;
     clear(runs, span);

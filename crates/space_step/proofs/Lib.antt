@@ -3,6 +3,7 @@ pub mod Events
 pub mod Answers
 pub mod Budget
 pub mod Stretches
+pub mod Seen
 pub mod CallEvents
 pub mod Following
 pub mod Advancing

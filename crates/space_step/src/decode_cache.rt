@@ -69,10 +69,10 @@ impl DecodeCache {
     // Keeps the instruction at an address: false where none stands there.
     #[inline(never)]
     fn learn(&mut self, memory: &Mem, at: u32) -> bool
-        requires { Agrees (view_of memory.now) self.old.entries }
-        ensures agrees { Agrees (view_of memory.now) self.new.entries }
+        requires { Agrees (view_of memory.now.memory) self.old.entries }
+        ensures agrees { Agrees (view_of memory.now.memory) self.new.entries }
         ensures learnt { IsTrue result → Hits self.new.entries at }
-        ensures none { IsFalse result → HasNone (view_of memory.now) at }
+        ensures none { IsFalse result → HasNone (view_of memory.now.memory) at }
     {
         if at % 4 != 0 {
             return false;
@@ -104,8 +104,8 @@ impl DecodeCache {
 #[inline(never)]
 #[tactic(auto, unfolding(instruction_model::specs::Outcome::outcome))]
 fn trap_at(memory: &Mem, at: u32) -> Trap
-    requires { HasNone (view_of memory.now) at }
-    ensures { TrapsAt (view_of memory.now) at result.number result.value }
+    requires { HasNone (view_of memory.now.memory) at }
+    ensures { TrapsAt (view_of memory.now.memory) at result.number result.value }
 {
     if at % 4 != 0 {
         return Trap {

@@ -19,7 +19,7 @@ use trap_ret::{AcceptedCall, Call, read_call};
 // Whether an ECALL stands at pc and is next.
 #[tactic(auto, unfolding(instruction_model::specs::Outcome::outcome))]
 fn is_at_call(registers: &Regs, memory: &Mem) -> bool
-    ensures { result ≡ is_call (outcome (view_of memory.now) registers.now) }
+    ensures { result ≡ is_call (outcome (view_of memory.now.memory) registers.now) }
 {
     if registers.pc % 4 != 0 {
         return false;

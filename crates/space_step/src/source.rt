@@ -22,11 +22,11 @@ pub(crate) trait Source {
 
     /// The instruction at an address, or the trap that stands there.
     fn instruction_at(&mut self, memory: &Mem, at: u32) -> Result<Instruction, Trap>
-        requires { agrees self.old (view_of memory.now) }
-        ensures agrees { agrees self.new (view_of memory.now) }
+        requires { agrees self.old (view_of memory.now.memory) }
+        ensures agrees { agrees self.new (view_of memory.now.memory) }
         ensures fields { IfOk result (λ i. HasFields i) }
-        ensures instruction { IfOk result (λ i. StandsAt (view_of memory.now) at i) }
-        ensures trap { IfErr result (λ t. TrapsAt (view_of memory.now) at t.number t.value) };
+        ensures instruction { IfOk result (λ i. StandsAt (view_of memory.now.memory) at i) }
+        ensures trap { IfErr result (λ t. TrapsAt (view_of memory.now.memory) at t.number t.value) };
 
     /// Keeps the word of an address no longer, so that a store there changes nothing that is kept.
     fn forget(&mut self, at: u32)

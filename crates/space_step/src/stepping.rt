@@ -26,14 +26,15 @@ fn forget_stored<S: Source>(source: &mut S, regs: &Regs, instruction: Instructio
 /// The instruction at pc, from a source: this is the one place that executes an instruction. A call and a trap change nothing.
 /// Only a store may fail, for want of memory, and then nothing changes.
 #[inline(always)]
+#[tactic(auto, using(crate::proofs::Seen::steps_seen))]
 pub(crate) fn step_from<S: Source>(
     source: &mut S,
     regs: &mut Regs,
     memory: &mut Mem,
 ) -> Result<Stepped, AllocError>
-    requires { S.agrees source.old (view_of memory.old) }
-    ensures steps { Steps with_number true (outcome (view_of memory.old) regs.old) result regs.old memory.old regs.new memory.new }
-    ensures agrees { S.agrees source.new (view_of memory.new) }
+    requires { S.agrees source.old (view_of memory.old.memory) }
+    ensures steps { Steps with_number true (outcome (view_of memory.old.memory) regs.old) result regs.old memory.old.memory regs.new memory.new.memory }
+    ensures agrees { S.agrees source.new (view_of memory.new.memory) }
 {
     match source.instruction_at(memory, regs.pc) {
         Ok(instruction) => {

@@ -39,10 +39,10 @@ fn execute_from<S: Source>(
     memory: &mut Mem,
     budget: u32,
 ) -> Stretch
-    requires { S.agrees source.old (view_of memory.old) }
+    requires { S.agrees source.old (view_of memory.old.memory) }
     ensures within { result.count ≤ budget }
-    ensures done { Executes result.count registers.old memory.old registers.new memory.new }
-    ensures end { Ends result.end result.count budget (outcome (view_of memory.new) registers.new) }
+    ensures done { Executes result.count registers.old memory.old.memory registers.new memory.new.memory }
+    ensures end { Ends result.end result.count budget (outcome (view_of memory.new.memory) registers.new) }
 {
     // a copy, so that pc can stand in a register of the machine
     let mut working = *registers;
@@ -70,8 +70,8 @@ fn execute_from<S: Source>(
 #[inline(never)]
 fn execute_cached(registers: &mut Regs, memory: &mut Mem, budget: u32) -> Stretch
     ensures within { result.count ≤ budget }
-    ensures done { Executes result.count registers.old memory.old registers.new memory.new }
-    ensures end { Ends result.end result.count budget (outcome (view_of memory.new) registers.new) }
+    ensures done { Executes result.count registers.old memory.old.memory registers.new memory.new.memory }
+    ensures end { Ends result.end result.count budget (outcome (view_of memory.new.memory) registers.new) }
 {
     // made in place: a function that gave it back would copy it
     let mut cache = DecodeCache {
@@ -95,8 +95,8 @@ fn after(done: u32, rest: Stretch) -> Stretch
 #[tactic(auto, using(crate::proofs::Stretches::executes_on, crate::proofs::Stretches::ends_on))]
 pub(crate) fn execute(registers: &mut Regs, memory: &mut Mem, budget: u32) -> Stretch
     ensures within { result.count ≤ budget }
-    ensures done { Executes result.count registers.old memory.old registers.new memory.new }
-    ensures end { Ends result.end result.count budget (outcome (view_of memory.new) registers.new) }
+    ensures done { Executes result.count registers.old memory.old.memory registers.new memory.new.memory }
+    ensures end { Ends result.end result.count budget (outcome (view_of memory.new.memory) registers.new) }
 {
     if budget <= UNCACHED {
         return execute_from(&mut Uncached, registers, memory, budget);

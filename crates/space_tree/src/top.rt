@@ -4,6 +4,7 @@ ghost use Rattle.space_model.specs.Sound.{has_devices};
 ghost use Rattle.space_model.specs.Change.{stop, succeeded, spent};
 ghost use Rattle.space_model.specs.Beginning.{fresh, root_of};
 ghost use Rattle.space_model.specs.Space.{console_bytes};
+ghost use Rattle.space_mem.specs.Held.{memory_in};
 
 use crate::devices::Devices;
 use rv_exec::Regs;
@@ -35,12 +36,13 @@ impl Model for Top {
     ghost use Rattle.std.specs.Prelude.{◌≡◌, ◌≤◌, ◌<◌, ◌^◌, ◌+◌};
     ghost use Rattle.space_model.specs.Space.{Top};
     ghost use Rattle.space_model.specs.Encoding.{coded_top};
+    ghost use Rattle.space_mem.specs.Held.{memory_in};
 
     ghost Value = { Top };
 
     ghost coded = { coded_top };
 
-    ghost view = { λ t. record { registers = t.registers; memory = t.memory; snapshot = t.snapshot; limit = t.limit; fuel = t.fuel; used = t.used; status = t.status; devices = t.devices } };
+    ghost view = { λ t. record { registers = t.registers; memory = t.memory.memory; snapshot = memory_in t.snapshot; limit = t.limit; fuel = t.fuel; used = t.used; status = t.status; devices = t.devices } };
 
     ghost invariant = { λ t. (t.fuel + t.used < 2 ^ 32) × (1 ≤ t.fuel + t.used) };
 }
@@ -49,7 +51,7 @@ impl Top {
     /// A root that is about to run at `entry`, with x2 as its stack pointer.
     pub fn root(entry: u32, stack: u32, memory: Mem, fuel: u32, devices: Devices) -> Top
         requires { 1 ≤ fuel }
-        ensures { result ≡ root_of entry stack memory fuel devices }
+        ensures { result ≡ root_of entry stack memory.memory fuel devices }
     {
         let mut registers = Regs::new(entry);
         registers.set_register(2, stack);
@@ -168,7 +170,7 @@ impl Top {
 
 // An equal memory, where there is one.
 fn frozen(snapshot: &mut Option<Mem>) -> Result<Option<Mem>, AllocError>
-    ensures equal { IfOk result (λ o. o ≡ snapshot.old) }
+    ensures equal { IfOk result (λ o. memory_in o ≡ memory_in snapshot.old) }
     ensures same { snapshot.new ≡ snapshot.old }
 {
     match snapshot {

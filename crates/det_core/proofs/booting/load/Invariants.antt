@@ -6,4 +6,4 @@ use Rattle.det_core.proofs.Loading.{Next}
 use Rattle.det_core.proofs.booting.load.Given as goal
 
 abbrev pub invariant-loop-segment : goal.invariant-loop-segment
-invariant-loop-segment l = Next l.memory (segment_views (drop l.segment-index l.segment-items)) (with_segments no_memory l.image.segments)
+invariant-loop-segment l = Next l.memory.memory (segment_views (drop l.segment-index l.segment-items)) (with_segments no_memory l.image.segments)

@@ -5,4 +5,4 @@ use Rattle.put_get.proofs.registers.read_registers.Goals as goal
 pub returns : goal.returns
 returns c =
     let kept = c.loop-number.invariant in
-    registers_read c.args.memory.now c.args.at c.loop-number.registers kept.pc kept.length kept.zero (λ k low high. kept.words k low (omega arith))
+    registers_read c.args.memory.now.memory c.args.at c.loop-number.registers kept.pc kept.length kept.zero (λ k low high. kept.words k low (omega arith))

@@ -5,8 +5,8 @@ use Rattle.put_get.proofs.registers.read_registers.Given as goal
 -- pc and the registers below this one are read
 abbrev pub invariant-loop-number : goal.invariant-loop-number
 invariant-loop-number l = record {
-  pc : l.registers.pc ≡ word l.memory l.at;
+  pc : l.registers.pc ≡ word l.memory.memory l.at;
   length : length l.registers.x ≡ 32;
   zero : get_or l.registers.x 0 0 ≡ 0;
-  words : (k : ℕ) → 1 ≤ k → k < l.number → get_or l.registers.x k 0 ≡ word l.memory (l.at + 4 * k);
+  words : (k : ℕ) → 1 ≤ k → k < l.number → get_or l.registers.x k 0 ≡ word l.memory.memory (l.at + 4 * k);
 }

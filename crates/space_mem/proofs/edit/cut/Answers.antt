@@ -24,6 +24,9 @@ returns-in_ok-insert-clause-ordered c = (list c).ordered
 pub returns-in_ok-insert-clause-same : goal.returns-in_ok-insert-clause-same
 returns-in_ok-insert-clause-same c = (list c).same
 
+pub returns-in_ok-insert-clause-owned : goal.returns-in_ok-insert-clause-owned
+returns-in_ok-insert-clause-owned c = (list c).owned
+
 pub returns-in_ok-insert-clause-cut : goal.returns-in_ok-insert-clause-cut
 returns-in_ok-insert-clause-cut c = (list c).cut
 

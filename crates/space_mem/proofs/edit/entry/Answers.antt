@@ -30,3 +30,6 @@ returns-clause-ordered c = (list c).ordered
 
 pub returns-clause-same : goal.returns-clause-same
 returns-clause-same c = same_trans _ _ _ (list c).same (same_trans _ _ _ c.in_ok-cut-2.ensures.same c.in_ok-cut.ensures.same)
+
+pub returns-clause-owned : goal.returns-clause-owned
+returns-clause-owned c p = (list c).owned p ∙ c.in_ok-cut-2.ensures.owned p ∙ c.in_ok-cut.ensures.owned p

@@ -1,12 +1,12 @@
-use Rattle.std.proofs.Common.{ap, ◌∙◌, sym, refl, subst, ◌≤◌, ◌<◌, Some, None}
-use Rattle.std.proofs.lemmas.Bool.{true≢false}
+use Rattle.std.proofs.Common.{ap, ◌∙◌, sym, refl, subst, ◌≤◌, ◌<◌}
+use Rattle.std.proofs.lemmas.Bool.{true≢false, false≢true}
 use Rattle.space_mem.specs.Runs.{end_of, has_bytes}
 use Rattle.space_mem.proofs.Readings.{found_run}
-use Rattle.space_mem.proofs.Writes.{keeps_entry, zero_page, no_bytes}
+use Rattle.space_mem.proofs.Writes.{keeps_entry}
 use Rattle.space_mem.proofs.edit_page.kept.Goals as goal
 
 pub returns-in_err-place-clause-none : goal.returns-in_err-place-clause-none
-returns-in_err-place-clause-none c none = zero_page c.args.page _ None c.requires.ordered (c.in_err-place.ensures.none refl) (λ k. refl)
+returns-in_err-place-clause-none c none owned = false≢true (sym (ap has_bytes (c.in_err-place.ensures.none refl)) ∙ owned)
 
 pub returns-then-is_some-clause-some : goal.returns-then-is_some-clause-some
 returns-then-is_some-clause-some c =
@@ -16,9 +16,5 @@ returns-then-is_some-clause-some c =
     (subst (λ x. x.first ≤ c.args.page) (sym c.index-runs-place.is) (found.from r)) (subst (λ x. c.args.page < end_of x) (sym c.index-runs-place.is) (found.to r)) (sym c.if-is_some.ensures)
 
 pub returns-clause-none : goal.returns-clause-none
-returns-clause-none c none =
-    zero_page c.args.page _ (Some c.index-runs-place.result) c.requires.ordered (found_run c.args.page _ _ _ c.requires.ordered c.in_ok-place.ensures.some c.index-runs-place.is) (no_bytes _ (sym c.if-is_some.ensures))
-
-pub returns-clause-bare : goal.returns-clause-bare
-returns-clause-bare c none owned =
+returns-clause-none c none owned =
     true≢false (sym owned ∙ ap has_bytes (found_run c.args.page _ _ _ c.requires.ordered c.in_ok-place.ensures.some c.index-runs-place.is) ∙ sym c.if-is_some.ensures)

@@ -3,7 +3,7 @@ use Rattle.space_mem.specs.Runs.{IsEntry}
 use Rattle.space_mem.proofs.Lookups.{same_refl}
 use Rattle.space_mem.proofs.PageEdits.{promised}
 use Rattle.space_mem.proofs.Readings.{entry_writes}
-use Rattle.space_mem.proofs.Writes.{written_number}
+use Rattle.space_mem.proofs.Owned.{stored_number}
 use Rattle.space_mem.proofs.store.try_store.Goals as goal
 
 pub returns-then-run-ne1-clause-allowed : goal.returns-then-run-ne1-clause-allowed
@@ -18,5 +18,5 @@ returns-then-keeps-clause-allowed c =
 
 pub returns-then-keeps-clause-ok : goal.returns-then-keeps-clause-ok
 returns-then-keeps-clause-ok c =
-    written_number c.args.runs.now.items _ _ c.args.at c.args.width c.args.value c.requires.ordered c.set_number.ensures.ordered c.requires.aligned (same_refl c.args.runs.now.items)
-    (promised c.set_number.result _ c.set_number.ensures.own c.set_number.ensures.ok)
+    let edited = promised c.set_number.result _ c.set_number.ensures.own c.set_number.ensures.ok in
+    stored_number c.args.runs.now.items _ _ c.args.at c.args.width c.args.value c.requires.ordered c.requires.ordered c.set_number.ensures.ordered c.requires.aligned (same_refl c.args.runs.now.items) edited.sets.owned edited

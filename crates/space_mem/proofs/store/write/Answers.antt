@@ -1,12 +1,17 @@
-use Rattle.space_mem.proofs.Memories.{memory_same}
+use Rattle.std.proofs.lemmas.Bool.{false≢true}
 use Rattle.space_mem.proofs.PageEdits.{always, at_error, promised}
-use Rattle.space_mem.proofs.Writes.{written_byte}
+use Rattle.space_mem.proofs.Owned.{held_same, owns_kept, owns_twice, stored_byte}
 use Rattle.space_mem.proofs.store.write.Goals as goal
 
 pub returns-clause-ok : goal.returns-clause-ok
-returns-clause-ok c = always c.set_byte.result _
-    (written_byte c.args.runs.now.items _ _ c.args.at c.args.value c.in_ok-place.ensures.ordered c.set_byte.ensures.ordered c.in_ok-place.ensures.same
-    (promised c.set_byte.result _ c.set_byte.ensures.own c.set_byte.ensures.ok))
+returns-clause-ok c =
+    let edited = promised c.set_byte.result _ c.set_byte.ensures.own c.set_byte.ensures.ok in
+    let page = c.in_ok-place.ensures in
+    always c.set_byte.result _
+    (stored_byte c.args.runs.now.items _ _ c.args.at c.args.value c.requires page.ordered c.set_byte.ensures.ordered page.same (owns_twice _ _ _ _ page.more edited.sets.owned) edited)
 
 pub returns-in_err-place-clause-err : goal.returns-in_err-place-clause-err
-returns-in_err-place-clause-err c = at_error c.from_residual.result _ (memory_same _ _ c.in_err-place.ensures.same)
+returns-in_err-place-clause-err c = at_error c.from_residual.result _ (held_same _ _ c.in_err-place.ensures.same c.in_err-place.ensures.none)
+
+pub returns-in_err-place-clause-kept : goal.returns-in_err-place-clause-kept
+returns-in_err-place-clause-kept c owns = absurd (false≢true (c.in_err-place.ensures.owned (owns_kept _ _ c.requires owns)))

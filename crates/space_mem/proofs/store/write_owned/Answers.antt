@@ -14,4 +14,5 @@ loop-done-preserved c =
       ordered = c.in_ok-write_in_page.ensures.ordered;
       memory = written_turn _ _ _ c.args.at (c.args.at + done) done count bytes _ inv.memory inv.in_range refl (ap (λ n. take n (drop done bytes)) e) c.in_ok-write_in_page.ensures.ok;
       owned = λ page from to. c.in_ok-write_in_page.ensures.kept page (inv.owned page from to);
+      kept = λ page owned. c.in_ok-write_in_page.ensures.kept page (inv.kept page owned);
     }

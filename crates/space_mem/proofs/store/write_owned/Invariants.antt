@@ -9,6 +9,7 @@ invariant-loop-done l = record {
   ordered : Ordered 0 1048576 l.runs.items;
   memory : memory_of l.runs.items ≡ with_bytes (memory_of l.fn.runs.items) l.at (take l.done l.bytes);
   owned : (page : ℕ) → l.at / 4096 ≤ page → 4096 * page < l.at + length l.bytes → IsOwned l.runs.items page;
+  kept : (page : ℕ) → IsOwned l.fn.runs.items page → IsOwned l.runs.items page;
 }
 
 abbrev pub decreases-loop-done : goal.decreases-loop-done

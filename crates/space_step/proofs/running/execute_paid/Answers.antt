@@ -10,7 +10,7 @@ pub returns-clause-follows : goal.returns-clause-follows
 returns-clause-follows c = λ levels.
     let n = c.execute-stretch.result.count in
     let r = c.execute-stretch.new.registers in
-    let m = c.execute-stretch.new.memory in
+    let m = c.execute-stretch.new.memory.memory in
     let done = subst (λ (t : Top). Executes n t.registers t.memory r m) c.top.view_is c.execute-stretch.ensures.done in
     let paid = subst (λ (t : Top). c.pay.new.self ≡ spent n t (reached t r m)) c.top.view_is c.pay.ensures in
     subst (Follows levels n c.args.top.now) (sym paid)

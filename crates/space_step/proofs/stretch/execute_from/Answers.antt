@@ -3,7 +3,7 @@ use Rattle.space_step.proofs.stretch.execute_from.Goals as goal
 
 pub loop-count-preserved : goal.loop-count-preserved
 loop-count-preserved g c = record {
-  done = executes_more c.loop-count.count c.args.registers.now c.loop-count.working c.step_from.new.regs c.args.memory.now c.loop-count.memory c.step_from.new.memory _ c.loop-count.invariant.done
+  done = executes_more c.loop-count.count c.args.registers.now c.loop-count.working c.step_from.new.regs c.args.memory.now.memory c.loop-count.memory.memory c.step_from.new.memory.memory _ c.loop-count.invariant.done
       (rw c.in-Ok-Next.field-0-is at c.in-Ok-Next.ensures.steps);
   agrees = c.in-Ok-Next.ensures.agrees;
 }

@@ -3,4 +3,4 @@ use Rattle.space_step.specs.Stretch.{Executes}
 use Rattle.space_step.proofs.stretch.execute_from.Given as goal
 
 abbrev pub invariant-loop-count : goal.invariant-loop-count
-invariant-loop-count g l = record { done : Executes l.count l.fn.registers l.fn.memory l.working l.memory; agrees : g.S.Source.agrees l.source (view_of l.memory) }
+invariant-loop-count g l = record { done : Executes l.count l.fn.registers l.fn.memory.memory l.working l.memory.memory; agrees : g.S.Source.agrees l.source (view_of l.memory.memory) }
