@@ -13,7 +13,7 @@ use std::time::{Duration, Instant};
 // A memory whose first pages have bytes of their own and may be read and written.
 fn memory_of(alloc: Global, pages: u32) -> Result<Mem, AllocError>
     requires { pages ≤ 1048576 }
-    ensures { IfOk result (λ mem. mem ≡ with_permissions no_memory 0 pages 3) }
+    ensures { IfOk result (λ mem. mem.memory ≡ with_permissions no_memory 0 pages 3) }
 {
     let mut mem = Mem::new(alloc);
     let range = Pages {
