@@ -4,8 +4,8 @@ use demand_eval::settle;
 use det_core::boot;
 use rv_asm::assemble;
 use space_step::advance;
-use space_tree::{Cause, Devices, Regs, Status};
-use std::alloc::Global;
+use space_tree::{Cause, Devices, Regs, Status, Top};
+use std::alloc::{AllocError, Global};
 use std::process::Abort;
 use std::test::Fail;
 
@@ -202,6 +202,14 @@ struct Ending {
     words: [u32; 2],
 }
 
+// How many events a root had, of at most so many.
+fn events_of(top: &mut Top, stretch: u32) -> Result<u32, AllocError>
+    requires { 1 ≤ stretch }
+{
+    let advance = advance(top, 0, stretch)?;
+    Ok(advance.ran)
+}
+
 // The root of a source after stretches of at most so many events.
 fn ended(alloc: Global, source: &[u8], stretch: u32) -> Result<Ending, Fail>
     requires { 1 ≤ stretch }
@@ -209,7 +217,7 @@ fn ended(alloc: Global, source: &[u8], stretch: u32) -> Result<Ending, Fail>
     let image = assemble(alloc, source)?;
     let mut root = boot(alloc, &image, Devices::new(alloc), 1_000_000)?;
     for _ in 0..10_000 {
-        if advance(&mut root.top, 0, stretch)?.ran == 0 {
+        if events_of(&mut root.top, stretch)? == 0 {
             break;
         }
     }
