@@ -1,3 +1,4 @@
 pub mod Sparse
 pub mod Memory
 pub mod Ranges
+pub mod Sizes

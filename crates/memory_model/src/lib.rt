@@ -8,3 +8,12 @@ pub enum Width {
     Two,
     Four,
 }
+
+/// How many bytes a page has.
+pub const PAGE_SIZE: u32 = 4096;
+
+/// How many pages a memory has: addresses have 32 bits.
+pub const PAGES: u32 = 1_048_576;
+
+/// The greatest permission of a page: 1 reads and fetches, 2 writes, 3 does both.
+pub const GREATEST_PERMISSION: u8 = 3;

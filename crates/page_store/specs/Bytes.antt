@@ -1,6 +1,7 @@
 -- A page of 4,096 bytes, as the list of its bytes.
 -- Our choice: a restatement for proofs.
 use Rattle.std.specs.Prelude.{◌≡◌, ℕ, ◌+◌, ◌/◌, ◌%◌, ◌<◌, List, ◌++◌, take, drop, length, slice_index, slice_set}
+use Rattle.memory_model.specs.Sizes.{page_size}
 use Rattle.memory_model.specs.declared.Width.{Width}
 use Rattle.memory_model.specs.declared.Width.TheVariants.{One, Two, Four}
 use Rattle.page_store.specs.declared.PageRef.{PageRef}
@@ -12,7 +13,7 @@ bytes_of (Own page) = page.value.bytes
 
 -- 4,096 numbers below 256
 pub record IsPage (bytes : List ℕ) : Type 0 where
-  pub sized : length bytes ≡ 4096
+  pub sized : length bytes ≡ page_size
   pub small : (k : ℕ) → slice_index bytes k < 256
 
 -- a number's lowest bytes at a place of a page, the least first

@@ -4,14 +4,17 @@
 ghost use Rattle.std.specs.Prelude.{◌≡◌, ◌↔◌, ℕ, ◌<◌, ◌+◌, ◌%◌, ◌≤◌, IfOk, IsOk, IsTrue, OnOk, OnErr, length, slice_index, slice_set};
 ghost use Rattle.page_store.specs.Bytes.{bytes_of, IsPage, with_number_in, overwritten};
 ghost use Rattle.memory_model.specs.Memory.{number_from, width_bytes};
+ghost use Rattle.memory_model.specs.Sizes.{page_size};
 
-use memory_model::Width;
+use memory_model::{PAGE_SIZE, Width};
 use std::alloc::{AllocError, Global};
+
+const SIZE: usize = PAGE_SIZE as usize;
 
 /// 4,096 bytes.
 #[derive(Drop)]
 pub struct Page {
-    pub bytes: [u8; 4096],
+    pub bytes: [u8; SIZE],
 }
 
 /// A page that is held. Contracts see it by its bytes, `bytes_of`.
@@ -27,7 +30,7 @@ impl PageRef {
         ensures zeros { IfOk result (λ page. (k : ℕ) → slice_index (bytes_of page) k ≡ 0) }
         ensures whole { IfOk result (λ page. IsPage (bytes_of page)) }
     {
-        let page = Box::new(alloc, Page { bytes: [0; 4096] })?;
+        let page = Box::new(alloc, Page { bytes: [0; SIZE] })?;
         let page = PageRef::Own(page);
         let _bytes = page.bytes();
         Ok(page)
@@ -47,7 +50,7 @@ impl PageRef {
 
     /// The page's bytes.
     #[inline(always)]
-    pub fn bytes(&self) -> &[u8; 4096]
+    pub fn bytes(&self) -> &[u8; SIZE]
         ensures bytes { result.now ≡ bytes_of self.now }
         ensures whole { IsPage (bytes_of self.now) }
     {
@@ -59,7 +62,7 @@ impl PageRef {
     /// Makes the byte at `at`, below 4,096, `value`. An own page takes no memory.
     #[inline(always)]
     pub fn write_byte(&mut self, at: u16, value: u8) -> Result<(), AllocError>
-        requires { at < 4096 }
+        requires { at < page_size }
         ensures ok { OnOk result (bytes_of self.new ≡ slice_set (bytes_of self.old) at value) }
         ensures own { IsOk result }
     {
@@ -72,7 +75,7 @@ impl PageRef {
     /// The number of `width` bytes at `at`, which lies below 4,096 and is a multiple of the width. The least byte comes first.
     #[inline(always)]
     pub fn number(&self, at: u16, width: Width) -> u32
-        requires within { at < 4096 }
+        requires within { at < page_size }
         requires aligned { at % width_bytes width ≡ 0 }
         ensures { result ≡ number_from (λ k. slice_index (bytes_of self.now) k) width at }
     {
@@ -83,7 +86,7 @@ impl PageRef {
     /// first. An own page takes no memory.
     #[inline(always)]
     pub fn write_number(&mut self, at: u16, width: Width, value: u32) -> Result<(), AllocError>
-        requires within { at < 4096 }
+        requires within { at < page_size }
         requires aligned { at % width_bytes width ≡ 0 }
         ensures ok { OnOk result (bytes_of self.new ≡ with_number_in (bytes_of self.old) at width value) }
         ensures own { IsOk result }
@@ -96,7 +99,7 @@ impl PageRef {
 
     /// Writes `bytes` from `at` on; they end within the page. An own page takes no memory.
     pub fn write_bytes(&mut self, at: u16, bytes: &[u8]) -> Result<(), AllocError>
-        requires { at + length bytes.now ≤ 4096 }
+        requires { at + length bytes.now ≤ page_size }
         ensures ok { OnOk result (bytes_of self.new ≡ overwritten (bytes_of self.old) at bytes.now) }
         ensures own { IsOk result }
     {
@@ -123,7 +126,7 @@ impl PageRef {
 
 // The same bytes, whose type keeps how many they are and that each is below 256.
 #[inline(always)]
-fn whole(bytes: &[u8; 4096]) -> &[u8; 4096]
+fn whole(bytes: &[u8; SIZE]) -> &[u8; SIZE]
     ensures bytes { result.now ≡ bytes.now }
     ensures whole { IsPage bytes.now }
 {
@@ -142,8 +145,8 @@ fn small(bytes: &[u8]) -> &[u8]
 
 // The number of `width` bytes at `at`.
 #[inline(always)]
-fn number_in(bytes: &[u8; 4096], at: usize, width: Width) -> u32
-    requires within { at < 4096 }
+fn number_in(bytes: &[u8; SIZE], at: usize, width: Width) -> u32
+    requires within { at < page_size }
     requires aligned { at % width_bytes width ≡ 0 }
     ensures { result ≡ number_from (λ k. slice_index bytes.now k) width at }
 {
@@ -161,8 +164,8 @@ fn number_in(bytes: &[u8; 4096], at: usize, width: Width) -> u32
 
 // The lowest `width` bytes of the value, at `at`.
 #[inline(always)]
-fn write_number_in(bytes: &mut [u8; 4096], at: usize, width: Width, value: u32)
-    requires within { at < 4096 }
+fn write_number_in(bytes: &mut [u8; SIZE], at: usize, width: Width, value: u32)
+    requires within { at < page_size }
     requires aligned { at % width_bytes width ≡ 0 }
     ensures { bytes.new ≡ with_number_in bytes.old at width value }
 {
@@ -182,15 +185,15 @@ fn write_number_in(bytes: &mut [u8; 4096], at: usize, width: Width, value: u32)
 }
 
 // These bytes from `at` on.
-fn overwrite(page: &mut [u8; 4096], at: usize, bytes: &[u8])
-    requires { at + length bytes.now ≤ 4096 }
+fn overwrite(page: &mut [u8; SIZE], at: usize, bytes: &[u8])
+    requires { at + length bytes.now ≤ page_size }
     ensures { page.new ≡ overwritten page.old at bytes.now }
 {
     page[at..at + bytes.len()].copy_from_slice(bytes);
 }
 
 // Whether every byte is 0: all are joined, with no branch between them.
-fn all_zero(bytes: &[u8; 4096]) -> bool
+fn all_zero(bytes: &[u8; SIZE]) -> bool
     ensures { IsTrue result ↔ ((k : ℕ) → slice_index bytes.now k ≡ 0) }
 {
     let mut joined = 0;
