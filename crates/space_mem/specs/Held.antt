@@ -5,6 +5,7 @@ use Rattle.std.specs.Prelude.{◌≡◌, ℕ, ◌/◌, ◌<◌, ◌≤◌, ◌�
 use Rattle.std.specs.Coded.{Coded, coded×, code_by}
 use Rattle.memory_model.specs.Sparse.{Sparse, coded_sparse, no_values, put, value_at}
 use Rattle.memory_model.specs.Memory.{Memory, coded_memory, no_memory, with_byte, with_number}
+use Rattle.memory_model.specs.Sizes.{page_size}
 use Rattle.memory_model.specs.declared.Width.{Width}
 
 -- each page that is owned has 1, and each other page 0: equal sets are equal values
@@ -32,11 +33,11 @@ owning h page m = record { memory = m; owned = put h.owned page 1 }
 
 -- a number is stored at an aligned address
 abbrev pub with_stored : Held → ℕ → Width → ℕ → Held
-with_stored h at width v = owning h (at / 4096) (with_number h.memory at width v)
+with_stored h at width v = owning h (at / page_size) (with_number h.memory at width v)
 
 -- a byte is written
 abbrev pub with_written : Held → ℕ → ℕ → Held
-with_written h at v = owning h (at / 4096) (with_byte h.memory at v)
+with_written h at v = owning h (at / page_size) (with_byte h.memory at v)
 
 -- the bytes and permissions of a memory, where there is one
 abbrev pub memory_in : Option Held → Option Memory

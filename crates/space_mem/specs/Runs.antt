@@ -4,6 +4,7 @@ use Rattle.std.specs.Prelude.{◌≡◌, ℕ, zero, suc, ◌+◌, ◌-◌, ◌/�
 use Rattle.memory_model.specs.Sparse.{Sparse, no_values}
 use Rattle.memory_model.specs.Memory.{Memory}
 use Rattle.memory_model.specs.Ranges.{with_row}
+use Rattle.memory_model.specs.Sizes.{page_size, pages}
 use Rattle.page_store.specs.declared.PageRef.{PageRef}
 use Rattle.page_store.specs.Bytes.{bytes_of, IsPage}
 use Rattle.space_mem.specs.declared.layout.Run.{Run}
@@ -40,8 +41,8 @@ byte_of (Some r) k = byte_in r.page k
 -- the memory with these permissions of pages and these bytes of pages
 abbrev pub memory_by : (ℕ → ℕ) → (ℕ → ℕ → ℕ) → Memory
 memory_by permission byte = record {
-  bytes = with_row no_values 0 (λ a. byte (a / 4096) (a % 4096)) 4294967296;
-  permissions = with_row no_values 0 permission 1048576;
+  bytes = with_row no_values 0 (λ a. byte (a / page_size) (a % page_size)) 4294967296;
+  permissions = with_row no_values 0 permission pages;
 }
 
 -- the memory that runs stand for
@@ -55,7 +56,7 @@ has_bytes (Some r) = is_some r.page
 
 -- the set of these pages
 abbrev pub owned_by : (ℕ → Bool) → Sparse
-owned_by owned = with_row no_values 0 (λ p. cond (owned p) 1 0) 1048576
+owned_by owned = with_row no_values 0 (λ p. cond (owned p) 1 0) pages
 
 -- what contracts see of runs: a page is owned where bytes of it are kept
 abbrev pub held_of : List Run → Held
@@ -88,6 +89,10 @@ pub record IsRun (r : Run) : Type 0 where
 abbrev pub Ordered : ℕ → ℕ → List Run → Type 0
 Ordered low high [] = low ≤ high
 Ordered low high (r ∷ rs) = IsRun r × ((low ≤ r.first) × Ordered (end_of r) high rs)
+
+-- the runs of a memory: in the order of their pages, none of which is in two or past the end of memory
+abbrev pub InOrder : List Run → Type 0
+InOrder rs = Ordered 0 pages rs
 
 -- no run has pages on both sides of a page's start
 abbrev pub IsCut : ℕ → List Run → Type 0
@@ -142,7 +147,7 @@ pub record IsSpan (first end : ℕ) (rs : List Run) (i j : ℕ) : Type 0 where
   pub within : j ≤ length rs
   pub left : Ordered 0 first (take i rs)
   pub middle : Ordered first end (take (j - i) (drop i rs))
-  pub right : Ordered end 1048576 (drop j rs)
+  pub right : Ordered end pages (drop j rs)
 
 -- each page between two has a permission; bytes, and of which pages they are kept, are as in other runs
 pub record IsFilled (first end right : ℕ) (rs ss : List Run) : Type 0 where

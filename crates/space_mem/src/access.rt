@@ -2,16 +2,17 @@ ghost use Rattle.std.specs.Prelude.{◌≡◌, ℕ, ◌+◌, ◌/◌, ◌%◌, �
 ghost use Rattle.memory_model.specs.Memory.{number_from, width_bytes, byte_at, permission_at, may_read, may_write};
 ghost use Rattle.memory_model.specs.Ranges.{IsBounded};
 ghost use Rattle.memory_model.specs.declared.Width.TheVariants.{Four};
-ghost use Rattle.space_mem.specs.Runs.{Ordered, memory_of, run_of, byte_in, IsFound};
+ghost use Rattle.space_mem.specs.Runs.{InOrder, memory_of, run_of, byte_in, IsFound};
+ghost use Rattle.memory_model.specs.Sizes.{page_size};
 
 use crate::guesses::Guesses;
 use crate::layout::Run;
 use crate::search::place;
-use memory_model::Width;
+use memory_model::{PAGE_SIZE, Width};
 
 // The index of the run that has a page.
 pub fn found(runs: &[Run], page: u32) -> Option<usize>
-    requires { Ordered 0 1048576 runs.now }
+    requires { InOrder runs.now }
     ensures some { IfSome result (IsFound page runs.now) }
     ensures none { IsNone result → run_of runs.now page ≡ None }
 {
@@ -25,15 +26,15 @@ pub fn found(runs: &[Run], page: u32) -> Option<usize>
 // The number of `width` bytes at an aligned address, if it may be read. A guess at its run is tried first.
 #[inline(always)]
 pub fn load(runs: &[Run], guesses: &Guesses, at: u32, width: Width) -> Option<u32>
-    requires ordered { Ordered 0 1048576 runs.now }
+    requires ordered { InOrder runs.now }
     requires aligned { at % width_bytes width ≡ 0 }
     ensures { let m = memory_of runs.now in result ≡ (if may_read m at then Some (number_from (byte_at m) width at) else None) }
 {
-    let asked = guesses.of(at / 4096);
+    let asked = guesses.of(at / PAGE_SIZE);
     if asked < runs.len() {
         let run = &runs[asked];
-        if run.first == at / 4096 {
-            return load_in(run, (at % 4096) as u16, width);
+        if run.first == at / PAGE_SIZE {
+            return load_in(run, (at % PAGE_SIZE) as u16, width);
         }
     }
     load_slow(runs, guesses, at, width)
@@ -41,14 +42,14 @@ pub fn load(runs: &[Run], guesses: &Guesses, at: u32, width: Width) -> Option<u3
 
 #[inline(never)]
 fn load_slow(runs: &[Run], guesses: &Guesses, at: u32, width: Width) -> Option<u32>
-    requires ordered { Ordered 0 1048576 runs.now }
+    requires ordered { InOrder runs.now }
     requires aligned { at % width_bytes width ≡ 0 }
     ensures { let m = memory_of runs.now in result ≡ (if may_read m at then Some (number_from (byte_at m) width at) else None) }
 {
-    match found(runs, at / 4096) {
+    match found(runs, at / PAGE_SIZE) {
         Some(place) => {
-            guesses.remember(at / 4096, place);
-            load_in(&runs[place], (at % 4096) as u16, width)
+            guesses.remember(at / PAGE_SIZE, place);
+            load_in(&runs[place], (at % PAGE_SIZE) as u16, width)
         }
         None => None,
     }
@@ -57,7 +58,7 @@ fn load_slow(runs: &[Run], guesses: &Guesses, at: u32, width: Width) -> Option<u
 // The number at a place of a run's page, if the run may be read.
 #[inline(always)]
 fn load_in(run: &Run, at: u16, width: Width) -> Option<u32>
-    requires within { at < 4096 }
+    requires within { at < page_size }
     requires aligned { at % width_bytes width ≡ 0 }
     ensures { result ≡ (if run.now.permission % 2 == 1 then Some (number_from (byte_in run.now.page) width at) else None) }
 {
@@ -70,7 +71,7 @@ fn load_in(run: &Run, at: u16, width: Width) -> Option<u32>
 // The number at a place of a run's page, whatever its permission.
 #[inline(always)]
 fn number_in(run: &Run, at: u16, width: Width) -> u32
-    requires within { at < 4096 }
+    requires within { at < page_size }
     requires aligned { at % width_bytes width ≡ 0 }
     ensures { result ≡ number_from (byte_in run.now.page) width at }
 {
@@ -83,15 +84,15 @@ fn number_in(run: &Run, at: u16, width: Width) -> u32
 // The word at a multiple of 4, whatever the permission. A guess at its run is tried first.
 #[inline(always)]
 pub fn word(runs: &[Run], guesses: &Guesses, at: u32) -> u32
-    requires ordered { Ordered 0 1048576 runs.now }
+    requires ordered { InOrder runs.now }
     requires aligned { at % 4 ≡ 0 }
     ensures { result ≡ number_from (byte_at (memory_of runs.now)) Four at }
 {
-    let asked = guesses.of(at / 4096);
+    let asked = guesses.of(at / PAGE_SIZE);
     if asked < runs.len() {
         let run = &runs[asked];
-        if run.first == at / 4096 {
-            return number_in(run, (at % 4096) as u16, Width::Four);
+        if run.first == at / PAGE_SIZE {
+            return number_in(run, (at % PAGE_SIZE) as u16, Width::Four);
         }
     }
     word_slow(runs, guesses, at)
@@ -99,14 +100,14 @@ pub fn word(runs: &[Run], guesses: &Guesses, at: u32) -> u32
 
 #[inline(never)]
 fn word_slow(runs: &[Run], guesses: &Guesses, at: u32) -> u32
-    requires ordered { Ordered 0 1048576 runs.now }
+    requires ordered { InOrder runs.now }
     requires aligned { at % 4 ≡ 0 }
     ensures { result ≡ number_from (byte_at (memory_of runs.now)) Four at }
 {
-    match found(runs, at / 4096) {
+    match found(runs, at / PAGE_SIZE) {
         Some(place) => {
-            guesses.remember(at / 4096, place);
-            number_in(&runs[place], (at % 4096) as u16, Width::Four)
+            guesses.remember(at / PAGE_SIZE, place);
+            number_in(&runs[place], (at % PAGE_SIZE) as u16, Width::Four)
         }
         None => 0,
     }
@@ -115,13 +116,13 @@ fn word_slow(runs: &[Run], guesses: &Guesses, at: u32) -> u32
 // Whether the page of an address may be written. A guess at its run is tried first.
 #[inline(always)]
 pub fn can_store(runs: &[Run], guesses: &Guesses, at: u32) -> bool
-    requires { Ordered 0 1048576 runs.now }
+    requires { InOrder runs.now }
     ensures { result ≡ may_write (memory_of runs.now) at }
 {
-    let asked = guesses.of(at / 4096);
+    let asked = guesses.of(at / PAGE_SIZE);
     if asked < runs.len() {
         let run = &runs[asked];
-        if run.first == at / 4096 {
+        if run.first == at / PAGE_SIZE {
             return run.permission / 2 % 2 == 1;
         }
     }
@@ -130,12 +131,12 @@ pub fn can_store(runs: &[Run], guesses: &Guesses, at: u32) -> bool
 
 #[inline(never)]
 fn can_store_slow(runs: &[Run], guesses: &Guesses, at: u32) -> bool
-    requires { Ordered 0 1048576 runs.now }
+    requires { InOrder runs.now }
     ensures { result ≡ may_write (memory_of runs.now) at }
 {
-    match found(runs, at / 4096) {
+    match found(runs, at / PAGE_SIZE) {
         Some(place) => {
-            guesses.remember(at / 4096, place);
+            guesses.remember(at / PAGE_SIZE, place);
             let run = &runs[place];
             run.permission / 2 % 2 == 1
         }
@@ -145,7 +146,7 @@ fn can_store_slow(runs: &[Run], guesses: &Guesses, at: u32) -> bool
 
 // The permission of a page.
 pub fn permission(runs: &[Run], page: u32) -> u8
-    requires { Ordered 0 1048576 runs.now }
+    requires { InOrder runs.now }
     ensures { result ≡ permission_at (memory_of runs.now) page }
 {
     match found(runs, page) {
@@ -159,13 +160,13 @@ pub fn permission(runs: &[Run], page: u32) -> u8
 
 // The byte at an address.
 pub fn byte(runs: &[Run], at: u32) -> u8
-    requires { Ordered 0 1048576 runs.now }
+    requires { InOrder runs.now }
     ensures { result ≡ byte_at (memory_of runs.now) at }
 {
-    match found(runs, at / 4096) {
+    match found(runs, at / PAGE_SIZE) {
         Some(place) => {
             let run = &runs[place];
-            byte_in(run, (at % 4096) as u16)
+            byte_in(run, (at % PAGE_SIZE) as u16)
         }
         None => 0,
     }
@@ -173,7 +174,7 @@ pub fn byte(runs: &[Run], at: u32) -> u8
 
 // The byte at a place of a run's page.
 fn byte_in(run: &Run, at: u16) -> u8
-    requires { at < 4096 }
+    requires { at < page_size }
     ensures { result ≡ byte_in run.now.page at }
 {
     match &run.page {
@@ -185,7 +186,7 @@ fn byte_in(run: &Run, at: u16) -> u8
 // What every memory keeps.
 #[inline(always)]
 pub fn bounds(runs: &[Run])
-    requires { Ordered 0 1048576 runs.now }
+    requires { InOrder runs.now }
     ensures { IsBounded (memory_of runs.now) }
 {
     let _runs = runs;

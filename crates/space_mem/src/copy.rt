@@ -1,7 +1,8 @@
 ghost use Rattle.std.specs.Prelude.{◌≡◌, ℕ, ◌+◌, ◌-◌, ◌*◌, ◌<◌, ◌≤◌, ◌++◌, take, drop, IfOk, OnOk, OnErr, IsOk, length, vec_len};
 ghost use Rattle.memory_model.specs.Ranges.{with_copies};
-ghost use Rattle.space_mem.specs.Runs.{Ordered, IsRun, IsPlace, IsMoved, AreMoved, memory_of, held_of};
+ghost use Rattle.space_mem.specs.Runs.{InOrder, IsRun, IsPlace, IsMoved, AreMoved, memory_of, held_of};
 ghost use Rattle.space_mem.specs.Held.{OwnSameOutside};
+ghost use Rattle.memory_model.specs.Sizes.{pages};
 
 use crate::layout::Run;
 use crate::search::place;
@@ -17,12 +18,12 @@ pub fn copy(
     first: u32,
     end: u32,
 ) -> Result<(), AllocError>
-    requires ordered { Ordered 0 1048576 runs.old.items }
-    requires source { Ordered 0 1048576 source.now }
+    requires ordered { InOrder runs.old.items }
+    requires source { InOrder source.now }
     requires rise { first ≤ end }
-    requires within { end ≤ 1048576 }
-    requires in_range { from + (end - first) ≤ 1048576 }
-    ensures ordered { Ordered 0 1048576 runs.new.items }
+    requires within { end ≤ pages }
+    requires in_range { from + (end - first) ≤ pages }
+    ensures ordered { InOrder runs.new.items }
     ensures ok { OnOk result (memory_of runs.new.items ≡ with_copies (memory_of runs.old.items) (memory_of source.now) from first (end - first)) }
     ensures err { OnErr result (held_of runs.new.items ≡ held_of runs.old.items) }
     ensures outside { OnOk result (OwnSameOutside first end (held_of runs.new.items) (held_of runs.old.items)) }
@@ -41,10 +42,10 @@ fn moved_runs(
     first: u32,
     end: u32,
 ) -> Result<Vec<Run>, AllocError>
-    requires source { Ordered 0 1048576 source.now }
+    requires source { InOrder source.now }
     requires rise { first ≤ end }
-    requires within { end ≤ 1048576 }
-    requires in_range { from + (end - first) ≤ 1048576 }
+    requires within { end ≤ pages }
+    requires in_range { from + (end - first) ≤ pages }
     ensures { IfOk result (λ moved. AreMoved source.now from first end moved.items) }
 {
     let stop = from + (end - first);
@@ -70,7 +71,7 @@ fn moved_run(alloc: Global, run: &Run, low: u32, count: u32, first: u32) -> Resu
     requires some { 0 < count }
     requires from { run.now.first ≤ low }
     requires to { low + count ≤ run.now.first + run.now.count }
-    requires within { first + count ≤ 1048576 }
+    requires within { first + count ≤ pages }
     ensures { IfOk result (λ moved. IsMoved run.now moved first count) }
 {
     let mut moved = run_copied(alloc, run)?;

@@ -1,5 +1,6 @@
 ghost use Rattle.std.specs.Prelude.{◌≡◌, ℕ, ◌+◌, ◌<◌, ◌≤◌, IfOk, OnOk, OnErr, length};
-ghost use Rattle.space_mem.specs.Runs.{Ordered, IsPlace, IsCut, IsEntry, SamePages, SameOwned};
+ghost use Rattle.space_mem.specs.Runs.{InOrder, IsPlace, IsCut, IsEntry, SamePages, SameOwned};
+ghost use Rattle.memory_model.specs.Sizes.{pages};
 
 use crate::layout::Run;
 use crate::search::place;
@@ -7,8 +8,8 @@ use std::alloc::AllocError;
 
 // Parts the run that has pages on both sides of the start of `page`, if there is one.
 pub fn cut(runs: &mut Vec<Run>, page: u32) -> Result<(), AllocError>
-    requires ordered { Ordered 0 1048576 runs.old.items }
-    ensures ordered { Ordered 0 1048576 runs.new.items }
+    requires ordered { InOrder runs.old.items }
+    ensures ordered { InOrder runs.new.items }
     ensures same { SamePages runs.new.items runs.old.items }
     ensures owned { SameOwned runs.new.items runs.old.items }
     ensures cut { OnOk result (IsCut page runs.new.items) }
@@ -34,9 +35,9 @@ pub fn cut(runs: &mut Vec<Run>, page: u32) -> Result<(), AllocError>
 
 // The index of the run of `page` alone, which is made if there is none.
 pub fn entry(runs: &mut Vec<Run>, page: u32) -> Result<usize, AllocError>
-    requires ordered { Ordered 0 1048576 runs.old.items }
-    requires in_range { page < 1048576 }
-    ensures ordered { Ordered 0 1048576 runs.new.items }
+    requires ordered { InOrder runs.old.items }
+    requires in_range { page < pages }
+    ensures ordered { InOrder runs.new.items }
     ensures same { SamePages runs.new.items runs.old.items }
     ensures owned { SameOwned runs.new.items runs.old.items }
     ensures entry { IfOk result (λ i. IsEntry page runs.new.items i) }

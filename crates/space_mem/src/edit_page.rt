@@ -1,7 +1,8 @@
 ghost use Rattle.std.specs.Prelude.{◌≡◌, ℕ, ◌+◌, ◌*◌, ◌/◌, ◌%◌, ◌<◌, ◌≤◌, IfOk, OnOk, OnErr, IsOk, IsTrue, IfSome, IsNone, length, slice_set, slice_index_or, IsSome};
 ghost use Rattle.memory_model.specs.Memory.{width_bytes};
 ghost use Rattle.page_store.specs.Bytes.{bytes_of, with_number_in, overwritten};
-ghost use Rattle.space_mem.specs.Runs.{Ordered, IsEntry, IsOwned, HasPage, SamePages, SameOwned, OwnsToo, SetsPage, IsEdited};
+ghost use Rattle.space_mem.specs.Runs.{InOrder, IsEntry, IsOwned, HasPage, SamePages, SameOwned, OwnsToo, SetsPage, IsEdited};
+ghost use Rattle.memory_model.specs.Sizes.{page_size, pages};
 
 use crate::access::found;
 use crate::edit::entry;
@@ -12,9 +13,9 @@ use std::alloc::AllocError;
 
 // The index of the run of `page` alone, which keeps bytes from then on. It takes no memory where it kept some before.
 pub fn page_at(runs: &mut Vec<Run>, page: u32) -> Result<usize, AllocError>
-    requires ordered { Ordered 0 1048576 runs.old.items }
-    requires in_range { page < 1048576 }
-    ensures ordered { Ordered 0 1048576 runs.new.items }
+    requires ordered { InOrder runs.old.items }
+    requires in_range { page < pages }
+    ensures ordered { InOrder runs.new.items }
     ensures same { SamePages runs.new.items runs.old.items }
     ensures entry { IfOk result (λ i. IsEntry page runs.new.items i) }
     ensures kept { IfOk result (λ i. HasPage runs.new.items i) }
@@ -30,7 +31,7 @@ pub fn page_at(runs: &mut Vec<Run>, page: u32) -> Result<usize, AllocError>
 
 // The index of the run of a page that keeps bytes.
 fn kept(runs: &[Run], page: u32) -> Option<usize>
-    requires ordered { Ordered 0 1048576 runs.now }
+    requires ordered { InOrder runs.now }
     ensures some { IfSome result (λ i. IsEntry page runs.now i × HasPage runs.now i) }
     ensures none { IsNone result → IsOwned runs.now page → ⊥ }
 {
@@ -45,9 +46,9 @@ fn kept(runs: &[Run], page: u32) -> Option<usize>
 // A page's own run, with zeros where it kept no bytes.
 #[inline(never)]
 fn make_page(runs: &mut Vec<Run>, page: u32) -> Result<usize, AllocError>
-    requires ordered { Ordered 0 1048576 runs.old.items }
-    requires in_range { page < 1048576 }
-    ensures ordered { Ordered 0 1048576 runs.new.items }
+    requires ordered { InOrder runs.old.items }
+    requires in_range { page < pages }
+    ensures ordered { InOrder runs.new.items }
     ensures same { SamePages runs.new.items runs.old.items }
     ensures entry { IfOk result (λ i. IsEntry page runs.new.items i) }
     ensures kept { IfOk result (λ i. HasPage runs.new.items i) }
@@ -73,11 +74,11 @@ pub fn set_byte(
     place: u16,
     value: u8,
 ) -> Result<(), AllocError>
-    requires ordered { Ordered 0 1048576 runs.old.items }
+    requires ordered { InOrder runs.old.items }
     requires entry { IsEntry page runs.old.items at }
     requires kept { HasPage runs.old.items at }
-    requires within { place < 4096 }
-    ensures ordered { Ordered 0 1048576 runs.new.items }
+    requires within { place < page_size }
+    ensures ordered { InOrder runs.new.items }
     ensures ok { OnOk result (IsEdited page (λ bytes. slice_set bytes place value) runs.old.items runs.new.items) }
     ensures own { IsOk result }
 {
@@ -101,12 +102,12 @@ pub fn set_number(
     width: Width,
     value: u32,
 ) -> Result<(), AllocError>
-    requires ordered { Ordered 0 1048576 runs.old.items }
+    requires ordered { InOrder runs.old.items }
     requires entry { IsEntry page runs.old.items at }
     requires kept { HasPage runs.old.items at }
-    requires within { place < 4096 }
+    requires within { place < page_size }
     requires aligned { place % width_bytes width ≡ 0 }
-    ensures ordered { Ordered 0 1048576 runs.new.items }
+    ensures ordered { InOrder runs.new.items }
     ensures ok { OnOk result (IsEdited page (λ bytes. with_number_in bytes place width value) runs.old.items runs.new.items) }
     ensures own { IsOk result }
 {
@@ -128,11 +129,11 @@ pub fn set_bytes(
     place: u16,
     new: &[u8],
 ) -> Result<(), AllocError>
-    requires ordered { Ordered 0 1048576 runs.old.items }
+    requires ordered { InOrder runs.old.items }
     requires entry { IsEntry page runs.old.items at }
     requires kept { HasPage runs.old.items at }
-    requires within { place + length new.now ≤ 4096 }
-    ensures ordered { Ordered 0 1048576 runs.new.items }
+    requires within { place + length new.now ≤ page_size }
+    ensures ordered { InOrder runs.new.items }
     ensures ok { OnOk result (IsEdited page (λ bytes. overwritten bytes place new.now) runs.old.items runs.new.items) }
     ensures own { IsOk result }
 {
@@ -148,9 +149,9 @@ pub fn set_bytes(
 
 // Puts a page's bytes in the place of those that its run keeps.
 pub fn set_page(runs: &mut Vec<Run>, at: usize, page: u32, new: PageRef)
-    requires ordered { Ordered 0 1048576 runs.old.items }
+    requires ordered { InOrder runs.old.items }
     requires entry { IsEntry page runs.old.items at }
-    ensures ordered { Ordered 0 1048576 runs.new.items }
+    ensures ordered { InOrder runs.new.items }
     ensures sets { SetsPage page (bytes_of new) runs.old.items runs.new.items }
 {
     let _whole = new.bytes();

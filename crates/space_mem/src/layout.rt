@@ -1,4 +1,5 @@
 ghost use Rattle.std.specs.Prelude.{◌+◌, ◌≤◌};
+ghost use Rattle.memory_model.specs.Sizes.{pages};
 
 use page_store::PageRef;
 
@@ -16,5 +17,5 @@ pub struct Run {
 pub struct Pages {
     pub first: u32,
     pub count: u32,
-    pub ghost within: { first + count ≤ 1048576 },
+    pub ghost within: { first + count ≤ pages },
 }

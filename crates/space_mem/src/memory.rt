@@ -26,7 +26,7 @@ pub struct Mem {
 
 impl Model for Mem {
     ghost use Rattle.space_mem.specs.Held.{Held, coded_held};
-    ghost use Rattle.space_mem.specs.Runs.{Ordered, held_of};
+    ghost use Rattle.space_mem.specs.Runs.{InOrder, held_of};
 
     ghost Value = { Held };
 
@@ -34,7 +34,7 @@ impl Model for Mem {
 
     ghost view = { λ m. held_of m.runs.items };
 
-    ghost invariant = { λ m. Ordered 0 1048576 m.runs.items };
+    ghost invariant = { λ m. InOrder m.runs.items };
 }
 
 impl Mem {

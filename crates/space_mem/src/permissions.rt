@@ -1,7 +1,8 @@
 ghost use Rattle.std.specs.Prelude.{◌≡◌, ℕ, ◌+◌, ◌-◌, ◌*◌, ◌<◌, ◌≤◌, ◌++◌, [], ◌∷◌, take, drop, IfOk, OnOk, OnErr, IsOk, length, vec_len, vec_capacity};
-ghost use Rattle.space_mem.specs.Runs.{Ordered, IsSpan, IsFilled, IsRefilled, memory_of, held_of};
+ghost use Rattle.space_mem.specs.Runs.{InOrder, Ordered, IsSpan, IsFilled, IsRefilled, memory_of, held_of};
 ghost use Rattle.memory_model.specs.Memory.{with_permissions};
 ghost use Rattle.space_mem.specs.Fills.{blank_runs};
+ghost use Rattle.memory_model.specs.Sizes.{pages};
 
 use crate::layout::Run;
 use crate::spans::{Span, part_at};
@@ -67,7 +68,7 @@ fn refill(
     end: u32,
     permission: u8,
 ) -> Result<(), AllocError>
-    requires ordered { Ordered 0 1048576 runs.old.items }
+    requires ordered { InOrder runs.old.items }
     requires span { IsSpan first end runs.old.items span.from span.to }
     requires permission { permission < 4 }
     requires rise { first ≤ end }
@@ -109,11 +110,11 @@ pub fn set_permission(
     end: u32,
     permission: u8,
 ) -> Result<(), AllocError>
-    requires ordered { Ordered 0 1048576 runs.old.items }
+    requires ordered { InOrder runs.old.items }
     requires rise { first ≤ end }
-    requires within { end ≤ 1048576 }
+    requires within { end ≤ pages }
     requires permission { permission < 4 }
-    ensures ordered { Ordered 0 1048576 runs.new.items }
+    ensures ordered { InOrder runs.new.items }
     ensures ok { OnOk result (held_of runs.new.items ≡ record (held_of runs.old.items) { memory = with_permissions (memory_of runs.old.items) first (end - first) permission }) }
     ensures err { OnErr result (held_of runs.new.items ≡ held_of runs.old.items) }
 {

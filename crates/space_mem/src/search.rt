@@ -1,11 +1,11 @@
 ghost use Rattle.std.specs.Prelude.{◌≡◌, ℕ, ◌+◌, ◌<◌, ◌≤◌, length};
-ghost use Rattle.space_mem.specs.Runs.{Ordered, IsPlace};
+ghost use Rattle.space_mem.specs.Runs.{InOrder, IsPlace};
 
 use crate::layout::Run;
 
 // The place of the first run that ends past a page.
 pub fn place(runs: &[Run], page: u32) -> usize
-    requires { Ordered 0 1048576 runs.now }
+    requires { InOrder runs.now }
     ensures in_range { result ≤ length runs.now }
     ensures place { IsPlace page runs.now result }
 {

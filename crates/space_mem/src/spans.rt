@@ -1,5 +1,6 @@
 ghost use Rattle.std.specs.Prelude.{◌≡◌, ℕ, ◌+◌, ◌-◌, ◌*◌, ◌<◌, ◌≤◌, ◌++◌, take, drop, IfOk, OnOk, OnErr, IsOk, length, vec_len};
-ghost use Rattle.space_mem.specs.Runs.{Ordered, SamePages, SameOwned, IsSpan};
+ghost use Rattle.space_mem.specs.Runs.{InOrder, SamePages, SameOwned, IsSpan};
+ghost use Rattle.memory_model.specs.Sizes.{pages};
 
 use crate::edit::cut;
 use crate::layout::Run;
@@ -15,10 +16,10 @@ pub struct Span {
 
 // Parts the runs at both pages, and finds those between.
 pub fn part_at(runs: &mut Vec<Run>, first: u32, end: u32) -> Result<Span, AllocError>
-    requires ordered { Ordered 0 1048576 runs.old.items }
+    requires ordered { InOrder runs.old.items }
     requires rise { first ≤ end }
-    requires within { end ≤ 1048576 }
-    ensures ordered { Ordered 0 1048576 runs.new.items }
+    requires within { end ≤ pages }
+    ensures ordered { InOrder runs.new.items }
     ensures same { SamePages runs.new.items runs.old.items }
     ensures owned { SameOwned runs.new.items runs.old.items }
     ensures span { IfOk result (λ s. IsSpan first end runs.new.items s.from s.to) }

@@ -1,7 +1,8 @@
 ghost use Rattle.std.specs.Prelude.{◌≡◌, ℕ, ◌+◌, ◌*◌, ◌<◌, ◌≤◌, IfOk, IfSome, IsNone, IsTrue, IsFalse, length};
 ghost use Rattle.page_store.specs.Bytes.{bytes_of};
-ghost use Rattle.space_mem.specs.Runs.{Ordered, SamePages, IsRun, IsCopy, IsBlankRun, memory_of};
+ghost use Rattle.space_mem.specs.Runs.{InOrder, SamePages, IsRun, IsCopy, IsBlankRun, memory_of};
 ghost use Rattle.memory_model.specs.Ranges.{IsZeroPage, IsPageOf, IsNextPage, NoneUsed};
+ghost use Rattle.memory_model.specs.Sizes.{pages};
 
 use crate::access::found;
 use crate::layout::Run;
@@ -11,8 +12,8 @@ use std::alloc::{AllocError, Global};
 
 // Runs of the same pages, with copies of their bytes.
 pub fn copied(alloc: Global, runs: &[Run]) -> Result<Vec<Run>, AllocError>
-    requires { Ordered 0 1048576 runs.now }
-    ensures ordered { IfOk result (λ copies. Ordered 0 1048576 copies.items) }
+    requires { InOrder runs.now }
+    ensures ordered { IfOk result (λ copies. InOrder copies.items) }
     ensures same { IfOk result (λ copies. SamePages copies.items runs.now) }
 {
     let mut copies = Vec::with_capacity(alloc, runs.len())?;
@@ -41,7 +42,7 @@ pub fn run_copied(alloc: Global, run: &Run) -> Result<Run, AllocError>
 
 // The bytes that are kept of a page.
 pub fn page(runs: &[Run], page: u32) -> Option<&PageRef>
-    requires ordered { Ordered 0 1048576 runs.now }
+    requires ordered { InOrder runs.now }
     ensures some { IfSome result (λ kept. IsPageOf (memory_of runs.now) page (bytes_of kept.now)) }
     ensures none { IsNone result → IsZeroPage (memory_of runs.now) page }
 {
@@ -67,9 +68,9 @@ fn kept_page(run: &Run) -> Option<&PageRef>
 
 // The least page from `n` on that has a permission or a byte other than 0.
 pub fn next_page(runs: &[Run], n: u32) -> Option<u32>
-    requires ordered { Ordered 0 1048576 runs.now }
+    requires ordered { InOrder runs.now }
     ensures some { IfSome result (IsNextPage (memory_of runs.now) n) }
-    ensures none { IsNone result → NoneUsed (memory_of runs.now) n 1048576 }
+    ensures none { IsNone result → NoneUsed (memory_of runs.now) n pages }
 {
     let from = place(runs, n);
     for i in from..runs.len() {

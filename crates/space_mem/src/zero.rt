@@ -1,8 +1,9 @@
 ghost use Rattle.std.specs.Prelude.{◌≡◌, ℕ, ◌+◌, ◌-◌, ◌*◌, ◌<◌, ◌≤◌, ◌++◌, map, take, drop, IfOk, OnOk, OnErr, IsOk, length, vec_len};
 ghost use Rattle.memory_model.specs.Ranges.{with_zeros};
-ghost use Rattle.space_mem.specs.Runs.{Ordered, memory_of, held_of};
+ghost use Rattle.space_mem.specs.Runs.{InOrder, memory_of, held_of};
 ghost use Rattle.space_mem.specs.Held.{OwnSameOutside};
 ghost use Rattle.space_mem.specs.Fills.{cleared};
+ghost use Rattle.memory_model.specs.Sizes.{pages};
 
 use crate::layout::Run;
 use crate::spans::{Span, part_at};
@@ -10,10 +11,10 @@ use std::alloc::AllocError;
 
 // Makes the bytes of each page from `first` to before `end` 0.
 pub fn zero(runs: &mut Vec<Run>, first: u32, end: u32) -> Result<(), AllocError>
-    requires ordered { Ordered 0 1048576 runs.old.items }
+    requires ordered { InOrder runs.old.items }
     requires rise { first ≤ end }
-    requires within { end ≤ 1048576 }
-    ensures ordered { Ordered 0 1048576 runs.new.items }
+    requires within { end ≤ pages }
+    ensures ordered { InOrder runs.new.items }
     ensures ok { OnOk result (memory_of runs.new.items ≡ with_zeros (memory_of runs.old.items) first (end - first)) }
     ensures err { OnErr result (held_of runs.new.items ≡ held_of runs.old.items) }
     ensures outside { OnOk result (OwnSameOutside first end (held_of runs.new.items) (held_of runs.old.items)) }

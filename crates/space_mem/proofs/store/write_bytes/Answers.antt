@@ -7,16 +7,16 @@ use Rattle.space_mem.proofs.PageEdits.{always, on_ok}
 use Rattle.space_mem.proofs.Owned.{kept_owns, owns_kept}
 use Rattle.space_mem.proofs.store.write_bytes.Goals as goal
 
-pub returns-then-at-bytes-le4096-clause-owns : goal.returns-then-at-bytes-le4096-clause-owns
-returns-then-at-bytes-le4096-clause-owns c = on_ok c.write_in_page.result _ _ c.write_in_page.ensures.here (λ here k below.
+pub returns-then-at-bytes-clause-owns : goal.returns-then-at-bytes-clause-owns
+returns-then-at-bytes-clause-owns c = on_ok c.write_in_page.result _ _ c.write_in_page.ensures.here (λ here k below.
     let same : c.args.at / 4096 ≡ (c.args.at + k) / 4096 = omega arith in
     kept_owns _ _ c.write_in_page.ensures.ordered (subst (IsOwned c.write_in_page.new.runs.items) same here))
 
-pub returns-then-at-bytes-le4096-clause-stays : goal.returns-then-at-bytes-le4096-clause-stays
-returns-then-at-bytes-le4096-clause-stays c page owns = kept_owns _ page c.write_in_page.ensures.ordered (c.write_in_page.ensures.kept page (owns_kept _ page c.requires.ordered owns))
+pub returns-then-at-bytes-clause-stays : goal.returns-then-at-bytes-clause-stays
+returns-then-at-bytes-clause-stays c page owns = kept_owns _ page c.write_in_page.ensures.ordered (c.write_in_page.ensures.kept page (owns_kept _ page c.requires.ordered owns))
 
-pub returns-then-at-bytes-le4096-clause-idle : goal.returns-then-at-bytes-le4096-clause-idle
-returns-then-at-bytes-le4096-clause-idle c owns =
+pub returns-then-at-bytes-clause-idle : goal.returns-then-at-bytes-clause-idle
+returns-then-at-bytes-clause-idle c owns =
     let same : (c.args.at + 0) / 4096 ≡ c.args.at / 4096 = omega arith in
     let some : 0 < length c.args.bytes.now = grind (arith, nat_tests, c.if-is_empty.ensures, c.is_empty.ensures) in
     c.write_in_page.ensures.own (owns_kept _ _ c.requires.ordered (subst (Owns (held_of c.args.runs.now.items)) same (owns 0 some)))
