@@ -10,10 +10,6 @@ greatest_child = 65535
 abbrev pub greatest_depth : ℕ
 greatest_depth = 8
 
--- the bytes of a page
-abbrev pub page_size : ℕ
-page_size = 4096
-
 -- the greatest length, in bytes, that a call of a device names
 abbrev pub greatest_length : ℕ
 greatest_length = 65536

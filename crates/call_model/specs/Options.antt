@@ -3,7 +3,8 @@
 -- Source: OSDI 2010, "Efficient System-Enforced Deterministic Parallelism", the kernel interface: the options of Put and Get.
 -- Our choice: their bits, and which do not stand together.
 use Rattle.std.specs.Prelude.{◌≡◌, ◌≤◌, ℕ, ◌+◌, ◌/◌, ◌%◌, ◌^◌, ◌==◌, Bool, not, ◌&&◌, ◌||◌, nat_lt, bit_and}
-use Rattle.call_model.specs.Limits.{page_size, last_block}
+use Rattle.memory_model.specs.Sizes.{page_size}
+use Rattle.call_model.specs.Limits.{last_block}
 
 abbrev pub regs : ℕ
 regs = 1

@@ -6,6 +6,7 @@
 use Rattle.std.specs.Prelude.{◌≡◌, ℕ, zero, suc, ◌+◌, ◌*◌, ◌/◌, ◌%◌, List, [], ◌∷◌, Option, Some, None, Bool, cond, ◌==◌, refl}
 use Rattle.std.specs.Coded.{Coded, coded×, code_by}
 use Rattle.memory_model.specs.Sparse.{Sparse, value_at, put, no_values, coded_sparse, same_sparse}
+use Rattle.memory_model.specs.Sizes.{page_size}
 use Rattle.memory_model.specs.declared.Width.{Width}
 use Rattle.memory_model.specs.declared.Width.TheVariants.{One, Two, Four}
 
@@ -41,15 +42,15 @@ same_memory m n bytes permissions =
 
 -- bit 1 of the permission of the address's page: reading
 abbrev pub may_read : Memory → ℕ → Bool
-may_read m a = permission_at m (a / 4096) % 2 == 1
+may_read m a = permission_at m (a / page_size) % 2 == 1
 
 -- and fetching
 abbrev pub may_fetch : Memory → ℕ → Bool
-may_fetch m a = permission_at m (a / 4096) % 2 == 1
+may_fetch m a = permission_at m (a / page_size) % 2 == 1
 
 -- bit 2: writing
 abbrev pub may_write : Memory → ℕ → Bool
-may_write m a = permission_at m (a / 4096) / 2 % 2 == 1
+may_write m a = permission_at m (a / page_size) / 2 % 2 == 1
 
 -- how many bytes an access has
 abbrev pub width_bytes : Width → ℕ

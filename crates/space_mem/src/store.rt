@@ -33,7 +33,14 @@ pub fn store(
 {
     let asked = guesses.of(at / PAGE_SIZE);
     if asked < runs.len() && keeps(runs, asked, at / PAGE_SIZE) {
-        return set_number(runs, asked, at / PAGE_SIZE, (at % PAGE_SIZE) as u16, width, value);
+        return set_number(
+            runs,
+            asked,
+            at / PAGE_SIZE,
+            (at % PAGE_SIZE) as u16,
+            width,
+            value,
+        );
     }
     store_slow(runs, guesses, at, width, value)
 }
@@ -94,7 +101,14 @@ pub fn try_store(
         if run.permission / 2 % 2 != 1 {
             return Ok(false);
         }
-        set_number(runs, asked, at / PAGE_SIZE, (at % PAGE_SIZE) as u16, width, value)?;
+        set_number(
+            runs,
+            asked,
+            at / PAGE_SIZE,
+            (at % PAGE_SIZE) as u16,
+            width,
+            value,
+        )?;
         return Ok(true);
     }
     try_store_slow(runs, guesses, at, width, value)
