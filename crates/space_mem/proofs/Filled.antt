@@ -2,6 +2,7 @@
 use Rattle.std.specs.Prelude.{◌≡◌, ℕ, ◌+◌, ◌-◌, ◌<◌, ◌≤◌, Bool, true, false, cond, not, ◌&&◌, nat_lt, List, [], ◌∷◌, ◌++◌, Some, None}
 use Rattle.std.proofs.Common.{refl, sym, ◌∙◌, ap, arith, subst, inl, inr, append_assoc}
 use Rattle.std.proofs.lemmas.Bool.{cases_lt, lt-ltb, le-ltb}
+use Rattle.memory_model.specs.Sizes.{greatest_permission}
 use Rattle.space_mem.specs.declared.layout.Run.{Run}
 use Rattle.space_mem.specs.Runs.{end_of, run_of, permission_of, byte_of, has_bytes, Ordered, IsFilled}
 use Rattle.space_mem.specs.Fills.{blank_runs, filled_runs}
@@ -17,7 +18,7 @@ blank_some at end permission less = ap (λ b. cond b (blank at end permission �
 blank_none : (at end permission : ℕ) → end ≤ at → blank_runs at end permission ≡ []
 blank_none at end permission le = ap (λ b. cond b (blank at end permission ∷ []) []) (le-ltb at end le)
 
-pub ordered_blank : (at end permission : ℕ) → at ≤ end → permission < 4 → Ordered at end (blank_runs at end permission)
+pub ordered_blank : (at end permission : ℕ) → at ≤ end → permission ≤ greatest_permission → Ordered at end (blank_runs at end permission)
 ordered_blank at end permission le small = elim (cases_lt at end) [
   | inl less ↦ subst (Ordered at end) (sym (blank_some at end permission less)) (record { some = omega arith; permission = small; kept = tt }, (omega arith, omega arith))
   | inr none ↦ subst (Ordered at end) (sym (blank_none at end permission none)) le
@@ -50,7 +51,7 @@ blank_owned at end permission p = elim (cases_lt at end) [
     one false true = refl
     one false false = refl
 
-pub filled_is : (at end permission : ℕ) (rs : List Run) → Ordered at end rs → permission < 4 → IsFilled at end permission rs (filled_runs at end permission rs)
+pub filled_is : (at end permission : ℕ) (rs : List Run) → Ordered at end rs → permission ≤ greatest_permission → IsFilled at end permission rs (filled_runs at end permission rs)
 filled_is at end permission [] o small = record {
   ordered = ordered_blank at end permission o small;
   permission = blank_permission at end permission;

@@ -4,7 +4,7 @@ use Rattle.std.specs.Prelude.{◌≡◌, ℕ, zero, suc, ◌+◌, ◌-◌, ◌/�
 use Rattle.memory_model.specs.Sparse.{Sparse, no_values}
 use Rattle.memory_model.specs.Memory.{Memory}
 use Rattle.memory_model.specs.Ranges.{with_row}
-use Rattle.memory_model.specs.Sizes.{page_size, pages}
+use Rattle.memory_model.specs.Sizes.{greatest_permission, page_size, pages}
 use Rattle.page_store.specs.declared.PageRef.{PageRef}
 use Rattle.page_store.specs.Bytes.{bytes_of, IsPage}
 use Rattle.space_mem.specs.declared.layout.Run.{Run}
@@ -82,7 +82,7 @@ IsKept (Some page) count = (count ≡ 1) × IsPage (bytes_of page)
 -- at least one page, with a permission
 pub record IsRun (r : Run) : Type 0 where
   pub some : 0 < r.count
-  pub permission : r.permission < 4
+  pub permission : r.permission ≤ greatest_permission
   pub kept : IsKept r.page r.count
 
 -- runs between two pages, in the order of their pages, none of which is in two

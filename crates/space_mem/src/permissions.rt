@@ -2,7 +2,7 @@ ghost use Rattle.std.specs.Prelude.{◌≡◌, ℕ, ◌+◌, ◌-◌, ◌*◌, �
 ghost use Rattle.space_mem.specs.Runs.{InOrder, Ordered, IsSpan, IsFilled, IsRefilled, memory_of, held_of};
 ghost use Rattle.memory_model.specs.Memory.{with_permissions};
 ghost use Rattle.space_mem.specs.Fills.{blank_runs};
-ghost use Rattle.memory_model.specs.Sizes.{pages};
+ghost use Rattle.memory_model.specs.Sizes.{greatest_permission, pages};
 
 use crate::layout::Run;
 use crate::spans::{Span, part_at};
@@ -11,7 +11,7 @@ use std::alloc::AllocError;
 // Moves runs between two pages to a list with room for twice as many and one, each with the permission, and fills the gaps.
 fn fill(filled: &mut Vec<Run>, runs: Vec<Run>, first: u32, end: u32, permission: u8)
     requires ordered { Ordered first end runs.items }
-    requires permission { permission < 4 }
+    requires permission { permission ≤ greatest_permission }
     requires empty { filled.old.items ≡ [] }
     requires room { 2 * vec_len runs + 1 ≤ vec_capacity filled.old }
     ensures filled { IsFilled first end permission runs.items filled.new.items }
@@ -70,7 +70,7 @@ fn refill(
 ) -> Result<(), AllocError>
     requires ordered { InOrder runs.old.items }
     requires span { IsSpan first end runs.old.items span.from span.to }
-    requires permission { permission < 4 }
+    requires permission { permission ≤ greatest_permission }
     requires rise { first ≤ end }
     ensures ok { OnOk result (IsRefilled first end permission runs.old.items runs.new.items span.from span.to) }
     ensures err { OnErr result (runs.new.items ≡ runs.old.items) }
@@ -113,7 +113,7 @@ pub fn set_permission(
     requires ordered { InOrder runs.old.items }
     requires rise { first ≤ end }
     requires within { end ≤ pages }
-    requires permission { permission < 4 }
+    requires permission { permission ≤ greatest_permission }
     ensures ordered { InOrder runs.new.items }
     ensures ok { OnOk result (held_of runs.new.items ≡ record (held_of runs.old.items) { memory = with_permissions (memory_of runs.old.items) first (end - first) permission }) }
     ensures err { OnErr result (held_of runs.new.items ≡ held_of runs.old.items) }
