@@ -4,7 +4,7 @@ use Rattle.std.proofs.lemmas.Bool.Decides.{nat_tests}
 use Rattle.call_model.specs.declared.Kind.{Kind}
 use Rattle.call_model.specs.declared.Kind.TheVariants.{Put, Get, Ret, ConsoleOut}
 use Rattle.call_model.specs.Tests.{wrong_options, wrong_child, wrong_range, outside_root, too_long, too_deep, wrong_block, first_failing}
-use Rattle.call_model.specs.Reading.{named, IsAccepted}
+use Rattle.call_model.specs.Reading.{call_of, IsAccepted}
 
 -- a call of this kind fails no test
 pub record Passes (kind : Kind) (x : List ℕ) (root : Bool) (depth : ℕ) : Type 0 where
@@ -34,7 +34,7 @@ passes kind x root depth h =
 not_past : (a b : ℕ) → nat_lt a b ≡ false → b ≤ a
 not_past a b h = grind (arith, nat_tests)
 
-named_kept : (kind : Kind) (x : List ℕ) (root : Bool) (depth : ℕ) → Passes kind x root depth → IsAccepted (named kind x)
+named_kept : (kind : Kind) (x : List ℕ) (root : Bool) (depth : ℕ) → Passes kind x root depth → IsAccepted (call_of kind x)
 unfolding wrong_options wrong_range too_long wrong_block
 named_kept Put x root depth p = (p.options, record { ranges = p.range; block = p.block })
 named_kept Get x root depth p = (p.options, record { ranges = p.range; block = p.block })
@@ -42,7 +42,7 @@ named_kept Ret x root depth p = tt
 named_kept ConsoleOut x root depth p = (not_past _ _ p.range, not_past _ _ p.length)
 
 -- registers that fail no test name a call that keeps what the tests ask
-pub named_accepted : (kind : Kind) (x : List ℕ) (root : Bool) (depth : ℕ) → first_failing kind x root depth ≡ None → IsAccepted (named kind x)
+pub named_accepted : (kind : Kind) (x : List ℕ) (root : Bool) (depth : ℕ) → first_failing kind x root depth ≡ None → IsAccepted (call_of kind x)
 named_accepted kind x root depth h = named_kept kind x root depth (passes kind x root depth h)
 
 -- and whose child has a number that fits, where it names one

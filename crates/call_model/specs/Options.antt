@@ -21,16 +21,16 @@ perm = 16
 abbrev pub start : ℕ
 start = 64
 
-abbrev pub limited : ℕ
-limited = 128
+abbrev pub limit_option : ℕ
+limit_option = 128
 
 -- the bits of the permission
 abbrev pub permission_bits : ℕ
 permission_bits = 0x3000
 
 -- all bits that may be set
-abbrev pub known : ℕ
-known = 0x30D7
+abbrev pub known_bits : ℕ
+known_bits = 0x30D7
 
 -- one of these bits is among the options
 abbrev pub has : ℕ → ℕ → Bool
@@ -42,7 +42,7 @@ permission options = options / 4096 % 4
 
 -- a bit that is no option and not of the permission
 abbrev pub has_unknown : ℕ → Bool
-has_unknown options = not (bit_and options known == options)
+has_unknown options = not (bit_and options known_bits == options)
 
 -- permission bits without Perm; both of Copy and Zero
 abbrev pub has_clash : ℕ → Bool
@@ -50,11 +50,11 @@ has_clash options = (has permission_bits options && not (has perm options)) || (
 
 -- Limit without Start
 unfoldable pub bad_put_options : ℕ → Bool
-bad_put_options options = has_unknown options || (has_clash options || (has limited options && not (has start options)))
+bad_put_options options = has_unknown options || (has_clash options || (has limit_option options && not (has start options)))
 
 -- Start or Limit
 unfoldable pub bad_get_options : ℕ → Bool
-bad_get_options options = has_unknown options || (has_clash options || (has start options || has limited options))
+bad_get_options options = has_unknown options || (has_clash options || (has start options || has limit_option options))
 
 -- the end is above the memory's
 abbrev pub passes_end : ℕ → ℕ → Bool

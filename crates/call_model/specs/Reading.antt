@@ -17,21 +17,21 @@ abbrev pub transfer : List ℕ → Transfer
 transfer x = record { options = argument x 0; child = argument x 1; block = argument x 2; source = argument x 3; destination = argument x 4; size = argument x 5; limit = argument x 6 }
 
 -- the call of a kind, with registers that fail no test
-abbrev pub named : Kind → List ℕ → Call
-named kinds.Put x = Put (transfer x)
-named kinds.Get x = Get (transfer x)
-named kinds.Ret x = Ret (argument x 0)
-named kinds.ConsoleOut x = ConsoleOut (argument x 1) (argument x 2)
+abbrev pub call_of : Kind → List ℕ → Call
+call_of kinds.Put x = Put (transfer x)
+call_of kinds.Get x = Get (transfer x)
+call_of kinds.Ret x = Ret (argument x 0)
+call_of kinds.ConsoleOut x = ConsoleOut (argument x 1) (argument x 2)
 
 -- the call, or the number of the first test that fails
-abbrev pub answered : Option ℕ → Call → Result Call Badcall
-answered None call = Ok call
-answered (Some n) call = Err (record { 0 = n })
+abbrev pub unless_failed : Option ℕ → Call → Result Call Badcall
+unless_failed None call = Ok call
+unless_failed (Some n) call = Err (record { 0 = n })
 
 -- the same of what a7 says; test 1 is that it is the number of a kind
 abbrev pub read_as : Option Kind → List ℕ → Bool → ℕ → Result Call Badcall
 read_as None x root depth = Err (record { 0 = 1 })
-read_as (Some kind) x root depth = answered (first_failing kind x root depth) (named kind x)
+read_as (Some kind) x root depth = unless_failed (first_failing kind x root depth) (call_of kind x)
 
 -- what registers say, at the root or below it, at this depth
 abbrev pub read : List ℕ → Bool → ℕ → Result Call Badcall

@@ -7,7 +7,7 @@ use Rattle.space_model.specs.Path.{under}
 use Rattle.space_model.specs.declared.Reach.TheVariants.{Whole}
 use Rattle.space_model.proofs.Children.{over_missing, over-at}
 use Rattle.space_model.proofs.Sound.{over_sound, no_children}
-use Rattle.run_model.specs.Demand.{Meaning, wait_for, wait_for_child, everyone, settle, run, meaning, unmoved, of_children}
+use Rattle.run_model.specs.Demand.{Meaning, wait_for, wait_for_child, everyone, settle, run, meaning, no_events, of_children}
 use Rattle.run_model.proofs.Sound.{run_sound, settle_sound}
 use Rattle.demand_eval.specs.Turns.{IsSoundBelow, with_everyone}
 
@@ -73,7 +73,7 @@ everyone_after f (space t cs) = refl
 -- a space that has run, and whose children have settled, has settled
 pub run_then : (levels : ℕ) (s r q : Space) → r ≡ run levels s → q ≡ with_everyone levels r → q ≡ settle levels s
 unfolding meaning
-run_then zero s r q ran all = all ∙ ap (with_everyone zero) ran ∙ everyone_after unmoved (run zero s)
+run_then zero s r q ran all = all ∙ ap (with_everyone zero) ran ∙ everyone_after no_events (run zero s)
 run_then (suc levels) s r q ran all = all ∙ ap (with_everyone (suc levels)) ran ∙ everyone_after (meaning levels) (run (suc levels) s)
 
 pub ran_sound : (levels : ℕ) (s r : Space) → IsSoundBelow levels s → r ≡ run levels s → IsSoundBelow levels r

@@ -8,7 +8,7 @@ use Rattle.space_model.specs.Space.{Space, space, Top, Children, none, top_of, c
 use Rattle.space_model.specs.Sound.{IsSoundAt, AreSound}
 use Rattle.space_model.specs.declared.Reach.TheVariants.{Itself}
 use Rattle.space_model.specs.Path.{under}
-use Rattle.space_model.specs.Change.{paid}
+use Rattle.space_model.specs.Change.{after_payment}
 use Rattle.space_model.specs.Meeting.{MayMeet, awaits, meet}
 use Rattle.space_model.specs.Event.{next, rests, meets, Follows, MayPay}
 use Rattle.space_model.proofs.Sound.{no_children}
@@ -29,7 +29,7 @@ told levels quantum ran o p t h e = subst (λ (q : Option Next). Ended levels qu
 pub told_local : (levels quantum ran : ℕ) (o : Option Next) (t : Top) → Ended levels quantum ran o t → o ≡ Some answers.Local → ran ≡ quantum
 told_local levels quantum ran o t h e = told levels quantum ran o (Some answers.Local) t h e
 
-pub told_meet : (levels quantum ran : ℕ) (o : Option Next) (k : Call) (t : Top) → Ended levels quantum ran o t → o ≡ Some (answers.Meet k) → next levels t ≡ meets k (paid t t)
+pub told_meet : (levels quantum ran : ℕ) (o : Option Next) (k : Call) (t : Top) → Ended levels quantum ran o t → o ≡ Some (answers.Meet k) → next levels t ≡ meets k (after_payment t t)
 told_meet levels quantum ran o k t h e = (told levels quantum ran o (Some (answers.Meet k)) t h e).1
 
 pub told_stopped : (levels quantum ran : ℕ) (o : Option Next) (t : Top) → Ended levels quantum ran o t → o ≡ Some answers.Stopped → next levels t ≡ rests
@@ -95,11 +95,11 @@ awaited_console levels addr len (space t cs) = refl
 pub awaited_top : (levels : ℕ) (k : Call) (s : Space) → top_of (with_awaited levels k s) ≡ top_of s
 awaited_top levels k (space t cs) = refl
 
-pub may_meet : (levels : ℕ) (k : Call) (s : Space) → next levels (top_of s) ≡ meets k (paid (top_of s) (top_of s)) → MayMeet levels k
-may_meet levels k s e = (next_meets levels (top_of s) k (paid (top_of s) (top_of s)) e).may
+pub may_meet : (levels : ℕ) (k : Call) (s : Space) → next levels (top_of s) ≡ meets k (after_payment (top_of s) (top_of s)) → MayMeet levels k
+may_meet levels k s e = (next_meets levels (top_of s) k (after_payment (top_of s) (top_of s)) e).may
 
-pub may_pay : (levels : ℕ) (k : Call) (s w : Space) → next levels (top_of s) ≡ meets k (paid (top_of s) (top_of s)) → w ≡ with_awaited levels k s → MayPay (top_of w)
-may_pay levels k s w e is = let top : top_of w ≡ top_of s = ap top_of is ∙ awaited_top levels k s in subst MayPay (sym top) (next_meets levels (top_of s) k (paid (top_of s) (top_of s)) e).pays
+pub may_pay : (levels : ℕ) (k : Call) (s w : Space) → next levels (top_of s) ≡ meets k (after_payment (top_of s) (top_of s)) → w ≡ with_awaited levels k s → MayPay (top_of w)
+may_pay levels k s w e is = let top : top_of w ≡ top_of s = ap top_of is ∙ awaited_top levels k s in subst MayPay (sym top) (next_meets levels (top_of s) k (after_payment (top_of s) (top_of s)) e).pays
 
 not_at_rest : (levels : ℕ) (t u : Top) (k : Call) → next levels t ≡ meets k u → (b : Bool) → is_stopped t.status ≡ b → b ≡ false
 not_at_rest levels t u k e true is = let ends = stopped_rests levels t is in cc
@@ -121,18 +121,18 @@ call_leaves levels t u k cs e =
     let later = left_most (is_stopped (top_of (meet levels k u cs)).status) (suc (top_of (meet levels k u cs)).fuel) in
     omega arith
 
-met_here : (levels : ℕ) (k : Call) (t : Top) (cs ds : Children) → IsSoundBelow levels (space t cs) → next levels t ≡ meets k (paid t t) → ds ≡ (wait_for (of_children levels) (awaits k) cs).children → GoesOn levels (space t cs) (meet levels k (paid t t) ds)
+met_here : (levels : ℕ) (k : Call) (t : Top) (cs ds : Children) → IsSoundBelow levels (space t cs) → next levels t ≡ meets k (after_payment t t) → ds ≡ (wait_for (of_children levels) (awaits k) cs).children → GoesOn levels (space t cs) (meet levels k (after_payment t t) ds)
 met_here levels k t cs ds ok e is =
     let kept : AreSound levels ok.fuel 0 ds = rw is (wait_for_sound (of_children levels) levels ok.fuel (awaits k) cs (children_keep levels ok.fuel) ok.sound.1) in
-    let same : run_on (of_children levels) levels (space t cs) ≡ run_on (of_children levels) levels (meet levels k (paid t t) ds) = rw is (run_on-meets (of_children levels) levels t (paid t t) k cs e) in
+    let same : run_on (of_children levels) levels (space t cs) ≡ run_on (of_children levels) levels (meet levels k (after_payment t t) ds) = rw is (run_on-meets (of_children levels) levels t (after_payment t t) k cs e) in
     record {
-      same = run-run_on levels (meet levels k (paid t t) ds) ∙ sym same ∙ sym (run-run_on levels (space t cs));
-      sound = record { root = ok.root; fuel = ok.fuel; sound = next_meets_sound levels ok.root ok.fuel t (paid t t) k ds e ok.sound.0 kept };
-      fewer = call_leaves levels t (paid t t) k ds e;
+      same = run-run_on levels (meet levels k (after_payment t t) ds) ∙ sym same ∙ sym (run-run_on levels (space t cs));
+      sound = record { root = ok.root; fuel = ok.fuel; sound = next_meets_sound levels ok.root ok.fuel t (after_payment t t) k ds e ok.sound.0 kept };
+      fewer = call_leaves levels t (after_payment t t) k ds e;
     }
 
 -- a call after which a space goes on
-pub met : (levels : ℕ) (k : Call) (s w r : Space) → IsSoundBelow levels s → next levels (top_of s) ≡ meets k (paid (top_of s) (top_of s)) → w ≡ with_awaited levels k s → r ≡ meet levels k (paid (top_of w) (top_of w)) (children_of w) → GoesOn levels s r
+pub met : (levels : ℕ) (k : Call) (s w r : Space) → IsSoundBelow levels s → next levels (top_of s) ≡ meets k (after_payment (top_of s) (top_of s)) → w ≡ with_awaited levels k s → r ≡ meet levels k (after_payment (top_of w) (top_of w)) (children_of w) → GoesOn levels s r
 met levels k (space t cs) w r ok e waited is =
-    let here : r ≡ meet levels k (paid t t) (wait_for (of_children levels) (awaits k) cs).children = is ∙ ap (λ v. meet levels k (paid (top_of v) (top_of v)) (children_of v)) waited in
+    let here : r ≡ meet levels k (after_payment t t) (wait_for (of_children levels) (awaits k) cs).children = is ∙ ap (λ v. meet levels k (after_payment (top_of v) (top_of v)) (children_of v)) waited in
     rw here (met_here levels k t cs (wait_for (of_children levels) (awaits k) cs).children ok e refl)

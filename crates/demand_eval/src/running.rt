@@ -1,10 +1,10 @@
 ghost use Rattle.std.specs.Prelude.{◌≡◌, ◌≤◌, ◌-◌, map, pred, true, OnOk, IfOk};
 ghost use Rattle.space_model.specs.Space.{over, top_of, is_settled};
 ghost use Rattle.space_model.specs.Sound.{IsSound};
-ghost use Rattle.space_model.specs.Change.{paid};
+ghost use Rattle.space_model.specs.Change.{after_payment};
 ghost use Rattle.space_model.specs.Path.{under};
 ghost use Rattle.space_model.specs.Event as event;
-ghost use Rattle.run_model.specs.Demand.{run, settled};
+ghost use Rattle.run_model.specs.Demand.{run, settle_tree};
 ghost use Rattle.demand_eval.specs.Turns.{IsSoundBelow, GoesOn, Turned, end_of, with_awaited, with_everyone};
 
 use put_get::apply;
@@ -57,7 +57,7 @@ fn wait_for(alloc: Global, call: Call, space: &mut Space, depth: u8) -> Result<(
 fn meet(alloc: Global, call: AcceptedCall, space: &mut Space, depth: u8) -> Result<(), AllocError>
     requires depth { depth ≤ 8 }
     requires sound { IsSoundBelow (8 - depth) space.old }
-    requires next { event.next (8 - depth) (top_of space.old) ≡ event.meets call (paid (top_of space.old) (top_of space.old)) }
+    requires next { event.next (8 - depth) (top_of space.old) ≡ event.meets call (after_payment (top_of space.old) (top_of space.old)) }
     ensures { OnOk result (GoesOn (8 - depth) space.old space.new) }
 {
     wait_for(alloc, call.call(), space, depth)?;
@@ -137,7 +137,7 @@ fn finish(alloc: Global, space: &mut Space, reach: Reach, depth: u8) -> Result<(
 /// at the end those that nobody waited for. The one error is want of memory; the tree is given up then.
 pub fn settle(alloc: Global, mut space: Space) -> Result<Space, AllocError>
     requires { IsSound space }
-    ensures meaning { IfOk result (λ s. s ≡ settled space) }
+    ensures meaning { IfOk result (λ s. s ≡ settle_tree space) }
     ensures settled { IfOk result (λ s. is_settled s ≡ true) }
     ensures sound { IfOk result IsSound }
 {

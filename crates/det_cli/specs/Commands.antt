@@ -10,7 +10,7 @@ use Rattle.source_model.specs.Source.{source_of}
 use Rattle.space_model.specs.Space.{Space, top_of}
 use Rattle.space_model.specs.Stop.{has_returned}
 use Rattle.run_model.specs.Boot.{boot}
-use Rattle.run_model.specs.Demand.{settled}
+use Rattle.run_model.specs.Demand.{settle_tree}
 use Rattle.report_model.specs.Report.{console_of, report}
 use Rattle.det_cli.specs.declared.end.End.{End}
 use Rattle.det_cli.specs.declared.end.End.TheVariants.{Ret, Trapped, BadImage, BadScript, BadSource}
@@ -50,7 +50,7 @@ source_step name = record { name = name; room = source_room; refuse = λ bytes. 
 
 -- the settled root of an image, where each space has so much fuel
 abbrev pub root_settled : Image → ℕ → Space
-root_settled image limit = settled (boot image (record { console = [] }) limit)
+root_settled image limit = settle_tree (boot image (record { console = [] }) limit)
 
 -- the end of a settled root
 abbrev pub end_of : Space → End

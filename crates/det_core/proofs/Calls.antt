@@ -2,7 +2,7 @@
 use Rattle.std.proofs.Common.{◌≡◌, ℕ, sym, subst}
 use Rattle.call_model.specs.declared.Call.{Call}
 use Rattle.space_model.specs.Space.{Top}
-use Rattle.space_model.specs.Change.{paid}
+use Rattle.space_model.specs.Change.{after_payment}
 use Rattle.space_model.specs.Meeting.{MayMeet}
 use Rattle.space_model.specs.Event.{MayPay}
 use Rattle.space_model.proofs.Next.{next_meets}
@@ -13,5 +13,5 @@ use Rattle.space_step.specs.Steps.{Answers}
 pub may_meet : (levels : ℕ) (a : Next) (k : Call) (old new : Top) → a ≡ Meet k → Answers levels a old new → MayMeet levels k × MayPay new
 may_meet levels a k old new e h =
     let told : Answers levels (Meet k) old new = subst (λ (x : Next). Answers levels x old new) e h in
-    let call = next_meets levels old k (paid old old) told.0 in
+    let call = next_meets levels old k (after_payment old old) told.0 in
     (call.may, subst MayPay (sym told.1) call.pays)

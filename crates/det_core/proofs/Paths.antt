@@ -10,39 +10,39 @@ use Rattle.space_model.specs.Sound.{IsSoundAt}
 use Rattle.space_model.proofs.Children.{over-at, over_itself}
 use Rattle.space_model.proofs.Entries.{find_entries, over_entries}
 use Rattle.space_tree.proofs.Entries.{onward, path_is}
-use Rattle.run_model.specs.Schedule.{may_happen, on_child, enabled, step, try_step}
+use Rattle.run_model.specs.Schedule.{may_happen, on_child, is_enabled, step, try_step}
 use Rattle.run_model.proofs.Sound.{try_step_sound}
 
 levels_below : (levels n : ℕ) → pred levels - n ≡ levels - suc n
 levels_below levels n = omega arith
 
-enabled_found : (p : List ℕ) (levels : ℕ) (o : Option Space) (r : Space) → option_and_then (at p) o ≡ Some r → ((c : Space) → at p c ≡ Some r → enabled p (pred levels) c ≡ may_happen (next (pred levels - length p) (top_of r)) (children_of r))
-    → on_child (enabled p (pred levels)) o ≡ may_happen (next (levels - suc (length p)) (top_of r)) (children_of r)
+enabled_found : (p : List ℕ) (levels : ℕ) (o : Option Space) (r : Space) → option_and_then (at p) o ≡ Some r → ((c : Space) → at p c ≡ Some r → is_enabled p (pred levels) c ≡ may_happen (next (pred levels - length p) (top_of r)) (children_of r))
+    → on_child (is_enabled p (pred levels)) o ≡ may_happen (next (levels - suc (length p)) (top_of r)) (children_of r)
 enabled_found p levels None r e rec = cc
 enabled_found p levels (Some c) r e rec = rec c e ∙ ap (λ k. may_happen (next k (top_of r)) (children_of r)) (levels_below levels (length p))
 
 -- what may happen at a path is what may happen of the space there
-pub enabled_at : (p : List ℕ) (levels : ℕ) (s r : Space) → at p s ≡ Some r → enabled p levels s ≡ may_happen (next (levels - length p) (top_of r)) (children_of r)
+pub enabled_at : (p : List ℕ) (levels : ℕ) (s r : Space) → at p s ≡ Some r → is_enabled p levels s ≡ may_happen (next (levels - length p) (top_of r)) (children_of r)
 enabled_at [] levels s r is =
     let same : s ≡ r = cc in
     let all : levels ≡ levels - 0 = omega arith in
     ap (λ x. may_happen (next levels (top_of x)) (children_of x)) same ∙ ap (λ k. may_happen (next k (top_of r)) (children_of r)) all
 enabled_at (n ∷ p) levels s r is = enabled_found p levels (find n (children_of s)) r is (λ c e. enabled_at p (pred levels) c r e)
 
-enabled_lost : (p : List ℕ) (levels : ℕ) (o : Option Space) → option_and_then (at p) o ≡ None → ((c : Space) → at p c ≡ None → enabled p levels c ≡ false) → on_child (enabled p levels) o ≡ false
+enabled_lost : (p : List ℕ) (levels : ℕ) (o : Option Space) → option_and_then (at p) o ≡ None → ((c : Space) → at p c ≡ None → is_enabled p levels c ≡ false) → on_child (is_enabled p levels) o ≡ false
 enabled_lost p levels None e rec = refl
 enabled_lost p levels (Some c) e rec = rec c e
 
 -- where no space stands nothing may happen
-pub enabled_missing : (p : List ℕ) (levels : ℕ) (s : Space) → at p s ≡ None → enabled p levels s ≡ false
+pub enabled_missing : (p : List ℕ) (levels : ℕ) (s : Space) → at p s ≡ None → is_enabled p levels s ≡ false
 enabled_missing [] levels s is = cc
 enabled_missing (n ∷ p) levels s is = enabled_lost p (pred levels) (find n (children_of s)) is (λ c e. enabled_missing p (pred levels) c e)
 
 -- a child's event is an event of the space
 child_steps : (n : ℕ) (p : List ℕ) (levels : ℕ) (u : Top) (c : Space) (cs : Children) → find n cs ≡ Some c → space u (over n (λ d. try_step p (pred levels) c) cs) ≡ try_step (n ∷ p) levels (space u cs)
 child_steps n p levels u c cs is =
-    by_test (enabled p (pred levels) c)
-    ∙ ap (λ o. cond (on_child (enabled p (pred levels)) o) (space u (over n (step p (pred levels)) cs)) (space u cs)) (sym is)
+    by_test (is_enabled p (pred levels) c)
+    ∙ ap (λ o. cond (on_child (is_enabled p (pred levels)) o) (space u (over n (step p (pred levels)) cs)) (space u cs)) (sym is)
   where
     by_test : (b : Bool) → space u (over n (λ d. cond b (step p (pred levels) c) c) cs) ≡ cond b (space u (over n (step p (pred levels)) cs)) (space u cs)
     by_test true = ap (space u) (over-at n (λ d. step p (pred levels) c) (step p (pred levels)) c cs is refl)
@@ -57,18 +57,18 @@ pub record HasFirst (p : List ℕ) (u : Top) (s : Space) (es : List (ℕ × Spac
 first_is : (p : List ℕ) (u : Top) (s : Space) (es : List (ℕ × Space)) (o : Option Space) → HasFirst p u s es o → find (get_or p 0 0) (children_from es) ≡ o
 first_is p u s es o h = sym (h.found ∙ find_entries (get_or p 0 0) es)
 
-pub enabled_child : (p : List ℕ) (levels below : ℕ) (u : Top) (s c : Space) (es : List (ℕ × Space)) → below ≡ pred levels → HasFirst p u s es (Some c) → enabled (onward p) below c ≡ enabled p levels s
+pub enabled_child : (p : List ℕ) (levels below : ℕ) (u : Top) (s c : Space) (es : List (ℕ × Space)) → below ≡ pred levels → HasFirst p u s es (Some c) → is_enabled (onward p) below c ≡ is_enabled p levels s
 enabled_child p levels below u s c es e h =
-    ap (λ k. enabled (onward p) k c) e
-    ∙ ap (on_child (enabled (onward p) (pred levels))) (sym (first_is p u s es (Some c) h))
-    ∙ ap (λ x. enabled x levels (space u (children_from es))) (sym (path_is p h.long))
-    ∙ ap (enabled p levels) h.is
+    ap (λ k. is_enabled (onward p) k c) e
+    ∙ ap (on_child (is_enabled (onward p) (pred levels))) (sym (first_is p u s es (Some c) h))
+    ∙ ap (λ x. is_enabled x levels (space u (children_from es))) (sym (path_is p h.long))
+    ∙ ap (is_enabled p levels) h.is
 
-pub enabled_none : (p : List ℕ) (levels : ℕ) (u : Top) (s : Space) (es : List (ℕ × Space)) → HasFirst p u s es None → false ≡ enabled p levels s
+pub enabled_none : (p : List ℕ) (levels : ℕ) (u : Top) (s : Space) (es : List (ℕ × Space)) → HasFirst p u s es None → false ≡ is_enabled p levels s
 enabled_none p levels u s es h =
-    ap (on_child (enabled (onward p) (pred levels))) (sym (first_is p u s es None h))
-    ∙ ap (λ x. enabled x levels (space u (children_from es))) (sym (path_is p h.long))
-    ∙ ap (enabled p levels) h.is
+    ap (on_child (is_enabled (onward p) (pred levels))) (sym (first_is p u s es None h))
+    ∙ ap (λ x. is_enabled x levels (space u (children_from es))) (sym (path_is p h.long))
+    ∙ ap (is_enabled p levels) h.is
 
 pub stepped_child : (p : List ℕ) (levels below : ℕ) (u : Top) (s c w : Space) (es fs : List (ℕ × Space)) → below ≡ pred levels → HasFirst p u s es (Some c) → w ≡ try_step (onward p) below c
     → fs ≡ set_value (is_at (nat_cmp (get_or p 0 0))) es w → space u (children_from fs) ≡ try_step p levels s

@@ -3,7 +3,7 @@ ghost use Rattle.space_model.specs.declared.Reach.TheVariants.{Itself};
 ghost use Rattle.space_model.specs.Meeting.{awaits};
 ghost use Rattle.space_model.specs.Event.{next};
 ghost use Rattle.space_model.specs.Space.{top_of, children_of, children_from, find};
-ghost use Rattle.run_model.specs.Schedule.{is_ready, are_ready, may_happen, enabled};
+ghost use Rattle.run_model.specs.Schedule.{is_ready, are_ready, may_happen, is_enabled};
 
 use space_step::{AcceptedCall, Next, peek};
 use space_tree::{Path, Space, at};
@@ -45,8 +45,8 @@ fn may_go_on(space: &Space, depth: u8) -> bool
 
 /// Whether the event at a path may happen: a space stands there that has not stopped, and what it waits for is ready.
 #[tactic(auto, using(crate::proofs::Paths::enabled_at, crate::proofs::Paths::enabled_missing))]
-pub fn enabled(space: &Space, path: &Path) -> bool
-    ensures { result ≡ enabled path.now.items 8 space.now }
+pub fn is_enabled(space: &Space, path: &Path) -> bool
+    ensures { result ≡ is_enabled path.now.items 8 space.now }
 {
     match at(space, path) {
         Some(found) => may_go_on(found, path.len() as u8),

@@ -2,9 +2,9 @@ ghost use Rattle.std.specs.Prelude.{◌≡◌, ◌+◌, ◌-◌, ◌≤◌, [], 
 ghost use Rattle.space_model.specs.Sound.{IsSoundAt};
 ghost use Rattle.space_model.specs.Event.{MayPay};
 ghost use Rattle.space_model.specs.Meeting.{MayMeet, meet, awaits};
-ghost use Rattle.space_model.specs.Change.{paid};
+ghost use Rattle.space_model.specs.Change.{after_payment};
 ghost use Rattle.space_model.specs.Space.{top_of, children_of};
-ghost use Rattle.run_model.specs.Schedule.{are_ready, enabled, try_step};
+ghost use Rattle.run_model.specs.Schedule.{are_ready, is_enabled, try_step};
 
 use crate::enabling::are_ready;
 use put_get::apply;
@@ -23,7 +23,7 @@ fn try_call(
     requires may_meet { MayMeet (8 - depth) call }
     requires may_pay { MayPay (top_of space.old) }
     ensures ok { IfOk result (λ b. b ≡ are_ready (awaits call) (children_of space.old)) }
-    ensures called { OnOk result (space.new ≡ cond (are_ready (awaits call) (children_of space.old)) (meet (8 - depth) call (paid (top_of space.old) (top_of space.old)) (children_of space.old)) space.old) }
+    ensures called { OnOk result (space.new ≡ cond (are_ready (awaits call) (children_of space.old)) (meet (8 - depth) call (after_payment (top_of space.old) (top_of space.old)) (children_of space.old)) space.old) }
     ensures err { OnErr result (space.new ≡ space.old) }
 {
     let ready = are_ready(call, &space.children);
@@ -36,7 +36,7 @@ fn try_call(
 // The next event of a space at this depth, where it may happen; else nothing.
 fn try_event(alloc: Global, space: &mut Space, depth: u8) -> Result<bool, AllocError>
     requires { depth ≤ 8 }
-    ensures ok { IfOk result (λ b. b ≡ enabled [] (8 - depth) space.old) }
+    ensures ok { IfOk result (λ b. b ≡ is_enabled [] (8 - depth) space.old) }
     ensures stepped { OnOk result (space.new ≡ try_step [] (8 - depth) space.old) }
     ensures err { OnErr result (space.new ≡ space.old) }
 {
@@ -50,7 +50,7 @@ fn try_event(alloc: Global, space: &mut Space, depth: u8) -> Result<bool, AllocE
 // The event at a path from a space at this depth, where it may happen; else nothing.
 fn try_step(alloc: Global, space: &mut Space, path: &[u16], depth: u8) -> Result<bool, AllocError>
     requires { depth + length path.now ≤ 8 }
-    ensures ok { IfOk result (λ b. b ≡ enabled path.now (8 - depth) space.old) }
+    ensures ok { IfOk result (λ b. b ≡ is_enabled path.now (8 - depth) space.old) }
     ensures stepped { OnOk result (space.new ≡ try_step path.now (8 - depth) space.old) }
     ensures err { OnErr result (space.new ≡ space.old) }
 {
@@ -68,7 +68,7 @@ fn try_step(alloc: Global, space: &mut Space, path: &[u16], depth: u8) -> Result
 /// The event at a path, where it may happen, and whether it has happened; where it may not, nothing changes. Its one error is want
 /// of memory, and then nothing has changed.
 pub fn step(alloc: Global, space: &mut Space, path: &Path) -> Result<bool, AllocError>
-    ensures ok { IfOk result (λ b. b ≡ enabled path.now.items 8 space.old) }
+    ensures ok { IfOk result (λ b. b ≡ is_enabled path.now.items 8 space.old) }
     ensures stepped { OnOk result (space.new ≡ try_step path.now.items 8 space.old) }
     ensures err { OnErr result (space.new ≡ space.old) }
     ensures sound { (fuel : ℕ) → IsSoundAt 8 true fuel space.old → IsSoundAt 8 true fuel space.new }

@@ -8,7 +8,7 @@ use Rattle.std.specs.Map.{keys_of, lookup, set_value}
 use Rattle.call_model.specs.declared.Transfer.{Transfer}
 use Rattle.space_model.specs.Space.{Space, space, none, Top, top_of, children_of, find, put_child, children_from}
 use Rattle.space_model.specs.Call.{edit, change, below}
-use Rattle.space_model.specs.Beginning.{fresh}
+use Rattle.space_model.specs.Beginning.{fresh_top}
 use Rattle.space_model.specs.Meeting.{or_fresh}
 use Rattle.space_model.specs.Part.{child_after}
 use Rattle.space_model.proofs.Entries.{find_entries, set_entries, put_entries}
@@ -28,7 +28,7 @@ pub given_same : (n : ℕ) (c w : Space) (es fs : List (ℕ × Space)) → Some 
 given_same n c w es fs at written is = ap children_from (written ∙ set_value_same (is_at (nat_cmp n)) es w (sym at ∙ ap Some (sym is)))
 
 pub given_missing : (x : Transfer) (u : Top) (c : Space) (es fs : List (ℕ × Space)) → None ≡ lookup (is_at (nat_cmp x.child)) es → IsStrictlySortedBy nat_cmp (keys_of es) → fs ≡ insert_entry nat_cmp es x.child c
-    → c ≡ space (child_after x u (fresh (u.fuel + u.used))) none → children_from fs ≡ edit (change x.child (child_after x u (or_fresh u (option_map top_of (find x.child (children_from es)))))) (children_from es)
+    → c ≡ space (child_after x u (fresh_top (u.fuel + u.used))) none → children_from fs ≡ edit (change x.child (child_after x u (or_fresh u (option_map top_of (find x.child (children_from es)))))) (children_from es)
 given_missing x u c es fs at sorted inserted is =
     let cs = children_from es in
     let missing : find x.child cs ≡ None = sym (find_entries x.child es) ∙ sym at in

@@ -12,20 +12,20 @@ use Rattle.call_model.specs.Options.{has}
 use Rattle.space_model.specs.declared.Refusal.{Refusal}
 use Rattle.space_model.specs.declared.Cause.TheVariants.{LoadFault, StoreFault}
 use Rattle.space_model.specs.Space.{Space, space, Children, Top, top_of, children_of, find, children_from}
-use Rattle.space_model.specs.Change.{paid, stop, succeeded}
+use Rattle.space_model.specs.Change.{after_payment, stop, after_success}
 use Rattle.space_model.specs.Call.{edit, change, seen_of, apply_meeting}
 use Rattle.space_model.specs.Event.{MayPay}
-use Rattle.space_model.specs.Beginning.{fresh}
+use Rattle.space_model.specs.Beginning.{fresh_top}
 use Rattle.space_model.specs.Meeting.{or_fresh, awaits, block_refusal, first_refusal, action, unless_refused, meet, MayMeet}
-use Rattle.space_model.specs.Part.{Part, optional, with_parts, get_parts, child_after, caller_after}
+use Rattle.space_model.specs.Part.{Part, part_if, with_parts, get_parts, child_after, caller_after}
 use Rattle.space_model.specs.Sound.{IsSoundAt}
 use Rattle.space_model.proofs.Entries.{find_entries}
 use Rattle.space_model.proofs.Sound.{meeting_sound}
 use Rattle.put_get.specs.Meetings.{refusal_of, with_action}
 
 -- a caller that has paid reads the same child
-pub or_fresh-paid : (t : Top) (o : Option Top) → 0 < t.fuel → or_fresh (paid t t) o ≡ or_fresh t o
-or_fresh-paid t None h = let same : (t.fuel - 1) + (t.used + 1) ≡ t.fuel + t.used = omega arith in ap fresh same
+pub or_fresh-paid : (t : Top) (o : Option Top) → 0 < t.fuel → or_fresh (after_payment t t) o ≡ or_fresh t o
+or_fresh-paid t None h = let same : (t.fuel - 1) + (t.used + 1) ≡ t.fuel + t.used = omega arith in ap fresh_top same
 or_fresh-paid t (Some c) h = refl
 
 -- the caller after a Get, by what a look-up found
@@ -36,7 +36,7 @@ pub taken_there : (x : Transfer) (t u c : Top) (s : Space) (es : List (ℕ × Sp
     → u ≡ with_taken x t (find x.child (children_from es))
 taken_there x t u c s es at top is = is ∙ ap (λ d. caller_after x d t) top ∙ ap (with_taken x t) (at ∙ find_entries x.child es)
 
-pub taken_missing : (x : Transfer) (t u : Top) (es : List (ℕ × Space)) → None ≡ lookup (is_at (nat_cmp x.child)) es → u ≡ caller_after x (fresh (t.fuel + t.used)) t
+pub taken_missing : (x : Transfer) (t u : Top) (es : List (ℕ × Space)) → None ≡ lookup (is_at (nat_cmp x.child)) es → u ≡ caller_after x (fresh_top (t.fuel + t.used)) t
     → u ≡ with_taken x t (find x.child (children_from es))
 taken_missing x t u es at is = is ∙ ap (with_taken x t) (at ∙ find_entries x.child es)
 
@@ -55,29 +55,29 @@ get_test levels x s k is = one_test (block_refusal x StoreFault (may_write (top_
 
 -- a part that neither reads nor writes what an event takes
 record Passes (p : Part) : Type 0 where
-  paid : (t : Top) → p (paid t t) ≡ paid (p t) (p t)
+  paid : (t : Top) → p (after_payment t t) ≡ after_payment (p t) (p t)
   pays : (t : Top) → MayPay t → MayPay (p t)
 
 abbrev AllPass : List (ℕ × Part) → Type 0
 AllPass [] = Unit {0}
 AllPass (p ∷ ps) = Passes p.1 × AllPass ps
 
-optional_paid : (asked : Bool) (p : Part) (t : Top) → Passes p → optional asked p (paid t t) ≡ paid (optional asked p t) (optional asked p t)
+optional_paid : (asked : Bool) (p : Part) (t : Top) → Passes p → part_if asked p (after_payment t t) ≡ after_payment (part_if asked p t) (part_if asked p t)
 optional_paid true p t h = h.paid t
 optional_paid false p t h = refl
 
-optional_pays : (asked : Bool) (p : Part) (t : Top) → Passes p → MayPay t → MayPay (optional asked p t)
+optional_pays : (asked : Bool) (p : Part) (t : Top) → Passes p → MayPay t → MayPay (part_if asked p t)
 optional_pays true p t h pays = h.pays t pays
 optional_pays false p t h pays = pays
 
-parts_paid : (options : ℕ) (ps : List (ℕ × Part)) (t : Top) → AllPass ps → with_parts options ps (paid t t) ≡ paid (with_parts options ps t) (with_parts options ps t)
+parts_paid : (options : ℕ) (ps : List (ℕ × Part)) (t : Top) → AllPass ps → with_parts options ps (after_payment t t) ≡ after_payment (with_parts options ps t) (with_parts options ps t)
 parts_paid options [] t h = refl
 parts_paid options (p ∷ ps) t h =
-    ap (with_parts options ps) (optional_paid (has p.0 options) p.1 t h.0) ∙ parts_paid options ps (optional (has p.0 options) p.1 t) h.1
+    ap (with_parts options ps) (optional_paid (has p.0 options) p.1 t h.0) ∙ parts_paid options ps (part_if (has p.0 options) p.1 t) h.1
 
 parts_pay : (options : ℕ) (ps : List (ℕ × Part)) (t : Top) → AllPass ps → MayPay t → MayPay (with_parts options ps t)
 parts_pay options [] t h pays = pays
-parts_pay options (p ∷ ps) t h pays = parts_pay options ps (optional (has p.0 options) p.1 t) h.1 (optional_pays (has p.0 options) p.1 t h.0 pays)
+parts_pay options (p ∷ ps) t h pays = parts_pay options ps (part_if (has p.0 options) p.1 t) h.1 (optional_pays (has p.0 options) p.1 t h.0 pays)
 
 -- the parts of a Get
 get_passes : (x : Transfer) (c : Top) → AllPass (get_parts x c)
@@ -92,7 +92,7 @@ get_passes x c = (
   ),
 )
 
-taken_paid : (x : Transfer) (c t : Top) → caller_after x c (paid t t) ≡ paid (caller_after x c t) (caller_after x c t)
+taken_paid : (x : Transfer) (c t : Top) → caller_after x c (after_payment t t) ≡ after_payment (caller_after x c t) (caller_after x c t)
 unfolding caller_after
 taken_paid x c t = parts_paid x.options (get_parts x c) t (get_passes x c)
 
@@ -101,39 +101,39 @@ unfolding caller_after
 taken_pays x c t u s cs view pays is = subst MayPay (sym is) (parts_pay x.options (get_parts x c) t (get_passes x c) (subst (λ r. MayPay (top_of r)) (sym view) pays))
 
 pub put_met : (x : Transfer) (s : Space) (t u : Top) (cs ds : Children) → space t cs ≡ s → 0 < (top_of s).fuel
-    → ds ≡ edit (change x.child (child_after x t (or_fresh t (option_map top_of (find x.child cs))))) cs → u ≡ succeeded (paid t t) → space u ds ≡ with_action (Put x) s
+    → ds ≡ edit (change x.child (child_after x t (or_fresh t (option_map top_of (find x.child cs))))) cs → u ≡ after_success (after_payment t t) → space u ds ≡ with_action (Put x) s
 unfolding with_action child_after
 put_met x s t u cs ds view some edited went =
-    let p = paid t t in
+    let p = after_payment t t in
     let o = option_map top_of (find x.child cs) in
     let fuel : 0 < t.fuel = subst (λ r. 0 < (top_of r).fuel) (sym view) some in
-    ap (λ v. space v ds) went ∙ ap (space (succeeded p)) edited
-    ∙ ap (λ c. space (succeeded p) (edit (change x.child (child_after x t c)) cs)) (sym (or_fresh-paid t o fuel))
+    ap (λ v. space v ds) went ∙ ap (space (after_success p)) edited
+    ∙ ap (λ c. space (after_success p) (edit (change x.child (child_after x t c)) cs)) (sym (or_fresh-paid t o fuel))
     ∙ ap (with_action (Put x)) view
 
 pub get_met : (x : Transfer) (s : Space) (t u v : Top) (cs : Children) → space t cs ≡ s → 0 < (top_of s).fuel
-    → u ≡ caller_after x (or_fresh t (option_map top_of (find x.child cs))) t → v ≡ succeeded (paid u u) → space v cs ≡ with_action (Get x) s
+    → u ≡ caller_after x (or_fresh t (option_map top_of (find x.child cs))) t → v ≡ after_success (after_payment u u) → space v cs ≡ with_action (Get x) s
 unfolding with_action caller_after
 get_met x s t u v cs view some taken went =
     let o = option_map top_of (find x.child cs) in
     let fuel : 0 < t.fuel = subst (λ r. 0 < (top_of r).fuel) (sym view) some in
-    ap (λ w. space w cs) (went ∙ ap (λ w. succeeded (paid w w)) taken ∙ ap succeeded (sym (taken_paid x (or_fresh t o) t)))
-    ∙ ap (λ c. space (succeeded (caller_after x c (paid t t))) cs) (sym (or_fresh-paid t o fuel))
+    ap (λ w. space w cs) (went ∙ ap (λ w. after_success (after_payment w w)) taken ∙ ap after_success (sym (taken_paid x (or_fresh t o) t)))
+    ∙ ap (λ c. space (after_success (caller_after x c (after_payment t t))) cs) (sym (or_fresh-paid t o fuel))
     ∙ ap (with_action (Get x)) view
 
 -- a meeting whose first test is known
-pub acts_met : (levels : ℕ) (k : Call) (s u : Space) → None ≡ refusal_of levels k s → u ≡ with_action k s → u ≡ meet levels k (paid (top_of s) (top_of s)) (children_of s)
+pub acts_met : (levels : ℕ) (k : Call) (s u : Space) → None ≡ refusal_of levels k s → u ≡ with_action k s → u ≡ meet levels k (after_payment (top_of s) (top_of s)) (children_of s)
 unfolding with_action refusal_of
 acts_met levels k s u first is =
-    let p = paid (top_of s) (top_of s) in
+    let p = after_payment (top_of s) (top_of s) in
     is ∙ ap (λ o. apply_meeting (unless_refused o p (action k p (seen_of (awaits k) (children_of s)))) (children_of s)) first
 
-pub stops_met : (levels : ℕ) (k : Call) (s : Space) (r : Refusal) (t u : Top) (cs : Children) → space t cs ≡ s → Some r ≡ refusal_of levels k s → u ≡ stop (paid t t) r.cause r.value
-    → space u cs ≡ meet levels k (paid (top_of s) (top_of s)) (children_of s)
+pub stops_met : (levels : ℕ) (k : Call) (s : Space) (r : Refusal) (t u : Top) (cs : Children) → space t cs ≡ s → Some r ≡ refusal_of levels k s → u ≡ stop (after_payment t t) r.cause r.value
+    → space u cs ≡ meet levels k (after_payment (top_of s) (top_of s)) (children_of s)
 unfolding refusal_of
 stops_met levels k s r t u cs view first is =
-    let p = paid (top_of s) (top_of s) in
-    ap (λ v. space v cs) is ∙ ap (λ q. space (stop (paid (top_of q) (top_of q)) r.cause r.value) (children_of q)) view
+    let p = after_payment (top_of s) (top_of s) in
+    ap (λ v. space v cs) is ∙ ap (λ q. space (stop (after_payment (top_of q) (top_of q)) r.cause r.value) (children_of q)) view
     ∙ ap (λ o. apply_meeting (unless_refused o p (action k p (seen_of (awaits k) (children_of s)))) (children_of s)) first
 
 -- the same call by another name
@@ -141,11 +141,11 @@ pub acted_as : {E : Type 0} (r : Result (Unit {0}) E) (k l : Call) (s u : Space)
 acted_as r k l s u same met = on_ok_weaker r (λ e. e ∙ ap (λ m. with_action m s) same) met
 
 -- a space that met a child, or is as it was, is as sound as it was
-pub met_sound : (levels : ℕ) (k : Call) (s u : Space) → MayMeet levels k → MayPay (top_of s) → u ≡ meet levels k (paid (top_of s) (top_of s)) (children_of s)
+pub met_sound : (levels : ℕ) (k : Call) (s u : Space) → MayMeet levels k → MayPay (top_of s) → u ≡ meet levels k (after_payment (top_of s) (top_of s)) (children_of s)
     → (root : Bool) (fuel : ℕ) → IsSoundAt levels root fuel s → IsSoundAt levels root fuel u
 met_sound levels k s u may pays met root fuel sound = subst (IsSoundAt levels root fuel) (sym met) (meeting_sound levels root fuel k s may pays sound)
 
 pub stays_sound : {E : Type 0} (r : Result (Unit {0}) E) (levels : ℕ) (k : Call) (s u : Space) → MayMeet levels k → MayPay (top_of s)
-    → OnOk r (u ≡ meet levels k (paid (top_of s) (top_of s)) (children_of s)) → OnErr r (u ≡ s) → (root : Bool) (fuel : ℕ) → IsSoundAt levels root fuel s → IsSoundAt levels root fuel u
+    → OnOk r (u ≡ meet levels k (after_payment (top_of s) (top_of s)) (children_of s)) → OnErr r (u ≡ s) → (root : Bool) (fuel : ℕ) → IsSoundAt levels root fuel s → IsSoundAt levels root fuel u
 stays_sound (Ok done) levels k s u may pays met same root fuel sound = met_sound levels k s u may pays met root fuel sound
 stays_sound (Err e) levels k s u may pays met same root fuel sound = subst (IsSoundAt levels root fuel) (sym same) sound

@@ -1,5 +1,5 @@
 ghost use Rattle.std.specs.Prelude.{◌≡◌};
-ghost use Rattle.space_model.specs.Change.{paid, stop, succeeded};
+ghost use Rattle.space_model.specs.Change.{after_payment, stop, after_success};
 ghost use Rattle.space_model.specs.Event.{MayPay};
 
 use space_model::Refusal;
@@ -8,7 +8,7 @@ use space_tree::Top;
 // The caller pays for its call and stops.
 pub fn trap(caller: &mut Top, refusal: Refusal)
     requires { MayPay caller.old }
-    ensures { caller.new ≡ stop (paid caller.old caller.old) refusal.cause refusal.value }
+    ensures { caller.new ≡ stop (after_payment caller.old caller.old) refusal.cause refusal.value }
 {
     caller.pay(1);
     caller.stop(refusal.cause, refusal.value);
@@ -17,7 +17,7 @@ pub fn trap(caller: &mut Top, refusal: Refusal)
 // The caller pays for its call, which has succeeded.
 pub fn succeed(caller: &mut Top)
     requires { MayPay caller.old }
-    ensures { caller.new ≡ succeeded (paid caller.old caller.old) }
+    ensures { caller.new ≡ after_success (after_payment caller.old caller.old) }
 {
     caller.pay(1);
     caller.succeed();

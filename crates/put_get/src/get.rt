@@ -3,9 +3,9 @@ ghost use Rattle.call_model.specs.Options as options_of;
 ghost use Rattle.call_model.specs.declared.Call.TheVariants.{Get};
 ghost use Rattle.call_model.specs.Reading.{IsTransfer};
 ghost use Rattle.space_model.specs.Event.{MayPay};
-ghost use Rattle.space_model.specs.Beginning.{fresh};
+ghost use Rattle.space_model.specs.Beginning.{fresh_top};
 ghost use Rattle.space_model.specs.Meeting.{or_fresh};
-ghost use Rattle.space_model.specs.Part.{optional, block_part, caller_after};
+ghost use Rattle.space_model.specs.Part.{part_if, block_part, caller_after};
 ghost use Rattle.space_model.specs.Space.{children_from, children_of, find, top_of};
 ghost use Rattle.put_get.specs.Meetings.{with_action};
 ghost use Rattle.put_get.specs.Ranges.{one_change};
@@ -23,7 +23,7 @@ use trap_ret::{Transfer, write_block};
 #[tactic(auto, using(crate::proofs::Places::block_end))]
 fn take_registers(x: &Transfer, child: &Top, caller: &mut Top) -> Result<(), AllocError>
     requires { IsTransfer x.now }
-    ensures ok { OnOk result (caller.new ≡ optional (options_of.has options_of.regs x.now.options) (block_part x.now.block child.now) caller.old) }
+    ensures ok { OnOk result (caller.new ≡ part_if (options_of.has options_of.regs x.now.options) (block_part x.now.block child.now) caller.old) }
     ensures err { OnErr result (caller.new ≡ caller.old) }
     ensures asked { OnErr result (options_of.has options_of.regs x.now.options ≡ true) }
     ensures kept { record caller.new { memory = caller.old.memory } ≡ caller.old }
@@ -80,7 +80,7 @@ fn take_top(x: &Transfer, child: &Top, caller: &mut Top) -> Result<(), AllocErro
 // The same of a child that has never run.
 fn take_fresh(alloc: Global, x: &Transfer, caller: &mut Top) -> Result<(), AllocError>
     requires { IsTransfer x.now }
-    ensures ok { OnOk result (caller.new ≡ caller_after x.now (fresh (caller.old.fuel + caller.old.used)) caller.old) }
+    ensures ok { OnOk result (caller.new ≡ caller_after x.now (fresh_top (caller.old.fuel + caller.old.used)) caller.old) }
     ensures err { OnErr result (caller.new ≡ caller.old) }
 {
     let child = Top::fresh(alloc, caller.total_fuel());

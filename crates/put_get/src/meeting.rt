@@ -1,5 +1,5 @@
 ghost use Rattle.std.specs.Prelude.{◌≡◌, ◌-◌, ◌≤◌, ℕ, Bool, OnOk, OnErr};
-ghost use Rattle.space_model.specs.Change.{paid};
+ghost use Rattle.space_model.specs.Change.{after_payment};
 ghost use Rattle.space_model.specs.Event.{MayPay};
 ghost use Rattle.space_model.specs.Meeting.{MayMeet, meet};
 ghost use Rattle.space_model.specs.Sound.{IsSoundAt};
@@ -41,7 +41,7 @@ pub fn apply(
     requires depth { depth ≤ 8 }
     requires may_meet { MayMeet (8 - depth) call }
     requires may_pay { MayPay (top_of space.old) }
-    ensures ok { OnOk result (space.new ≡ meet (8 - depth) call (paid (top_of space.old) (top_of space.old)) (children_of space.old)) }
+    ensures ok { OnOk result (space.new ≡ meet (8 - depth) call (after_payment (top_of space.old) (top_of space.old)) (children_of space.old)) }
     ensures err { OnErr result (space.new ≡ space.old) }
     ensures sound { (root : Bool) (fuel : ℕ) → IsSoundAt (8 - depth) root fuel space.old → IsSoundAt (8 - depth) root fuel space.new }
 {

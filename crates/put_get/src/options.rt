@@ -41,7 +41,7 @@ pub fn has_start(x: &Transfer) -> bool
 
 // The child that is started has a limit.
 pub fn has_limit(x: &Transfer) -> bool
-    ensures { result ≡ options_of.has options_of.limited x.now.options }
+    ensures { result ≡ options_of.has options_of.limit_option x.now.options }
 {
     has(x.options, LIMIT)
 }

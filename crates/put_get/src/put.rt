@@ -5,9 +5,9 @@ ghost use Rattle.call_model.specs.Reading.{IsTransfer};
 ghost use Rattle.space_model.specs.Block.{registers_at};
 ghost use Rattle.space_model.specs.Call.{edit, change};
 ghost use Rattle.space_model.specs.Event.{MayPay};
-ghost use Rattle.space_model.specs.Beginning.{fresh};
+ghost use Rattle.space_model.specs.Beginning.{fresh_top};
 ghost use Rattle.space_model.specs.Meeting.{or_fresh};
-ghost use Rattle.space_model.specs.Part.{optional, with_parts, registers_part, start_part, start_limit, child_after};
+ghost use Rattle.space_model.specs.Part.{part_if, with_parts, registers_part, start_part, start_limit, child_after};
 ghost use Rattle.space_model.specs.Space.{space, none, children_from, children_of, find, top_of};
 ghost use Rattle.put_get.specs.Meetings.{with_action};
 ghost use Rattle.put_get.specs.Ranges.{range_parts};
@@ -25,7 +25,7 @@ use trap_ret::Transfer;
 #[tactic(auto, using(crate::proofs::Places::block_end, crate::proofs::Places::block_aligned))]
 fn give_registers(x: &Transfer, caller: &Top, child: &mut Top)
     requires { IsTransfer x.now }
-    ensures { child.new ≡ optional (options_of.has options_of.regs x.now.options) (registers_part (registers_at caller.now.memory x.now.block)) child.old }
+    ensures { child.new ≡ part_if (options_of.has options_of.regs x.now.options) (registers_part (registers_at caller.now.memory x.now.block)) child.old }
 {
     if has_regs(x) {
         child.registers = read_registers(&caller.memory, x.block);
@@ -34,7 +34,7 @@ fn give_registers(x: &Transfer, caller: &Top, child: &mut Top)
 
 // Start: the child runs, with the limit where there is one, where that is asked for.
 fn start(x: &Transfer, child: &mut Top)
-    ensures { child.new ≡ optional (options_of.has options_of.start x.now.options) (start_part (start_limit x.now)) child.old }
+    ensures { child.new ≡ part_if (options_of.has options_of.start x.now.options) (start_part (start_limit x.now)) child.old }
 {
     if has_start(x) {
         child.status = Status::Running;
@@ -85,7 +85,7 @@ fn give_top(x: &Transfer, caller: &Top, child: &mut Space) -> Result<(), AllocEr
 // The child that a Put makes.
 fn made(alloc: Global, x: &Transfer, caller: &Top) -> Result<Space, AllocError>
     requires { IsTransfer x.now }
-    ensures { IfOk result (λ child. child ≡ space (child_after x.now caller.now (fresh (caller.now.fuel + caller.now.used))) none) }
+    ensures { IfOk result (λ child. child ≡ space (child_after x.now caller.now (fresh_top (caller.now.fuel + caller.now.used))) none) }
 {
     let mut top = Top::fresh(alloc, caller.total_fuel());
     give(x, caller, &mut top)?;

@@ -1,7 +1,7 @@
 ghost use Rattle.std.specs.Prelude.{◌≡◌, ◌+◌, ◌/◌, ◌≤◌, OnOk, OnErr, true};
 ghost use Rattle.call_model.specs.Options as options_of;
 ghost use Rattle.call_model.specs.Reading.{IsTransfer};
-ghost use Rattle.space_model.specs.Part.{optional, with_parts, zero_part, copy_part, permission_part, source_page, destination_page, page_count};
+ghost use Rattle.space_model.specs.Part.{part_if, with_parts, zero_part, copy_part, permission_part, source_page, destination_page, page_count};
 ghost use Rattle.put_get.specs.Ranges.{range_parts, one_range};
 
 use crate::options::{has_copy, has_perm, has_zero, permission};
@@ -25,7 +25,7 @@ fn destination(x: &Transfer) -> Pages
 #[tactic(auto, using(crate::proofs::Places::zeroed_pages))]
 fn zero(x: &Transfer, top: &mut Top) -> Result<(), AllocError>
     requires { IsTransfer x.now }
-    ensures ok { OnOk result (top.new ≡ optional (options_of.has options_of.zeroing x.now.options) (zero_part (destination_page x.now) (page_count x.now)) top.old) }
+    ensures ok { OnOk result (top.new ≡ part_if (options_of.has options_of.zeroing x.now.options) (zero_part (destination_page x.now) (page_count x.now)) top.old) }
     ensures err { OnErr result (top.new ≡ top.old) }
     ensures kept { record top.new { memory = top.old.memory } ≡ top.old }
 {
@@ -39,7 +39,7 @@ fn zero(x: &Transfer, top: &mut Top) -> Result<(), AllocError>
 #[tactic(auto, using(crate::proofs::Places::copied_pages, crate::proofs::Places::source_pages))]
 fn copy(x: &Transfer, source: &Mem, top: &mut Top) -> Result<(), AllocError>
     requires { IsTransfer x.now }
-    ensures ok { OnOk result (top.new ≡ optional (options_of.has options_of.copy x.now.options) (copy_part source.now.memory (source_page x.now) (destination_page x.now) (page_count x.now)) top.old) }
+    ensures ok { OnOk result (top.new ≡ part_if (options_of.has options_of.copy x.now.options) (copy_part source.now.memory (source_page x.now) (destination_page x.now) (page_count x.now)) top.old) }
     ensures err { OnErr result (top.new ≡ top.old) }
     ensures asked { OnErr result (options_of.has options_of.copy x.now.options ≡ true) }
     ensures kept { record top.new { memory = top.old.memory } ≡ top.old }
@@ -55,7 +55,7 @@ fn copy(x: &Transfer, source: &Mem, top: &mut Top) -> Result<(), AllocError>
 #[tactic(auto, using(crate::proofs::Places::permitted_pages))]
 fn permit(x: &Transfer, top: &mut Top) -> Result<(), AllocError>
     requires { IsTransfer x.now }
-    ensures ok { OnOk result (top.new ≡ optional (options_of.has options_of.perm x.now.options) (permission_part (destination_page x.now) (page_count x.now) (options_of.permission x.now.options)) top.old) }
+    ensures ok { OnOk result (top.new ≡ part_if (options_of.has options_of.perm x.now.options) (permission_part (destination_page x.now) (page_count x.now) (options_of.permission x.now.options)) top.old) }
     ensures err { OnErr result (top.new ≡ top.old) }
     ensures asked { OnErr result (options_of.has options_of.perm x.now.options ≡ true) }
     ensures kept { record top.new { memory = top.old.memory } ≡ top.old }

@@ -4,26 +4,26 @@ use Rattle.space_model.specs.declared.Status.{Status}
 use Rattle.space_model.specs.declared.Status.TheVariants.{Running, Stopped}
 use Rattle.space_model.specs.Stop.{is_stopped}
 use Rattle.space_model.specs.Space.{Top, Space, space, Children, top_of}
-use Rattle.space_model.specs.Event.{Next, rests, moves, meets, next, Effect, becomes, asks, by_status, fuelled, limited, instruction, charged}
+use Rattle.space_model.specs.Event.{NextEvent, rests, moves, meets, next, Effect, becomes, asks, by_status, by_fuel_left, by_limit_left, instruction, charge}
 use Rattle.run_model.specs.Demand.{Meaning, run_for, left_of}
 
 -- what follows an event: less fuel, or a stop
-abbrev pub CostsOrEnds : ℕ → Top → Next → Type 0
+abbrev pub CostsOrEnds : ℕ → Top → NextEvent → Type 0
 CostsOrEnds levels t rests = Unit {0}
 CostsOrEnds levels t (moves u) = (suc u.fuel ≡ t.fuel) ⊎ (next levels u ≡ rests)
 CostsOrEnds levels t (meets k u) = suc u.fuel ≡ t.fuel
 
-charged_costs : (levels : ℕ) (t : Top) (n : ℕ) (m : Effect) → t.fuel ≡ suc n → CostsOrEnds levels t (charged t m)
+charged_costs : (levels : ℕ) (t : Top) (n : ℕ) (m : Effect) → t.fuel ≡ suc n → CostsOrEnds levels t (charge t m)
 charged_costs levels t n (becomes u) e = inl (omega (arith, e))
 charged_costs levels t n (asks k) e = omega (arith, e)
 
-limited_costs : (levels : ℕ) (t : Top) (n : ℕ) (o : Option ℕ) → t.fuel ≡ suc n → CostsOrEnds levels t (limited levels t o)
+limited_costs : (levels : ℕ) (t : Top) (n : ℕ) (o : Option ℕ) → t.fuel ≡ suc n → CostsOrEnds levels t (by_limit_left levels t o)
 unfolding next
 limited_costs levels t n (Some zero) e = inr refl
 limited_costs levels t n (Some (suc k)) e = charged_costs levels t n (instruction levels t) e
 limited_costs levels t n None e = charged_costs levels t n (instruction levels t) e
 
-fuelled_costs : (levels : ℕ) (t : Top) (n : ℕ) → t.fuel ≡ n → CostsOrEnds levels t (fuelled levels t n)
+fuelled_costs : (levels : ℕ) (t : Top) (n : ℕ) → t.fuel ≡ n → CostsOrEnds levels t (by_fuel_left levels t n)
 unfolding next
 fuelled_costs levels t zero e = inr refl
 fuelled_costs levels t (suc n) e = limited_costs levels t n t.limit e
@@ -57,16 +57,16 @@ run_for-moves f levels t u cs e =
     ]
 
 -- only a space that has stopped has no next event
-charged_goes_on : (t : Top) (m : Effect) → charged t m ≡ rests → ⊥
+charged_goes_on : (t : Top) (m : Effect) → charge t m ≡ rests → ⊥
 charged_goes_on t (becomes u) e = cc
 charged_goes_on t (asks k) e = cc
 
-limited_goes_on : (levels : ℕ) (t : Top) (o : Option ℕ) → limited levels t o ≡ rests → ⊥
+limited_goes_on : (levels : ℕ) (t : Top) (o : Option ℕ) → by_limit_left levels t o ≡ rests → ⊥
 limited_goes_on levels t (Some zero) e = cc
 limited_goes_on levels t (Some (suc n)) e = charged_goes_on t (instruction levels t) e
 limited_goes_on levels t None e = charged_goes_on t (instruction levels t) e
 
-fuelled_goes_on : (levels : ℕ) (t : Top) (n : ℕ) → fuelled levels t n ≡ rests → ⊥
+fuelled_goes_on : (levels : ℕ) (t : Top) (n : ℕ) → by_fuel_left levels t n ≡ rests → ⊥
 fuelled_goes_on levels t zero e = cc
 fuelled_goes_on levels t (suc n) e = limited_goes_on levels t t.limit e
 

@@ -10,7 +10,7 @@ use Rattle.space_model.specs.declared.Reach.TheVariants.{Itself}
 use Rattle.space_model.specs.Call.{Seen, Meeting, first_top, seen_of, apply_meeting}
 use Rattle.space_model.specs.Meeting.{awaits, meet, or_fresh, refusals, first_refusal, action, unless_refused}
 use Rattle.space_model.proofs.Parts.{caller_alike}
-use Rattle.space_model.specs.Event.{Next, rests, moves, meets, next, Follows}
+use Rattle.space_model.specs.Event.{NextEvent, rests, moves, meets, next, Follows}
 use Rattle.space_model.proofs.Children.{over_missing, over-at}
 use Rattle.run_model.specs.Demand.{Meaning, run_for, wait_for, wait_for_child, go_on, meaning, run, of_children, left_of}
 use Rattle.run_model.proofs.Fuel.{next_costs, CostsOrEnds, run_for-rests, run_for-moves, rests_stopped, stopped_rests, left_falls}
@@ -99,7 +99,7 @@ left_at_most : (b : Bool) (n : ℕ) → cond b 0 n ≤ n
 left_at_most true n = omega arith
 left_at_most false n = omega arith
 
-not_stopped : (levels : ℕ) (t : Top) (x : Next) → next levels t ≡ x → (x ≡ rests → ⊥) → (b : Bool) → is_stopped t.status ≡ b → b ≡ false
+not_stopped : (levels : ℕ) (t : Top) (x : NextEvent) → next levels t ≡ x → (x ≡ rests → ⊥) → (b : Bool) → is_stopped t.status ≡ b → b ≡ false
 not_stopped levels t x e ne true is = absurd (ne (sym e ∙ stopped_rests levels t is))
 not_stopped levels t x e ne false is = refl
 
@@ -108,7 +108,7 @@ unfolding run_for
 runs_out f levels zero s h = left_none (is_stopped (top_of s).status) (top_of s).fuel h
 runs_out f levels (suc n) s h = go (next levels (top_of s)) refl (runs_out f levels n)
   where
-    go : (x : Next) → next levels (top_of s) ≡ x → ((r : Space) → left_of (top_of r) ≤ n → is_stopped (top_of (run_for f levels n r).space).status ≡ true)
+    go : (x : NextEvent) → next levels (top_of s) ≡ x → ((r : Space) → left_of (top_of r) ≤ n → is_stopped (top_of (run_for f levels n r).space).status ≡ true)
         → is_stopped (top_of (go_on levels x s f (run_for f levels n)).space).status ≡ true
     go rests e rec = rests_stopped levels (top_of s) e
     go (moves u) e rec =

@@ -7,7 +7,7 @@ use Rattle.space_model.specs.Sound.{IsSoundAt, AreSound, IsSound}
 use Rattle.space_model.specs.Path.{under}
 use Rattle.space_model.specs.declared.Reach.TheVariants.{Whole}
 use Rattle.space_model.proofs.Sound.{no_children}
-use Rattle.run_model.specs.Demand.{Meaning, wait_for, wait_for_child, everyone, unmoved, meaning, run, settle, settled}
+use Rattle.run_model.specs.Demand.{Meaning, wait_for, wait_for_child, everyone, no_events, meaning, run, settle, settle_tree}
 use Rattle.run_model.proofs.Run.{run-stops}
 use Rattle.run_model.proofs.Sound.{run_sound, settle_sound}
 
@@ -73,7 +73,7 @@ pub settle-each : (levels : ℕ) (root : Bool) (fuel : ℕ) (s : Space) → IsSo
 unfolding meaning
 settle-each zero root fuel s ok =
     let ran = run_sound zero root fuel s ok in
-    under-each unmoved zero root fuel (run zero s) ran ∙ under_none (λ c. c) (settle zero) root fuel (run zero s) ran
+    under-each no_events zero root fuel (run zero s) ran ∙ under_none (λ c. c) (settle zero) root fuel (run zero s) ran
 settle-each (suc levels) root fuel s ok = under-each (meaning levels) (suc levels) root fuel (run (suc levels) s) (run_sound (suc levels) root fuel s ok)
 
 -- then no space in it runs
@@ -98,8 +98,8 @@ settle-settled (suc levels) root fuel s ok =
     (under_settled (settle levels) (suc levels) root fuel (run (suc levels) s) (run_sound (suc levels) root fuel s ok) (λ c h. settle-settled levels false fuel c h) (run-stops (suc levels) s))
 
 -- a whole tree
-pub settled_sound : (s : Space) → IsSound s → IsSound (settled s)
+pub settled_sound : (s : Space) → IsSound s → IsSound (settle_tree s)
 settled_sound s ok = (ok.0, (ok.1.0, ok.1.1, settle_sound 8 true ok.0 s ok.1.2))
 
-pub settled-settled : (s : Space) → IsSound s → is_settled (settled s) ≡ true
+pub settled-settled : (s : Space) → IsSound s → is_settled (settle_tree s) ≡ true
 settled-settled s ok = settle-settled 8 true ok.0 s ok.1.2

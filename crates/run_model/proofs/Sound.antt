@@ -8,12 +8,12 @@ use Rattle.space_model.specs.declared.Reach.{Reach}
 use Rattle.space_model.specs.declared.Reach.TheVariants.{Itself, Whole}
 use Rattle.space_model.specs.Call.{Await}
 use Rattle.space_model.specs.Meeting.{awaits, meet}
-use Rattle.space_model.specs.Event.{Next, rests, moves, meets, next}
+use Rattle.space_model.specs.Event.{NextEvent, rests, moves, meets, next}
 use Rattle.space_model.proofs.Sound.{found_sound, over_sound, over_found_sound, meet_sound}
 use Rattle.space_model.proofs.Next.{next_meets, next_sound}
 use Rattle.run_model.specs.Boot.{boot}
-use Rattle.run_model.specs.Demand.{Meaning, wait_for, wait_for_child, go_on, run_for, everyone, unmoved, meaning, run, settle}
-use Rattle.run_model.specs.Schedule.{enabled, event, step, try_step}
+use Rattle.run_model.specs.Demand.{Meaning, wait_for, wait_for_child, go_on, run_for, everyone, no_events, meaning, run, settle}
+use Rattle.run_model.specs.Schedule.{is_enabled, event, step, try_step}
 
 -- what becomes of children keeps them sound
 abbrev pub KeepsSound : Meaning → ℕ → ℕ → Type 0
@@ -41,7 +41,7 @@ unfolding run_for
 run_for_sound f levels root fuel zero s kept ok = ok
 run_for_sound f levels root fuel (suc n) (space t cs) kept ok = go (next levels t) refl (λ r h. run_for_sound f levels root fuel n r kept h)
   where
-    go : (x : Next) → next levels t ≡ x → ((r : Space) → IsSoundAt levels root fuel r → IsSoundAt levels root fuel (run_for f levels n r).space) → IsSoundAt levels root fuel (go_on levels x (space t cs) f (run_for f levels n)).space
+    go : (x : NextEvent) → next levels t ≡ x → ((r : Space) → IsSoundAt levels root fuel r → IsSoundAt levels root fuel (run_for f levels n r).space) → IsSoundAt levels root fuel (go_on levels x (space t cs) f (run_for f levels n)).space
     go rests e rec = ok
     go (moves u) e rec = rec (space u cs) (next_sound levels fuel root t u e ok.0, ok.1)
     go (meets k u) e rec = rec _ (next_meets_sound levels root fuel t u k (wait_for f (awaits k) cs).children e ok.0 (wait_for_sound f levels fuel (awaits k) cs kept ok.1))
@@ -52,9 +52,9 @@ settled_children_sound f levels root fuel (space t cs) kept ok = (ok.0, wait_for
 
 pub meaning_sound : (levels : ℕ) (reach : Reach) (root : Bool) (fuel : ℕ) (s : Space) → IsSoundAt levels root fuel s → IsSoundAt levels root fuel (meaning levels reach s).space
 unfolding meaning
-meaning_sound zero Itself root fuel s ok = run_for_sound unmoved zero root fuel (suc (top_of s).fuel) s (λ reach c h. h) ok
+meaning_sound zero Itself root fuel s ok = run_for_sound no_events zero root fuel (suc (top_of s).fuel) s (λ reach c h. h) ok
 meaning_sound zero Whole root fuel s ok =
-    settled_children_sound unmoved zero root fuel (run_for unmoved zero (suc (top_of s).fuel) s).space (λ reach c h. h) (run_for_sound unmoved zero root fuel (suc (top_of s).fuel) s (λ reach c h. h) ok)
+    settled_children_sound no_events zero root fuel (run_for no_events zero (suc (top_of s).fuel) s).space (λ reach c h. h) (run_for_sound no_events zero root fuel (suc (top_of s).fuel) s (λ reach c h. h) ok)
 meaning_sound (suc levels) Itself root fuel s ok = run_for_sound (meaning levels) (suc levels) root fuel (suc (top_of s).fuel) s (λ reach c h. meaning_sound levels reach false fuel c h) ok
 meaning_sound (suc levels) Whole root fuel s ok =
     settled_children_sound (meaning levels) (suc levels) root fuel (run_for (meaning levels) (suc levels) (suc (top_of s).fuel) s).space (λ reach c h. meaning_sound levels reach false fuel c h)
@@ -72,7 +72,7 @@ unfolding boot
 boot_sound i d fuel low high = (fuel, (low, high, (record { sum = omega arith; devices = refl }, tt)))
 
 -- an event at a path
-pub event_sound : (levels : ℕ) (root : Bool) (fuel : ℕ) (t : Top) (cs : Children) (x : Next) → next levels t ≡ x → IsSoundAt levels root fuel (space t cs) → IsSoundAt levels root fuel (event levels x (space t cs))
+pub event_sound : (levels : ℕ) (root : Bool) (fuel : ℕ) (t : Top) (cs : Children) (x : NextEvent) → next levels t ≡ x → IsSoundAt levels root fuel (space t cs) → IsSoundAt levels root fuel (event levels x (space t cs))
 event_sound levels root fuel t cs rests e ok = ok
 event_sound levels root fuel t cs (moves u) e ok = (next_sound levels fuel root t u e ok.0, ok.1)
 event_sound levels root fuel t cs (meets k u) e ok = next_meets_sound levels root fuel t u k cs e ok.0 ok.1
@@ -82,7 +82,7 @@ step_sound [] levels root fuel (space t cs) ok = event_sound levels root fuel t 
 step_sound (n ∷ p) levels root fuel (space t cs) ok = (ok.0, over_sound levels fuel 0 n (step p (pred levels)) cs ok.1 (λ c at h. step_sound p (pred levels) false fuel c h))
 
 pub try_step_sound : (p : List ℕ) (levels : ℕ) (root : Bool) (fuel : ℕ) (s : Space) → IsSoundAt levels root fuel s → IsSoundAt levels root fuel (try_step p levels s)
-try_step_sound p levels root fuel s ok = go (enabled p levels s)
+try_step_sound p levels root fuel s ok = go (is_enabled p levels s)
   where
     go : (b : Bool) → IsSoundAt levels root fuel (cond b (step p levels s) s)
     go true = step_sound p levels root fuel s ok

@@ -9,7 +9,7 @@ use Rattle.space_model.specs.declared.Reach.{Reach}
 use Rattle.space_model.specs.declared.Reach.TheVariants.{Itself, Whole}
 use Rattle.space_model.specs.Call.{Await}
 use Rattle.space_model.specs.Meeting.{awaits, meet}
-use Rattle.space_model.specs.Event.{Next, rests, moves, meets, next}
+use Rattle.space_model.specs.Event.{NextEvent, rests, moves, meets, next}
 
 pub record Ran : Type 0 where
   pub space : Space
@@ -39,13 +39,13 @@ abbrev pub with_events : ℕ → Ran → Ran
 with_events n r = record { space = r.space; events = n + r.events }
 
 -- the caller after a call, with so many levels of children left below it, and the events until then
-abbrev pub met : ℕ → Call → Top → Waited → (Space → Ran) → Ran
-met levels k t w again = with_events (w.events + 1) (again (meet levels k t w.children))
+abbrev pub after_meeting : ℕ → Call → Top → Waited → (Space → Ran) → Ran
+after_meeting levels k t w again = with_events (w.events + 1) (again (meet levels k t w.children))
 
-abbrev pub go_on : ℕ → Next → Space → Meaning → (Space → Ran) → Ran
+abbrev pub go_on : ℕ → NextEvent → Space → Meaning → (Space → Ran) → Ran
 go_on levels rests s f again = record { space = s; events = 0 }
 go_on levels (moves t) s f again = with_events 1 (again (space t (children_of s)))
-go_on levels (meets k t) s f again = met levels k t (wait_for f (awaits k) (children_of s)) again
+go_on levels (meets k t) s f again = after_meeting levels k t (wait_for f (awaits k) (children_of s)) again
 
 -- a space runs until it stops, over what its children do when they are waited for, for at most so many events of its own
 unfoldable pub run_for : Meaning → ℕ → ℕ → Space → Ran
@@ -65,12 +65,12 @@ abbrev pub finish : Reach → Meaning → Ran → Ran
 finish Itself f r = r
 finish Whole f r = with_children r (wait_for f (everyone (children_of r.space)) (children_of r.space))
 
-abbrev pub unmoved : Meaning
-unmoved reach s = record { space = s; events = 0 }
+abbrev pub no_events : Meaning
+no_events reach s = record { space = s; events = 0 }
 
 -- With so many levels of children left below the space. Each event but the last, a stop, takes a unit of fuel.
 unfoldable pub meaning : ℕ → Reach → Space → Ran
-meaning zero reach s = finish reach unmoved (run_for unmoved zero (suc (top_of s).fuel) s)
+meaning zero reach s = finish reach no_events (run_for no_events zero (suc (top_of s).fuel) s)
 meaning (suc levels) reach s = finish reach (meaning levels) (run_for (meaning levels) (suc levels) (suc (top_of s).fuel) s)
 
 -- how many events of its own a space has left at most
@@ -91,9 +91,9 @@ work levels s = (meaning levels Whole s).events
 
 -- what becomes of a child of a space with so many levels left below it
 abbrev pub of_children : ℕ → Meaning
-of_children zero = unmoved
+of_children zero = no_events
 of_children (suc levels) = meaning levels
 
 -- a whole tree has 8 levels of children below its root
-abbrev pub settled : Space → Space
-settled s = settle 8 s
+abbrev pub settle_tree : Space → Space
+settle_tree s = settle 8 s

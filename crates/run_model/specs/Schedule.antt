@@ -9,7 +9,7 @@ use Rattle.space_model.specs.declared.Reach.{Reach}
 use Rattle.space_model.specs.declared.Reach.TheVariants.{Itself, Whole}
 use Rattle.space_model.specs.Call.{Await}
 use Rattle.space_model.specs.Meeting.{awaits, meet}
-use Rattle.space_model.specs.Event.{Next, rests, moves, meets, next}
+use Rattle.space_model.specs.Event.{NextEvent, rests, moves, meets, next}
 
 -- a child that is awaited is ready where it is missing, or stopped, or, where it is awaited whole, settled
 abbrev pub is_ready : Reach → Option Space → Bool
@@ -22,13 +22,13 @@ are_ready [] cs = true
 are_ready (a ∷ others) cs = is_ready a.reach (find a.number cs) && are_ready others cs
 
 -- the event that is next may happen
-abbrev pub may_happen : Next → Children → Bool
+abbrev pub may_happen : NextEvent → Children → Bool
 may_happen rests cs = false
 may_happen (moves t) cs = true
 may_happen (meets k t) cs = are_ready (awaits k) cs
 
 -- what becomes of a space by the event that is next, with so many levels of children left below it
-abbrev pub event : ℕ → Next → Space → Space
+abbrev pub event : ℕ → NextEvent → Space → Space
 event levels rests s = s
 event levels (moves t) s = space t (children_of s)
 event levels (meets k t) s = meet levels k t (children_of s)
@@ -38,9 +38,9 @@ on_child f None = false
 on_child f (Some s) = f s
 
 -- the event at a path may happen, of a space with so many levels of children left below it
-abbrev pub enabled : List ℕ → ℕ → Space → Bool
-enabled [] levels s = may_happen (next levels (top_of s)) (children_of s)
-enabled (n ∷ p) levels s = on_child (enabled p (pred levels)) (find n (children_of s))
+abbrev pub is_enabled : List ℕ → ℕ → Space → Bool
+is_enabled [] levels s = may_happen (next levels (top_of s)) (children_of s)
+is_enabled (n ∷ p) levels s = on_child (is_enabled p (pred levels)) (find n (children_of s))
 
 -- the event at a path, where a space stands there
 abbrev pub step : List ℕ → ℕ → Space → Space
@@ -49,4 +49,4 @@ step (n ∷ p) levels s = under (over n (step p (pred levels))) s
 
 -- the event at a path where it may happen, else nothing
 abbrev pub try_step : List ℕ → ℕ → Space → Space
-try_step p levels s = cond (enabled p levels s) (step p levels s) s
+try_step p levels s = cond (is_enabled p levels s) (step p levels s) s

@@ -13,15 +13,15 @@ use Rattle.call_model.specs.Limits.{greatest_child, greatest_depth}
 use Rattle.call_model.specs.Kinds.{kind_of}
 use Rattle.call_model.specs.Tests.{argument, wrong_child, too_deep, first_failing}
 use Rattle.call_model.specs.Reading as reading
-use Rattle.call_model.specs.Reading.{answered, read_as, read, IsAccepted}
+use Rattle.call_model.specs.Reading.{unless_failed, read_as, read, IsAccepted}
 use Rattle.call_model.proofs.Accepted.{Passes, passes, named_accepted}
 use Rattle.space_model.specs.declared.Status.{Status}
 use Rattle.space_model.specs.declared.Status.TheVariants.{Running, Stopped}
 use Rattle.space_model.specs.Space.{Top, Devices}
 use Rattle.space_model.specs.Sound.{has_devices, IsSoundTop}
-use Rattle.space_model.specs.Change.{paid}
+use Rattle.space_model.specs.Change.{after_payment}
 use Rattle.space_model.specs.Meeting.{MayMeet}
-use Rattle.space_model.specs.Event.{Effect, becomes, asks, Next, rests, moves, meets, charged, with_devices, output, console_out, effect_of, by_reading, call, after_outcome, instruction, limited, fuelled, by_status, next, Follows, IsNotLocal, MayPay}
+use Rattle.space_model.specs.Event.{Effect, becomes, asks, NextEvent, rests, moves, meets, charge, with_devices, output, console_out, effect_of, by_reading, call, after_outcome, instruction, by_limit_left, by_fuel_left, by_status, next, Follows, IsNotLocal, MayPay}
 
 fits : (n : ℕ) → nat_lt greatest_child n ≡ false → n < 65536
 fits n h = grind (arith, nat_tests)
@@ -48,7 +48,7 @@ asked t (named.ConsoleOut addr len) k e = absurd (console_asks t addr len k e)
 asked t c k e = cc
 
 -- of registers that fail no test, it may meet its child
-named_meets : (levels : ℕ) (t : Top) (kind : Kind) (x : List ℕ) (root : Bool) (k : Call) → Passes kind x root (greatest_depth - levels) → effect_of t (reading.named kind x) ≡ asks k → MayMeet levels (reading.named kind x)
+named_meets : (levels : ℕ) (t : Top) (kind : Kind) (x : List ℕ) (root : Bool) (k : Call) → Passes kind x root (greatest_depth - levels) → effect_of t (reading.call_of kind x) ≡ asks k → MayMeet levels (reading.call_of kind x)
 unfolding wrong_child too_deep
 named_meets levels t kinds.Put x root k p e = (shallow levels p.below, fits (argument x 1) p.child)
 named_meets levels t kinds.Get x root k p e = fits (argument x 1) p.child
@@ -56,10 +56,10 @@ named_meets levels t kinds.Ret x root k p e = cc
 named_meets levels t kinds.ConsoleOut x root k p e = absurd (console_asks t (argument x 1) (argument x 2) k e)
 
 answer_asks : (levels : ℕ) (t : Top) (kind : Kind) (x : List ℕ) (root : Bool) (k : Call) (o : Option ℕ) → first_failing kind x root (greatest_depth - levels) ≡ o
-    → by_reading t (answered o (reading.named kind x)) ≡ asks k → MayMeet levels k × IsAccepted k
+    → by_reading t (unless_failed o (reading.call_of kind x)) ≡ asks k → MayMeet levels k × IsAccepted k
 answer_asks levels t kind x root k (Some n) is e = cc
 answer_asks levels t kind x root k None is e =
-    let same = asked t (reading.named kind x) k e in
+    let same = asked t (reading.call_of kind x) k e in
     (subst (MayMeet levels) same (named_meets levels t kind x root k (passes kind x root (greatest_depth - levels) is) e), subst IsAccepted same (named_accepted kind x root (greatest_depth - levels) is))
 
 reading_asks : (levels : ℕ) (t : Top) (o : Option Kind) (x : List ℕ) (root : Bool) (k : Call) → by_reading t (read_as o x root (greatest_depth - levels)) ≡ asks k → MayMeet levels k × IsAccepted k
@@ -75,7 +75,7 @@ outcome_asks levels t (traps number value) k e = cc
 -- what is known of a call that is next
 pub record IsCall (levels : ℕ) (t : Top) (k : Call) (u : Top) : Type 0 where
   pub may : MayMeet levels k
-  pub paid : u ≡ paid t t
+  pub paid : u ≡ after_payment t t
   pub pays : MayPay t
   pub accepted : IsAccepted k
 
@@ -83,20 +83,20 @@ instruction_asks : (levels : ℕ) (t : Top) (k : Call) → instruction levels t 
 instruction_asks levels t k e =
     reading_asks levels t (kind_of (argument t.registers.x 7)) t.registers.x (has_devices t.devices) k (outcome_asks levels t (outcome (view_of t.memory) t.registers) k e)
 
-charged_meets : (t : Top) (m : Effect) (k : Call) (u : Top) → charged t m ≡ meets k u → (m ≡ asks k) × (u ≡ paid t t)
+charged_meets : (t : Top) (m : Effect) (k : Call) (u : Top) → charge t m ≡ meets k u → (m ≡ asks k) × (u ≡ after_payment t t)
 charged_meets t (becomes v) k u e = cc
-charged_meets t (asks j) k u e = let same : j ≡ k = cc in let pays : paid t t ≡ u = cc in (ap asks same, sym pays)
+charged_meets t (asks j) k u e = let same : j ≡ k = cc in let pays : after_payment t t ≡ u = cc in (ap asks same, sym pays)
 
-limited_meets : (levels : ℕ) (t : Top) (o : Option ℕ) (k : Call) (u : Top) → limited levels t o ≡ meets k u → (instruction levels t ≡ asks k) × (u ≡ paid t t) × (o ≡ Some 0 → ⊥)
+limited_meets : (levels : ℕ) (t : Top) (o : Option ℕ) (k : Call) (u : Top) → by_limit_left levels t o ≡ meets k u → (instruction levels t ≡ asks k) × (u ≡ after_payment t t) × (o ≡ Some 0 → ⊥)
 limited_meets levels t (Some zero) k u e = cc
 limited_meets levels t (Some (suc n)) k u e = let h = charged_meets t (instruction levels t) k u e in (h.0, h.1, λ z. cc)
 limited_meets levels t None k u e = let h = charged_meets t (instruction levels t) k u e in (h.0, h.1, λ z. cc)
 
-fuelled_meets : (levels : ℕ) (t : Top) (n : ℕ) (k : Call) (u : Top) → fuelled levels t n ≡ meets k u → (instruction levels t ≡ asks k) × (u ≡ paid t t) × (t.limit ≡ Some 0 → ⊥) × (0 < n)
+fuelled_meets : (levels : ℕ) (t : Top) (n : ℕ) (k : Call) (u : Top) → by_fuel_left levels t n ≡ meets k u → (instruction levels t ≡ asks k) × (u ≡ after_payment t t) × (t.limit ≡ Some 0 → ⊥) × (0 < n)
 fuelled_meets levels t zero k u e = cc
 fuelled_meets levels t (suc n) k u e = let h = limited_meets levels t t.limit k u e in let some : 0 < suc n = omega arith in (h.0, h.1, h.2, some)
 
-status_meets : (levels : ℕ) (t : Top) (s : Status) (k : Call) (u : Top) → by_status levels t s ≡ meets k u → (s ≡ Running) × (fuelled levels t t.fuel ≡ meets k u)
+status_meets : (levels : ℕ) (t : Top) (s : Status) (k : Call) (u : Top) → by_status levels t s ≡ meets k u → (s ≡ Running) × (by_fuel_left levels t t.fuel ≡ meets k u)
 status_meets levels t Running k u e = (refl, e)
 status_meets levels t (Stopped cause value) k u e = cc
 
@@ -138,21 +138,21 @@ outcome_keeps levels t calls = reading_keeps t (read t.registers.x (has_devices 
 outcome_keeps levels t (traps number value) = refl
 
 -- a local event keeps a top sound
-abbrev KeepsSound : ℕ → Bool → Next → Type 0
+abbrev KeepsSound : ℕ → Bool → NextEvent → Type 0
 KeepsSound fuel root rests = Unit {0}
 KeepsSound fuel root (moves u) = IsSoundTop fuel root u
 KeepsSound fuel root (meets k u) = Unit {0}
 
-charged_sound : (fuel : ℕ) (root : Bool) (t : Top) (m : Effect) → 0 < t.fuel → IsSoundTop fuel root t → KeepsDevices t m → KeepsSound fuel root (charged t m)
+charged_sound : (fuel : ℕ) (root : Bool) (t : Top) (m : Effect) → 0 < t.fuel → IsSoundTop fuel root t → KeepsDevices t m → KeepsSound fuel root (charge t m)
 charged_sound fuel root t (becomes u) some ok kept = let total = ok.sum in record { sum = omega arith; devices = kept ∙ ok.devices }
 charged_sound fuel root t (asks k) some ok kept = tt
 
-limited_sound : (levels fuel : ℕ) (root : Bool) (t : Top) (o : Option ℕ) → 0 < t.fuel → IsSoundTop fuel root t → KeepsSound fuel root (limited levels t o)
+limited_sound : (levels fuel : ℕ) (root : Bool) (t : Top) (o : Option ℕ) → 0 < t.fuel → IsSoundTop fuel root t → KeepsSound fuel root (by_limit_left levels t o)
 limited_sound levels fuel root t (Some zero) some ok = record { sum = ok.sum; devices = ok.devices }
 limited_sound levels fuel root t (Some (suc n)) some ok = charged_sound fuel root t (instruction levels t) some ok (outcome_keeps levels t (outcome (view_of t.memory) t.registers))
 limited_sound levels fuel root t None some ok = charged_sound fuel root t (instruction levels t) some ok (outcome_keeps levels t (outcome (view_of t.memory) t.registers))
 
-fuelled_sound : (levels fuel : ℕ) (root : Bool) (t : Top) (n : ℕ) → t.fuel ≡ n → IsSoundTop fuel root t → KeepsSound fuel root (fuelled levels t n)
+fuelled_sound : (levels fuel : ℕ) (root : Bool) (t : Top) (n : ℕ) → t.fuel ≡ n → IsSoundTop fuel root t → KeepsSound fuel root (by_fuel_left levels t n)
 fuelled_sound levels fuel root t zero is ok = record { sum = ok.sum; devices = ok.devices }
 fuelled_sound levels fuel root t (suc n) is ok = let some : 0 < t.fuel = omega (arith, is) in limited_sound levels fuel root t t.limit some ok
 

@@ -3,7 +3,7 @@ use Rattle.std.proofs.Common.{◌≡◌, ℕ, Bool, true, false, List, [], ◌�
 use Rattle.call_model.specs.declared.Transfer.{Transfer}
 use Rattle.call_model.specs.Options.{has}
 use Rattle.space_model.specs.Space.{Top}
-use Rattle.space_model.specs.Part.{Part, optional, with_parts, put_parts, get_parts, child_after, caller_after}
+use Rattle.space_model.specs.Part.{Part, part_if, with_parts, put_parts, get_parts, child_after, caller_after}
 
 -- a top with the fuel, the use and the devices of another
 pub record IsAlike (t u : Top) : Type 0 where
@@ -22,14 +22,14 @@ abbrev AllKeep : List (ℕ × Part) → Type 0
 AllKeep [] = Unit {0}
 AllKeep (p ∷ ps) = ((t : Top) → IsAlike t (p.1 t)) × AllKeep ps
 
-optional_keeps : (asked : Bool) (p : Part) → ((t : Top) → IsAlike t (p t)) → (t : Top) → IsAlike t (optional asked p t)
+optional_keeps : (asked : Bool) (p : Part) → ((t : Top) → IsAlike t (p t)) → (t : Top) → IsAlike t (part_if asked p t)
 optional_keeps true p h t = h t
 optional_keeps false p h t = alike_itself t
 
 all_keep : (options : ℕ) (ps : List (ℕ × Part)) → AllKeep ps → (t : Top) → IsAlike t (with_parts options ps t)
 all_keep options [] h t = alike_itself t
 all_keep options (p ∷ ps) h t =
-    let u = optional (has p.0 options) p.1 t in
+    let u = part_if (has p.0 options) p.1 t in
     alike_then t u (with_parts options ps u) (optional_keeps (has p.0 options) p.1 h.0 t) (all_keep options ps h.1 u)
 
 pub child_alike : (x : Transfer) (t c : Top) → IsAlike c (child_after x t c)

@@ -11,7 +11,7 @@ use Rattle.space_model.specs.declared.Refusal.{Refusal}
 use Rattle.space_model.specs.Space.{Space, space, Children, none, child, Top, top_of, children_of, find, over, has, enter, put_child}
 use Rattle.space_model.specs.Sound.{has_devices, IsSoundTop, IsSoundAt, AreSound}
 use Rattle.space_model.specs.Path.{with_top, with_space, is_root}
-use Rattle.space_model.specs.Change.{paid}
+use Rattle.space_model.specs.Change.{after_payment}
 use Rattle.space_model.specs.Call.{Meeting, below, seen_of, apply_meeting}
 use Rattle.space_model.specs.Part.{child_after, caller_after}
 use Rattle.space_model.specs.Event.{MayPay}
@@ -115,7 +115,7 @@ with_space_sound (n ∷ m ∷ p) levels root fuel r (space t cs) long fit new ok
     (ok.0, over_sound levels fuel 0 n (with_space (m ∷ p) r) cs ok.1 (λ c at h. with_space_sound (m ∷ p) (pred levels) false fuel r c shorter (λ k. fit (suc k)) inner h))
 
 -- a top that has paid for an event
-pub paid_sound : (fuel : ℕ) (root : Bool) (t u : Top) → 0 < t.fuel → IsSoundTop fuel root t → IsSoundTop fuel root u → IsSoundTop fuel root (paid t u)
+pub paid_sound : (fuel : ℕ) (root : Bool) (t u : Top) → 0 < t.fuel → IsSoundTop fuel root t → IsSoundTop fuel root u → IsSoundTop fuel root (after_payment t u)
 paid_sound fuel root t u some old new = let total = old.sum in record { sum = omega arith; devices = new.devices }
 
 -- a top with a sound one's fuel, use and devices
@@ -158,12 +158,12 @@ unless_sound levels root fuel None u m cs top ok acts = acts
 unless_sound levels root fuel (Some r) u m cs top ok acts = (record { sum = top.sum; devices = top.devices }, ok)
 
 -- a call of a sound caller that pays for it
-pub meet_sound : (levels : ℕ) (root : Bool) (fuel : ℕ) (k : Call) (t : Top) (cs : Children) → MayMeet levels k → 0 < t.fuel → IsSoundAt levels root fuel (space t cs) → IsSoundAt levels root fuel (meet levels k (paid t t) cs)
+pub meet_sound : (levels : ℕ) (root : Bool) (fuel : ℕ) (k : Call) (t : Top) (cs : Children) → MayMeet levels k → 0 < t.fuel → IsSoundAt levels root fuel (space t cs) → IsSoundAt levels root fuel (meet levels k (after_payment t t) cs)
 meet_sound levels root fuel k t cs may some ok =
     let top = paid_sound fuel root t t some ok.0 ok.0 in
     let seen = seen_of (awaits k) cs in
-    unless_sound levels root fuel (first_refusal (refusals levels k (paid t t) seen)) (paid t t) (action k (paid t t) seen) cs top ok.1 (action_sound levels root fuel k (paid t t) cs may top ok.1)
+    unless_sound levels root fuel (first_refusal (refusals levels k (after_payment t t) seen)) (after_payment t t) (action k (after_payment t t) seen) cs top ok.1 (action_sound levels root fuel k (after_payment t t) cs may top ok.1)
 
 -- the same of a space as a call of code has it
-pub meeting_sound : (levels : ℕ) (root : Bool) (fuel : ℕ) (k : Call) (s : Space) → MayMeet levels k → MayPay (top_of s) → IsSoundAt levels root fuel s → IsSoundAt levels root fuel (meet levels k (paid (top_of s) (top_of s)) (children_of s))
+pub meeting_sound : (levels : ℕ) (root : Bool) (fuel : ℕ) (k : Call) (s : Space) → MayMeet levels k → MayPay (top_of s) → IsSoundAt levels root fuel s → IsSoundAt levels root fuel (meet levels k (after_payment (top_of s) (top_of s)) (children_of s))
 meeting_sound levels root fuel k (space t cs) may pays ok = meet_sound levels root fuel k t cs may pays.fuel ok

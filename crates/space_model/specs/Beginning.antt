@@ -7,8 +7,8 @@ use Rattle.space_model.specs.declared.Status.TheVariants.{Running, Stopped}
 use Rattle.space_model.specs.Space.{Top, Devices}
 
 -- a space that has never run, with so much fuel
-abbrev pub fresh : ℕ → Top
-fresh fuel = record {
+abbrev pub fresh_top : ℕ → Top
+fresh_top fuel = record {
   registers = record { pc = 0; x = replicate 32 0 };
   memory = no_memory;
   snapshot = None;

@@ -10,13 +10,13 @@ abbrev pub stop : Top → Cause → ℕ → Top
 stop t cause value = record t { status = Stopped cause value }
 
 -- a call that has succeeded: a0 is 0, and the next instruction follows
-abbrev pub succeeded : Top → Top
-succeeded t = record t { registers = with_register (onward t.registers) 10 0 }
+abbrev pub after_success : Top → Top
+after_success t = record t { registers = with_register (onward t.registers) 10 0 }
 
 -- with the fuel, the use and the limit of t, less or more the units that so many events take
-abbrev pub spent : ℕ → Top → Top → Top
-spent n t u = record u { fuel = t.fuel - n; used = t.used + n; limit = option_map (λ k. k - n) t.limit }
+abbrev pub after_spending : ℕ → Top → Top → Top
+after_spending n t u = record u { fuel = t.fuel - n; used = t.used + n; limit = option_map (λ k. k - n) t.limit }
 
 -- less or more the one unit that an event takes
-abbrev pub paid : Top → Top → Top
-paid t u = spent 1 t u
+abbrev pub after_payment : Top → Top → Top
+after_payment t u = after_spending 1 t u

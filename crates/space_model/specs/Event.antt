@@ -15,7 +15,7 @@ use Rattle.space_model.specs.declared.Cause.TheVariants.{LoadFault, Badcall, Lim
 use Rattle.space_model.specs.Stop.{cause_of}
 use Rattle.space_model.specs.Space.{Top, Devices}
 use Rattle.space_model.specs.Sound.{has_devices}
-use Rattle.space_model.specs.Change.{stop, succeeded, paid}
+use Rattle.space_model.specs.Change.{stop, after_success, after_payment}
 
 -- what an event does, before what it costs
 pub data Effect : Type 0 where
@@ -23,15 +23,15 @@ pub data Effect : Type 0 where
   asks : Call → Effect
 
 -- what is next of a space: nothing, its own event, or a call of a top that has paid for it
-pub data Next : Type 0 where
-  rests : Next
-  moves : Top → Next
-  meets : Call → Top → Next
+pub data NextEvent : Type 0 where
+  rests : NextEvent
+  moves : Top → NextEvent
+  meets : Call → Top → NextEvent
 
 -- an event of t takes one unit of its fuel and of its limit
-abbrev pub charged : Top → Effect → Next
-charged t (becomes u) = moves (paid t u)
-charged t (asks k) = meets k (paid t t)
+abbrev pub charge : Top → Effect → NextEvent
+charge t (becomes u) = moves (after_payment t u)
+charge t (asks k) = meets k (after_payment t t)
 
 -- what a call of a device does; the tests on registers let it through where there are devices alone
 abbrev pub with_devices : Top → Option Devices → (Devices → Effect) → Effect
@@ -44,7 +44,7 @@ with_output t d bytes = record t { devices = Some (record d { console = d.consol
 
 abbrev pub output : Top → Devices → ℕ → ℕ → Option ℕ → Effect
 output t d addr len (Some a) = becomes (stop t LoadFault a)
-output t d addr len None = becomes (succeeded (with_output t d (bytes_from t.memory addr len)))
+output t d addr len None = becomes (after_success (with_output t d (bytes_from t.memory addr len)))
 
 -- console out of a range, which has to be readable
 abbrev pub console_out : Top → ℕ → ℕ → Devices → Effect
@@ -52,7 +52,7 @@ console_out t addr len d = output t d addr len (first_without (may_read t.memory
 
 -- what a call does; one that meets children is asked for
 abbrev pub effect_of : Top → Call → Effect
-effect_of t (named.Ret value) = becomes (stop (succeeded t) Ret value)
+effect_of t (named.Ret value) = becomes (stop (after_success t) Ret value)
 effect_of t (named.ConsoleOut addr len) = with_devices t t.devices (console_out t addr len)
 effect_of t call = asks call
 
@@ -74,21 +74,21 @@ after_outcome levels t (traps number value) = becomes (stop t (cause_of number) 
 abbrev pub instruction : ℕ → Top → Effect
 instruction levels t = after_outcome levels t (outcome (view_of t.memory) t.registers)
 
-abbrev pub limited : ℕ → Top → Option ℕ → Next
-limited levels t (Some zero) = moves (stop t Limit 0)
-limited levels t (Some (suc n)) = charged t (instruction levels t)
-limited levels t None = charged t (instruction levels t)
+abbrev pub by_limit_left : ℕ → Top → Option ℕ → NextEvent
+by_limit_left levels t (Some zero) = moves (stop t Limit 0)
+by_limit_left levels t (Some (suc n)) = charge t (instruction levels t)
+by_limit_left levels t None = charge t (instruction levels t)
 
-abbrev pub fuelled : ℕ → Top → ℕ → Next
-fuelled levels t zero = moves (stop t Fuel 0)
-fuelled levels t (suc n) = limited levels t t.limit
+abbrev pub by_fuel_left : ℕ → Top → ℕ → NextEvent
+by_fuel_left levels t zero = moves (stop t Fuel 0)
+by_fuel_left levels t (suc n) = by_limit_left levels t t.limit
 
-abbrev pub by_status : ℕ → Top → Status → Next
-by_status levels t Running = fuelled levels t t.fuel
+abbrev pub by_status : ℕ → Top → Status → NextEvent
+by_status levels t Running = by_fuel_left levels t t.fuel
 by_status levels t (Stopped cause value) = rests
 
 -- what is next of a space with so many levels of children left below it
-unfoldable pub next : ℕ → Top → Next
+unfoldable pub next : ℕ → Top → NextEvent
 next levels t = by_status levels t t.status
 
 -- the last top is the first one after n local events
@@ -97,7 +97,7 @@ Follows levels zero t u = u ≡ t
 Follows levels (suc n) t u = (v : Top) × (next levels t ≡ moves v) × Follows levels n v u
 
 -- what is next is no local event
-abbrev pub IsNotLocal : Next → Type 0
+abbrev pub IsNotLocal : NextEvent → Type 0
 IsNotLocal rests = Unit {0}
 IsNotLocal (moves t) = ⊥
 IsNotLocal (meets k t) = Unit {0}

@@ -13,15 +13,15 @@ use Rattle.space_model.specs.declared.Cause.{Cause}
 use Rattle.space_model.specs.declared.Cause.TheVariants.{LoadFault, StoreFault}
 use Rattle.space_model.specs.declared.Refusal.{Refusal}
 use Rattle.space_model.specs.Space.{Space, Children, Top}
-use Rattle.space_model.specs.Change.{stop, succeeded}
-use Rattle.space_model.specs.Beginning.{fresh}
+use Rattle.space_model.specs.Change.{stop, after_success}
+use Rattle.space_model.specs.Beginning.{fresh_top}
 use Rattle.space_model.specs.Part.{child_after, caller_after}
 use Rattle.space_model.specs.declared.Reach.TheVariants.{Itself}
 use Rattle.space_model.specs.Call.{Await, Seen, change, Meeting, seen_of, first_top, apply_meeting}
 
 -- a missing child of a caller is read as a fresh one, with the fuel that every space had at first
 abbrev pub or_fresh : Top → Option Top → Top
-or_fresh t None = fresh (t.fuel + t.used)
+or_fresh t None = fresh_top (t.fuel + t.used)
 or_fresh t (Some c) = c
 
 -- the children that a call waits for, in this order
@@ -49,8 +49,8 @@ first_refusal (Some r ∷ others) = Some r
 
 -- what a call does that no test stops, in the order of its parts
 abbrev pub action : Call → Top → List Seen → Meeting
-action (Put x) t seen = record { caller = succeeded t; edits = change x.child (child_after x t (or_fresh t (first_top seen))) ∷ [] }
-action (Get x) t seen = record { caller = succeeded (caller_after x (or_fresh t (first_top seen)) t); edits = [] }
+action (Put x) t seen = record { caller = after_success t; edits = change x.child (child_after x t (or_fresh t (first_top seen))) ∷ [] }
+action (Get x) t seen = record { caller = after_success (caller_after x (or_fresh t (first_top seen)) t); edits = [] }
 action k t seen = record { caller = t; edits = [] }
 
 -- the caller stops, and nothing else changes; or the call acts

@@ -8,7 +8,7 @@ use Rattle.memory_model.specs.Memory.{Memory, with_permissions}
 use Rattle.memory_model.specs.Ranges.{with_zeros, with_copies}
 use Rattle.instruction_model.specs.Outcome.{Registers}
 use Rattle.call_model.specs.declared.Transfer.{Transfer}
-use Rattle.call_model.specs.Options.{has, regs, copy, zeroing, perm, start, limited, permission}
+use Rattle.call_model.specs.Options.{has, regs, copy, zeroing, perm, start, limit_option, permission}
 use Rattle.space_model.specs.declared.Status.TheVariants.{Running}
 use Rattle.space_model.specs.Space.{Top}
 use Rattle.space_model.specs.Block.{registers_at, with_block}
@@ -41,13 +41,13 @@ abbrev pub start_part : Option ℕ → Part
 start_part limit t = record t { status = Running; limit = limit }
 
 -- a part where it is asked for, else nothing
-abbrev pub optional : Bool → Part → Part
-optional asked part t = if asked then part t else t
+abbrev pub part_if : Bool → Part → Part
+part_if asked part t = if asked then part t else t
 
 -- the parts whose option is among these, one after the other
 abbrev pub with_parts : ℕ → List (ℕ × Part) → Part
 with_parts options [] t = t
-with_parts options (p ∷ ps) t = with_parts options ps (optional (has p.0 options) p.1 t)
+with_parts options (p ∷ ps) t = with_parts options ps (part_if (has p.0 options) p.1 t)
 
 abbrev pub source_page : Transfer → ℕ
 source_page x = x.source / 4096
@@ -60,7 +60,7 @@ page_count x = x.size / 4096
 
 -- with Limit, the limit of a child that is started
 abbrev pub start_limit : Transfer → Option ℕ
-start_limit x = if has limited x.options then Some x.limit else None
+start_limit x = if has limit_option x.options then Some x.limit else None
 
 -- what Put does to the child of a caller, each part with its option
 abbrev pub put_parts : Transfer → Top → List (ℕ × Part)

@@ -13,12 +13,12 @@ abbrev pub under : (Children → Children) → Space → Space
 under f (space t cs) = space t (f cs)
 
 -- another top
-abbrev pub topped : Top → Space → Space
-topped t (space u cs) = space t cs
+abbrev pub replace_top : Top → Space → Space
+replace_top t (space u cs) = space t cs
 
 -- another top at a path, where a space stands there
 abbrev pub with_top : List ℕ → Top → Space → Space
-with_top [] t s = topped t s
+with_top [] t s = replace_top t s
 with_top (n ∷ p) t s = under (over n (with_top p t)) s
 
 -- a space put at a path, in the place of the one there or as a new child

@@ -3,7 +3,7 @@ use Rattle.std.proofs.Common.{◌≡◌, ℕ, zero, suc, ◌+◌, ◌-◌, ◌�
 use Rattle.std.specs.Option.{ok_or}
 use Rattle.std.specs.declared.alloc.AllocError.{AllocError}
 use Rattle.space_model.specs.Space.{Top}
-use Rattle.space_model.specs.Change.{paid}
+use Rattle.space_model.specs.Change.{after_payment}
 use Rattle.space_model.specs.Event.{rests, moves, meets, next, Follows, IsNotLocal}
 use Rattle.space_step.specs.declared.event.Next.{Next}
 use Rattle.space_step.specs.declared.event.Next.TheVariants.{Local, Meet, Stopped}
@@ -53,7 +53,7 @@ one_followed levels (suc (suc n)) t u h f = absurd (omega arith)
 one_event : (levels n : ℕ) (o : Option Next) (e : AllocError) (t u : Top) → Follows levels n t u → Ended levels 1 n o u → Steps levels (ok_or o e) t u
 one_event levels n None e t u f h = none_followed levels n t u h.0 f
 one_event levels n (Some Local) e t u f h = one_followed levels n t u h f
-one_event levels n (Some (Meet k)) e t u f h = let same : u ≡ t = none_followed levels n t u h.0 f in (subst (λ (v : Top). next levels v ≡ meets k (paid v v)) same h.1, same)
+one_event levels n (Some (Meet k)) e t u f h = let same : u ≡ t = none_followed levels n t u h.0 f in (subst (λ (v : Top). next levels v ≡ meets k (after_payment v v)) same h.1, same)
 one_event levels n (Some Stopped) e t u f h = let same : u ≡ t = none_followed levels n t u h.0 f in (subst (λ (v : Top). next levels v ≡ rests) same h.1, same)
 
 -- a quantum of one event

@@ -6,8 +6,8 @@ use Rattle.call_model.specs.declared.Call.TheVariants as named
 use Rattle.call_model.specs.Reading.{read}
 use Rattle.space_model.specs.Sound.{has_devices}
 use Rattle.space_model.specs.Space.{Top, Devices}
-use Rattle.space_model.specs.Change.{paid}
-use Rattle.space_model.specs.Event.{Effect, becomes, asks, charged, with_devices, output, console_out, effect_of, by_reading, call, after_outcome, instruction, MayPay}
+use Rattle.space_model.specs.Change.{after_payment}
+use Rattle.space_model.specs.Event.{Effect, becomes, asks, charge, with_devices, output, console_out, effect_of, by_reading, call, after_outcome, instruction, MayPay}
 use Rattle.space_step.specs.declared.event.Next.{Next}
 use Rattle.space_step.specs.declared.event.Next.TheVariants as answers
 use Rattle.space_step.specs.Steps.{IsNext, IsLocal, IsAnswer}
@@ -33,13 +33,13 @@ pub console_is_local : (t : Top) (addr len : ℕ) → IsLocal (effect_of t (name
 console_is_local t addr len = device_is_local t t.devices (console_out t addr len) (λ d. output_is_local t d addr len (first_without (may_read t.memory) addr len))
 
 local_is_next : (levels : ℕ) (t : Top) (e : Effect) → MayPay t → instruction levels t ≡ e → IsLocal e → IsNext levels answers.Local t
-local_is_next levels t (becomes u) may is local = (paid t u, next_pays levels t may ∙ ap (charged t) is)
+local_is_next levels t (becomes u) may is local = (after_payment t u, next_pays levels t may ∙ ap (charge t) is)
 local_is_next levels t (asks k) may is local = absurd local
 
 -- where the instruction may be paid for, its effect is next
 pub next_is_effect : (levels : ℕ) (t : Top) (a : Next) → MayPay t → IsAnswer a (instruction levels t) → IsNext levels a t
 next_is_effect levels t answers.Local may e = local_is_next levels t _ may refl e
-next_is_effect levels t (answers.Meet k) may e = next_pays levels t may ∙ ap (charged t) e
+next_is_effect levels t (answers.Meet k) may e = next_pays levels t may ∙ ap (charge t) e
 next_is_effect levels t answers.Stopped may e = absurd e
 
 pub no_call_is_next : (levels : ℕ) (t : Top) → MayPay t → is_call (outcome (view_of t.memory) t.registers) ≡ false → IsNext levels answers.Local t

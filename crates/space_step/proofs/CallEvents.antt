@@ -4,8 +4,8 @@ use Rattle.instruction_model.specs.Outcome.{calls, view_of, outcome}
 use Rattle.call_model.specs.Reading.{read}
 use Rattle.space_model.specs.Sound.{has_devices}
 use Rattle.space_model.specs.Space.{Top}
-use Rattle.space_model.specs.Change.{spent, paid}
-use Rattle.space_model.specs.Event.{moves, charged, by_reading, after_outcome, next, MayPay}
+use Rattle.space_model.specs.Change.{after_spending, after_payment}
+use Rattle.space_model.specs.Event.{moves, charge, by_reading, after_outcome, next, MayPay}
 use Rattle.space_step.specs.declared.event.Next.{Next}
 use Rattle.space_step.specs.declared.event.Next.TheVariants as answers
 use Rattle.space_step.specs.Steps.{PaysNothing, Acts, Answers}
@@ -13,25 +13,25 @@ use Rattle.space_step.proofs.Events.{next_pays}
 
 -- the effect of the call is next
 next_of_call : (levels depth : ℕ) (t : Top) → MayPay t → 8 - levels ≡ depth → outcome (view_of t.memory) t.registers ≡ calls
-    → next levels t ≡ charged t (by_reading t (read t.registers.x (has_devices t.devices) depth))
+    → next levels t ≡ charge t (by_reading t (read t.registers.x (has_devices t.devices) depth))
 next_of_call levels depth t may at is =
     next_pays levels t may
-    ∙ ap (λ o. charged t (after_outcome levels t o)) is
-    ∙ ap (λ (d : ℕ). charged t (by_reading t (read t.registers.x (has_devices t.devices) d))) at
+    ∙ ap (λ o. charge t (after_outcome levels t o)) is
+    ∙ ap (λ (d : ℕ). charge t (by_reading t (read t.registers.x (has_devices t.devices) d))) at
 
 -- paid for after it was done
-pub paid_afterwards : (t u : Top) → PaysNothing t u → spent 1 u u ≡ paid t u
+pub paid_afterwards : (t u : Top) → PaysNothing t u → after_spending 1 u u ≡ after_payment t u
 paid_afterwards t u p =
     let f : u.fuel ≡ t.fuel = p.fuel in let g : u.used ≡ t.used = p.used in let h : u.limit ≡ t.limit = p.limit in
     cc
 
 pub call_happens : (depth : ℕ) (t u : Top) → MayPay t → depth ≤ 8 → outcome (view_of t.memory) t.registers ≡ calls
-    → Acts (by_reading t (read t.registers.x (has_devices t.devices) depth)) (Ok answers.Local) t u → next (8 - depth) t ≡ moves (spent 1 u u)
+    → Acts (by_reading t (read t.registers.x (has_devices t.devices) depth)) (Ok answers.Local) t u → next (8 - depth) t ≡ moves (after_spending 1 u u)
 call_happens depth t u may low is h =
-    next_of_call (8 - depth) depth t may (omega arith) is ∙ ap (charged t) h.0 ∙ ap moves (sym (paid_afterwards t u h.1))
+    next_of_call (8 - depth) depth t may (omega arith) is ∙ ap (charge t) h.0 ∙ ap moves (sym (paid_afterwards t u h.1))
 
 pub call_waits : (depth : ℕ) (t u : Top) (a : Next) → MayPay t → depth ≤ 8 → outcome (view_of t.memory) t.registers ≡ calls
     → (a ≡ answers.Local → ⊥) → Acts (by_reading t (read t.registers.x (has_devices t.devices) depth)) (Ok a) t u → Answers (8 - depth) a t u
 call_waits depth t u answers.Local may low is other h = absurd (other refl)
-call_waits depth t u (answers.Meet k) may low is other h = (next_of_call (8 - depth) depth t may (omega arith) is ∙ ap (charged t) h.0, h.1)
+call_waits depth t u (answers.Meet k) may low is other h = (next_of_call (8 - depth) depth t may (omega arith) is ∙ ap (charge t) h.0, h.1)
 call_waits depth t u answers.Stopped may low is other h = absurd h

@@ -7,36 +7,36 @@ use Rattle.space_model.specs.declared.Status.TheVariants.{Running, Stopped}
 use Rattle.space_model.specs.Stop.{is_stopped}
 use Rattle.space_model.specs.Space.{Top}
 use Rattle.space_model.specs.Change.{stop}
-use Rattle.space_model.specs.Event.{next, rests, moves, by_status, fuelled, limited, charged, instruction, MayPay}
+use Rattle.space_model.specs.Event.{next, rests, moves, by_status, by_fuel_left, by_limit_left, charge, instruction, MayPay}
 
 pub next_rests : (levels : ℕ) (t : Top) (cause : Cause) (value : ℕ) → t.status ≡ Stopped cause value → next levels t ≡ rests
 unfolding next
 next_rests levels t cause value e = ap (by_status levels t) e
 
-pub next_runs : (levels : ℕ) (t : Top) → t.status ≡ Running → next levels t ≡ fuelled levels t t.fuel
+pub next_runs : (levels : ℕ) (t : Top) → t.status ≡ Running → next levels t ≡ by_fuel_left levels t t.fuel
 unfolding next
 next_runs levels t e = ap (by_status levels t) e
 
 pub next_without_fuel : (levels : ℕ) (t : Top) → t.status ≡ Running → t.fuel ≡ 0 → next levels t ≡ moves (stop t Fuel 0)
-next_without_fuel levels t running e = next_runs levels t running ∙ ap (fuelled levels t) e
+next_without_fuel levels t running e = next_runs levels t running ∙ ap (by_fuel_left levels t) e
 
-by_fuel : (levels : ℕ) (t : Top) (n : ℕ) → 0 < n → fuelled levels t n ≡ limited levels t t.limit
+by_fuel : (levels : ℕ) (t : Top) (n : ℕ) → 0 < n → by_fuel_left levels t n ≡ by_limit_left levels t t.limit
 by_fuel levels t zero h = absurd (omega arith)
 by_fuel levels t (suc n) h = refl
 
-pub next_with_fuel : (levels : ℕ) (t : Top) → t.status ≡ Running → 0 < t.fuel → next levels t ≡ limited levels t t.limit
+pub next_with_fuel : (levels : ℕ) (t : Top) → t.status ≡ Running → 0 < t.fuel → next levels t ≡ by_limit_left levels t t.limit
 next_with_fuel levels t running h = next_runs levels t running ∙ by_fuel levels t t.fuel h
 
 pub next_without_limit : (levels : ℕ) (t : Top) → t.status ≡ Running → 0 < t.fuel → t.limit ≡ Some 0 → next levels t ≡ moves (stop t Limit 0)
-next_without_limit levels t running h e = next_with_fuel levels t running h ∙ ap (limited levels t) e
+next_without_limit levels t running h e = next_with_fuel levels t running h ∙ ap (by_limit_left levels t) e
 
-by_limit : (levels : ℕ) (t : Top) (o : Option ℕ) → (o ≡ Some 0 → ⊥) → limited levels t o ≡ charged t (instruction levels t)
+by_limit : (levels : ℕ) (t : Top) (o : Option ℕ) → (o ≡ Some 0 → ⊥) → by_limit_left levels t o ≡ charge t (instruction levels t)
 by_limit levels t (Some zero) h = absurd (h refl)
 by_limit levels t (Some (suc n)) h = refl
 by_limit levels t None h = refl
 
 -- the instruction at pc is next
-pub next_pays : (levels : ℕ) (t : Top) → MayPay t → next levels t ≡ charged t (instruction levels t)
+pub next_pays : (levels : ℕ) (t : Top) → MayPay t → next levels t ≡ charge t (instruction levels t)
 next_pays levels t may = next_with_fuel levels t may.running may.fuel ∙ by_limit levels t t.limit may.limit
 
 rests_by : (levels : ℕ) (t : Top) (s : Status) → is_stopped s ≡ true → by_status levels t s ≡ rests

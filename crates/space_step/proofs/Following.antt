@@ -6,8 +6,8 @@ use Rattle.instruction_model.specs.Outcome.{Registers, Outcome, goes, stores, ca
 use Rattle.space_model.specs.declared.Status.TheVariants.{Running}
 use Rattle.space_model.specs.Space.{Top}
 use Rattle.space_model.specs.Stop.{cause_of}
-use Rattle.space_model.specs.Change.{stop, spent, paid}
-use Rattle.space_model.specs.Event.{becomes, moves, charged, after_outcome, next, Follows, MayPay}
+use Rattle.space_model.specs.Change.{stop, after_spending, after_payment}
+use Rattle.space_model.specs.Event.{becomes, moves, charge, after_outcome, next, Follows, MayPay}
 use Rattle.space_step.specs.Stretch.{Pays, IsDone, Executes}
 use Rattle.space_step.proofs.Events.{next_pays}
 
@@ -35,7 +35,7 @@ limit_left None n k h p e = cc
 limit_left (Some limit) n k h p e = let z : limit - n ≡ 0 = cc in omega arith
 
 -- after a part of what it can pay for, it may pay
-pub may_pay_after : (t : Top) (r : Registers) (m : Memory) (n budget : ℕ) → t.status ≡ Running → n < budget → Pays budget t → MayPay (spent n t (reached t r m))
+pub may_pay_after : (t : Top) (r : Registers) (m : Memory) (n budget : ℕ) → t.status ≡ Running → n < budget → Pays budget t → MayPay (after_spending n t (reached t r m))
 may_pay_after t r m n budget running h p = record { running = running; fuel = omega (arith, p.fuel); limit = limit_left t.limit n budget h p.limit }
 
 instruction_done : (levels : ℕ) (u : Top) (r : Registers) (m : Memory) (o : Outcome) → IsDone o u.memory r m → after_outcome levels u o ≡ becomes (reached u r m)
@@ -48,7 +48,7 @@ less_again : (o : Option ℕ) (n : ℕ) → option_map (λ k. k - 1) (option_map
 less_again None n = refl
 less_again (Some k) n = ap Some (omega arith)
 
-one_more : (t : Top) (n : ℕ) (q r : Registers) (k m : Memory) → paid (spent n t (reached t q k)) (reached (spent n t (reached t q k)) r m) ≡ spent (suc n) t (reached t r m)
+one_more : (t : Top) (n : ℕ) (q r : Registers) (k m : Memory) → after_payment (after_spending n t (reached t q k)) (reached (after_spending n t (reached t q k)) r m) ≡ after_spending (suc n) t (reached t r m)
 one_more t n q r k m =
     let fuel : t.fuel - n - 1 ≡ t.fuel - suc n = omega arith in
     let used : t.used + n + 1 ≡ t.used + suc n = omega arith in
@@ -66,7 +66,7 @@ nothing_less : (o : Option ℕ) → option_map (λ k. k - 0) o ≡ o
 nothing_less None = refl
 nothing_less (Some k) = ap Some (omega arith)
 
-stretch_starts : (t : Top) (r : Registers) (m : Memory) → r ≡ t.registers → m ≡ t.memory → spent 0 t (reached t r m) ≡ t
+stretch_starts : (t : Top) (r : Registers) (m : Memory) → r ≡ t.registers → m ≡ t.memory → after_spending 0 t (reached t r m) ≡ t
 stretch_starts t r m registers memory =
     let fuel : t.fuel - 0 ≡ t.fuel = omega arith in
     let used : t.used + 0 ≡ t.used = omega arith in
@@ -74,17 +74,17 @@ stretch_starts t r m registers memory =
     λ i. record { registers = registers i; memory = memory i; snapshot = t.snapshot; limit = limit i; fuel = fuel i; used = used i; status = t.status; devices = t.devices }
 
 -- a stretch of instructions is so many local events
-pub stretch_follows : (levels n : ℕ) (t : Top) (r : Registers) (m : Memory) → t.status ≡ Running → Pays n t → Executes n t.registers t.memory r m → Follows levels n t (spent n t (reached t r m))
+pub stretch_follows : (levels n : ℕ) (t : Top) (r : Registers) (m : Memory) → t.status ≡ Running → Pays n t → Executes n t.registers t.memory r m → Follows levels n t (after_spending n t (reached t r m))
 stretch_follows levels zero t r m running p h = stretch_starts t r m h.0 h.1
 stretch_follows levels (suc n) t r m running p h =
-    let u = spent n t (reached t h.0 h.1) in
+    let u = after_spending n t (reached t h.0 h.1) in
     let before : Follows levels n t u = stretch_follows levels n t h.0 h.1 running (pays_for_part n (suc n) t (omega arith) p) h.2 in
     let may : MayPay u = may_pay_after t h.0 h.1 n (suc n) running (omega arith) p in
-    let step : next levels u ≡ moves (spent (suc n) t (reached t r m)) =
-    next_pays levels u may ∙ ap (charged u) (instruction_done levels u r m _ h.3) ∙ ap moves (one_more t n h.0 r h.1 m) in
+    let step : next levels u ≡ moves (after_spending (suc n) t (reached t r m)) =
+    next_pays levels u may ∙ ap (charge u) (instruction_done levels u r m _ h.3) ∙ ap moves (one_more t n h.0 r h.1 m) in
     follows_suc levels n t u _ before step
 
 -- a trap is a local event
 pub trap_happens : (levels number value : ℕ) (t : Top) → MayPay t → outcome (view_of t.memory) t.registers ≡ traps number value
-    → next levels t ≡ moves (stop (spent 1 t t) (cause_of number) value)
-trap_happens levels number value t may is = next_pays levels t may ∙ ap (λ o. charged t (after_outcome levels t o)) is
+    → next levels t ≡ moves (stop (after_spending 1 t t) (cause_of number) value)
+trap_happens levels number value t may is = next_pays levels t may ∙ ap (λ o. charge t (after_outcome levels t o)) is

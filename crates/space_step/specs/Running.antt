@@ -2,7 +2,7 @@
 -- Our choice: a restatement for proofs.
 use Rattle.std.specs.Prelude.{◌≡◌, ℕ, ◌≤◌, ◌<◌, Option, Some, None}
 use Rattle.space_model.specs.Space.{Top}
-use Rattle.space_model.specs.Change.{paid}
+use Rattle.space_model.specs.Change.{after_payment}
 use Rattle.space_model.specs.Event.{next, rests, meets, Follows}
 use Rattle.space_step.specs.declared.event.Next.{Next}
 use Rattle.space_step.specs.declared.event.Next.TheVariants.{Local, Meet, Stopped}
@@ -14,7 +14,7 @@ use Rattle.space_step.specs.declared.running.Progress.TheVariants.{Went, Blocked
 abbrev pub IsBlocked : ℕ → Option Next → Top → Type 0
 IsBlocked levels None t = Unit {0}
 IsBlocked levels (Some Local) t = ⊥
-IsBlocked levels (Some (Meet k)) t = next levels t ≡ meets k (paid t t)
+IsBlocked levels (Some (Meet k)) t = next levels t ≡ meets k (after_payment t t)
 IsBlocked levels (Some Stopped) t = next levels t ≡ rests
 
 -- why there were so many events, where there might have been so many

@@ -5,19 +5,19 @@ use Rattle.std.specs.declared.alloc.AllocError.{AllocError}
 use Rattle.space_step.specs.declared.event.Next.{Next}
 use Rattle.space_step.specs.declared.event.Next.TheVariants as answers
 use Rattle.space_model.specs.Space.{Top}
-use Rattle.space_model.specs.Change.{paid}
+use Rattle.space_model.specs.Change.{after_payment}
 use Rattle.space_model.specs.Event as event
 
 -- a local event, a call that meets a child, or nothing
 abbrev pub IsNext : ℕ → Next → Top → Type 0
 IsNext levels answers.Local t = (u : Top) × (event.next levels t ≡ event.moves u)
-IsNext levels (answers.Meet k) t = event.next levels t ≡ event.meets k (paid t t)
+IsNext levels (answers.Meet k) t = event.next levels t ≡ event.meets k (after_payment t t)
 IsNext levels answers.Stopped t = event.next levels t ≡ event.rests
 
 -- a local event, which has happened; a call or nothing, and then nothing has changed
 abbrev pub Answers : ℕ → Next → Top → Top → Type 0
 Answers levels answers.Local old new = event.next levels old ≡ event.moves new
-Answers levels (answers.Meet k) old new = (event.next levels old ≡ event.meets k (paid old old)) × (new ≡ old)
+Answers levels (answers.Meet k) old new = (event.next levels old ≡ event.meets k (after_payment old old)) × (new ≡ old)
 Answers levels answers.Stopped old new = (event.next levels old ≡ event.rests) × (new ≡ old)
 
 -- and where memory ran out, nothing

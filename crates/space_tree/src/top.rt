@@ -1,8 +1,8 @@
 ghost use Rattle.std.specs.Prelude.{◌≡◌, ◌≤◌, ◌<◌, ◌+◌, ◌^◌, true, IfSome, IfOk};
 ghost use Rattle.space_model.specs.Stop.{is_stopped};
 ghost use Rattle.space_model.specs.Sound.{has_devices};
-ghost use Rattle.space_model.specs.Change.{stop, succeeded, spent};
-ghost use Rattle.space_model.specs.Beginning.{fresh, root_of};
+ghost use Rattle.space_model.specs.Change.{stop, after_success, after_spending};
+ghost use Rattle.space_model.specs.Beginning.{fresh_top, root_of};
 ghost use Rattle.space_model.specs.Space.{console_bytes};
 ghost use Rattle.space_mem.specs.Held.{memory_in};
 
@@ -70,7 +70,7 @@ impl Top {
     /// A space that has never run, with so much fuel.
     pub fn fresh(alloc: Global, fuel: u32) -> Top
         requires { 1 ≤ fuel }
-        ensures { result ≡ fresh fuel }
+        ensures { result ≡ fresh_top fuel }
     {
         Top {
             registers: Regs::new(0),
@@ -128,7 +128,7 @@ impl Top {
 
     /// A call has succeeded: a0 is 0, and the next instruction follows.
     pub fn succeed(&mut self)
-        ensures { self.new ≡ succeeded self.old }
+        ensures { self.new ≡ after_success self.old }
     {
         self.registers.pc = self.registers.pc.wrapping_add(4);
         self.registers.set_register(10, 0);
@@ -138,7 +138,7 @@ impl Top {
     pub fn pay(&mut self, events: u32)
         requires fuel { events ≤ self.old.fuel }
         requires limit { IfSome self.old.limit (λ n. events ≤ n) }
-        ensures { self.new ≡ spent events self.old self.old }
+        ensures { self.new ≡ after_spending events self.old self.old }
     {
         self.fuel -= events;
         self.used += events;

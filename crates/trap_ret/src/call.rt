@@ -84,9 +84,9 @@ fn first_failing(kind: Kind, x: &[u32; 32], is_root: bool, depth: u8) -> Option<
 
 // The call of a kind, with registers that fail no test.
 #[tactic(auto, unfolding(call_model::specs::Tests::wrong_child))]
-fn named(kind: Kind, x: &[u32; 32]) -> Call
+fn call_of(kind: Kind, x: &[u32; 32]) -> Call
     requires { table.wrong_child kind x.now ≡ false }
-    ensures { result ≡ reading.named kind x.now }
+    ensures { result ≡ reading.call_of kind x.now }
 {
     match kind {
         Kind::Put => Call::Put(transfer(x)),
@@ -123,7 +123,7 @@ pub fn read_call(x: &[u32; 32], is_root: bool, depth: u8) -> Result<AcceptedCall
     match first_failing(kind, x, is_root, depth) {
         Some(number) => Err(Badcall(number)),
         None => Ok(AcceptedCall {
-            call: named(kind, x),
+            call: call_of(kind, x),
         }),
     }
 }
