@@ -45,7 +45,7 @@ fn may_go_on(space: &Space, depth: u8) -> bool
 
 /// Whether the event at a path may happen: a space stands there that has not stopped, and what it waits for is ready.
 #[tactic(auto, using(crate::proofs::Paths::enabled_at, crate::proofs::Paths::enabled_missing))]
-pub fn is_enabled(space: &Space, path: &Path) -> bool
+pub fn enabled(space: &Space, path: &Path) -> bool
     ensures { result ≡ is_enabled path.now.items 8 space.now }
 {
     match at(space, path) {

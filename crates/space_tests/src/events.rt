@@ -1,4 +1,4 @@
-use det_core::{boot, is_enabled, step};
+use det_core::{boot, enabled, step};
 use image_file::read_image;
 use space_tree::{Cause, Devices, Path, Space, Status, Top};
 use std::alloc::Global;
@@ -14,7 +14,7 @@ const IMAGE: [u8; 47] = [
 
 // Tries the event at a path, which may happen, or may not.
 fn tries(rt: &impl Abort, alloc: Global, tree: &mut Space, path: &Path, may: bool) {
-    assert_eq!(rt; is_enabled(tree, path), may);
+    assert_eq!(rt; enabled(tree, path), may);
     match step(alloc, tree, path) {
         Ok(went) => assert_eq!(rt; went, may),
         Err(_) => panic!(rt; "no memory"),
@@ -32,7 +32,7 @@ fn try_events(rt: &impl Abort, alloc: Global, tree: &mut Space) {
     }
     tries(rt, alloc, tree, &root, false);
     tries(rt, alloc, tree, &child, true);
-    assert!(rt; !is_enabled(tree, &child));
+    assert!(rt; !enabled(tree, &child));
     tries(rt, alloc, tree, &root, true);
 }
 
