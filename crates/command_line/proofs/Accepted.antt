@@ -20,7 +20,7 @@ use Rattle.clap.specs.declared.builder.value_parser.ValueParser.TheVariants as v
 use Rattle.clap.specs.declared.error.kind.ErrorKind.TheVariants as kind
 use Rattle.clap.specs.declared.parser.matches.ValueSource.TheVariants.{DefaultValue}
 use Rattle.command_line.specs.declared.command.Command.{Command}
-use Rattle.command_line.specs.Line.{IsRefused, asm, asm_app, asm_line, Line, command_line, line_of, limit_rule, line, needed, number_in, number_of, program_app, run_app, run_line, run_of}
+use Rattle.command_line.specs.Line.{IsRefused, asm, asm_app, asm_line, Line, command_line, line_of, fuel_rule, line, needed, number_in, number_of, program_app, run_app, run_line, run_of}
 use Rattle.command_line.proofs.Kept.{AreOurs, Fits, Good, GoodRows, IsOurs, found_is, level_good, or_else_none, with_values_good}
 
 -- ---- what rows have
@@ -61,8 +61,8 @@ number_in_row : (id : Text) (values : List Text) (how : Reading) → bytes_eq id
 number_in_row id [] how named plainly lt fit = absurd (omega arith)
 number_in_row id (v ∷ vs) how named plainly lt fit = subst (λ h. IsSome (number_in 1 4294967295 (read_as h v))) (sym plainly) (passed_number v (fit.0 named))
 
-limit_there : (rows : List Row) → GoodRows rows → has_row (codes "limit") rows ≡ true → IsSome (number_of 1 4294967295 (codes "limit") rows)
-limit_there rows good e = go (find (λ r. bytes_eq r.id (codes "limit")) rows) refl (any_found (λ r. bytes_eq r.id (codes "limit")) rows e)
+fuel_there : (rows : List Row) → GoodRows rows → has_row (codes "limit") rows ≡ true → IsSome (number_of 1 4294967295 (codes "limit") rows)
+fuel_there rows good e = go (find (λ r. bytes_eq r.id (codes "limit")) rows) refl (any_found (λ r. bytes_eq r.id (codes "limit")) rows e)
   where
     go : (o : Option Row) → find (λ r. bytes_eq r.id (codes "limit")) rows ≡ o → IsSome o → IsSome (option_and_then (number_in 1 4294967295) (option_and_then row_text o))
     go None is f = absurd cc
@@ -73,8 +73,8 @@ limit_there rows good e = go (find (λ r. bytes_eq r.id (codes "limit")) rows) r
 -- ---- `run`
 
 -- its arguments, filled in
-abbrev limit_filled : Rule
-limit_filled = with_index 1 (filled limit_rule)
+abbrev fuel_filled : Rule
+fuel_filled = with_index 1 (filled fuel_rule)
 
 abbrev image_filled : Rule
 image_filled = with_index 1 (filled (needed (codes "image")))
@@ -86,15 +86,15 @@ abbrev help_filled : Rule
 help_filled = with_index 3 (filled help_rule)
 
 abbrev run_built : Shape
-run_built = record (new_shape (codes "run")) { rules = limit_filled ∷ image_filled ∷ script_filled ∷ help_filled ∷ []; disable_help_subcommand = true; is_built = true }
+run_built = record (new_shape (codes "run")) { rules = fuel_filled ∷ image_filled ∷ script_filled ∷ help_filled ∷ []; disable_help_subcommand = true; is_built = true }
 
 run_is_ours : AreOurs run_built.rules
 run_is_ours =
-    let limit : IsOurs limit_filled = inr (record { set = refl; least = refl; plainly = refl; fits = λ t e _. e }) in
+    let fuel : IsOurs fuel_filled = inr (record { set = refl; least = refl; plainly = refl; fits = λ t e _. e }) in
     let image : IsOurs image_filled = inr (record { set = refl; least = refl; plainly = refl; fits = λ t e named. absurd cc }) in
     let script : IsOurs script_filled = inr (record { set = refl; least = refl; plainly = refl; fits = λ t e named. absurd cc }) in
     let help : IsOurs help_filled = inl refl in
-    (limit, (image, (script, (help, tt))))
+    (fuel, (image, (script, (help, tt))))
 
 no_default : (rows : List Row) (a : Rule) → a.defaults ≡ [] → with_default rows a ≡ rows
 no_default rows a none = subst (λ (ds : List Text). cond (has_row a.id rows) rows (default_rows a.id (reading_by a) ds rows) ≡ rows) (sym none) (go (has_row a.id rows))
@@ -103,8 +103,8 @@ no_default rows a none = subst (λ (ds : List Text). cond (has_row a.id rows) ro
     go true = refl
     go false = refl
 
-with_limit_good : (rows : List Row) → GoodRows rows → GoodRows (with_default rows limit_filled)
-with_limit_good rows good = go (has_row (codes "limit") rows)
+with_fuel_good : (rows : List Row) → GoodRows rows → GoodRows (with_default rows fuel_filled)
+with_fuel_good rows good = go (has_row (codes "limit") rows)
   where
     go : (b : Bool) → GoodRows (cond b rows (default_rows (codes "limit") AsWritten (codes "1000000" ∷ []) rows))
     go true = good
@@ -130,17 +130,17 @@ values_there (r ∷ rs) = go (bytes_eq r.id (codes "limit")) refl (values_there 
     go true is rest = true_or (bytes_eq r.id (codes "limit")) (has_row (codes "limit") rs) is
     go false is rest = or_true (bytes_eq r.id (codes "limit")) (has_row (codes "limit") later) rest
 
-with_limit_there : (rows : List Row) → has_row (codes "limit") (with_default rows limit_filled) ≡ true
-with_limit_there rows = go (has_row (codes "limit") rows) refl
+with_fuel_there : (rows : List Row) → has_row (codes "limit") (with_default rows fuel_filled) ≡ true
+with_fuel_there rows = go (has_row (codes "limit") rows) refl
   where
     go : (b : Bool) → has_row (codes "limit") rows ≡ b → has_row (codes "limit") (cond b rows (default_rows (codes "limit") AsWritten (codes "1000000" ∷ []) rows)) ≡ true
     go true is = is
     go false is = values_there rows
 
--- the rows at the end are those of the walk, and the limit's
-run_finished : (h : Held) → finished run_built.rules h ≡ with_default (settled run_built.rules h).rows limit_filled
+-- the rows at the end are those of the walk, and the fuel's
+run_finished : (h : Held) → finished run_built.rules h ≡ with_default (settled run_built.rules h).rows fuel_filled
 run_finished h =
-    let one = with_default (settled run_built.rules h).rows limit_filled in
+    let one = with_default (settled run_built.rules h).rows fuel_filled in
     let two = with_default one image_filled in
     let three = with_default two script_filled in
     no_default three help_filled refl ∙ (no_default two script_filled refl ∙ no_default one image_filled refl)
@@ -150,7 +150,7 @@ both_given true true e = (refl, refl)
 both_given true false e = absurd cc
 both_given false b e = absurd cc
 
-all_there : (limit : Option ℕ) (image script : Option Text) → IsSome limit → IsSome image → IsSome script → IsSome (run_of limit image script)
+all_there : (fuel : Option ℕ) (image script : Option Text) → IsSome fuel → IsSome image → IsSome script → IsSome (run_of fuel image script)
 all_there (Some n) (Some i) (Some s) a b c = refl
 all_there (Some n) (Some i) None a b c = absurd cc
 all_there (Some n) None s a b c = absurd cc
@@ -158,17 +158,17 @@ all_there None i s a b c = absurd cc
 
 run_of_rows : (rows : List Row) → GoodRows rows → has_row (codes "limit") rows ≡ true → check_fault run_built rows false ≡ [] → IsSome (run_line rows)
 unfolding run_line
-run_of_rows rows good limit e =
+run_of_rows rows good fuel e =
     let given = both_given (is_given (codes "image") rows) (is_given (codes "script") rows) e in
-    all_there (number_of 1 4294967295 (codes "limit") rows) (first_of (codes "image") rows) (first_of (codes "script") rows) (limit_there rows good limit) (given_there (codes "image") rows good given.0) (given_there (codes "script") rows good given.1)
+    all_there (number_of 1 4294967295 (codes "limit") rows) (first_of (codes "image") rows) (first_of (codes "script") rows) (fuel_there rows good fuel) (given_there (codes "image") rows good given.0) (given_there (codes "script") rows good given.1)
 
 run_accepted : (words : List Text) → level_fault run_built [] nothing_held words false [] ≡ [] → IsSome (run_line (rows_after run_built.rules [] words))
 run_accepted words e =
     let h = (walk run_built.rules [] nothing_held words).held in
     let l = level_good run_built words run_is_ours e in
-    let rows = with_default (settled run_built.rules h).rows limit_filled in
+    let rows = with_default (settled run_built.rules h).rows fuel_filled in
     let checked = subst (λ (x : List Row). check_fault run_built x false ≡ []) (run_finished h) l.1 in
-    subst (λ (x : List Row). IsSome (run_line x)) (sym (run_finished h)) (run_of_rows rows (with_limit_good (settled run_built.rules h).rows l.0) (with_limit_there (settled run_built.rules h).rows) checked)
+    subst (λ (x : List Row). IsSome (run_line x)) (sym (run_finished h)) (run_of_rows rows (with_fuel_good (settled run_built.rules h).rows l.0) (with_fuel_there (settled run_built.rules h).rows) checked)
 
 -- ---- `asm`
 

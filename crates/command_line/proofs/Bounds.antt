@@ -29,7 +29,7 @@ number_of_bounds low high (Some t) n is = number_bounds low high t n is
 abbrev AllInRange : Option Line → Type 0
 AllInRange o = IfSome o IsInRange
 
-run_in_range : (limit : Option ℕ) (image script : Option Text) → ((n : ℕ) → limit ≡ Some n → (1 ≤ n) × (n ≤ 4294967295)) → AllInRange (run_of limit image script)
+run_in_range : (fuel : Option ℕ) (image script : Option Text) → ((n : ℕ) → fuel ≡ Some n → (1 ≤ n) × (n ≤ 4294967295)) → AllInRange (run_of fuel image script)
 run_in_range (Some n) (Some i) (Some s) h =
     let b = h n refl in
     (b.0, omega arith)

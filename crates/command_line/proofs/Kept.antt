@@ -23,7 +23,7 @@ use Rattle.clap.specs.declared.parser.matches.ValueSource.TheVariants.{CommandLi
 
 -- ---- rows
 
--- a limit is a number in its range
+-- fuel is a number in its range
 abbrev pub Fits : Text → Text → Type 0
 Fits id t = bytes_eq id (codes "limit") ≡ true → accepts false (vp.Unsigned 1 4294967295) t ≡ true
 

@@ -12,25 +12,25 @@ pub plain_run : line (run_words (codes "I" ∷ codes "S" ∷ [])) ≡ Some (run 
 unfolding clap_on_literals line program_app run_app asm_app run_line number_in
 plain_run = refl
 
-pub limited_run : line (run_words (codes "--limit" ∷ codes "2" ∷ codes "I" ∷ codes "S" ∷ [])) ≡ Some (run 2 (codes "I") (codes "S"))
+pub run_with_fuel : line (run_words (codes "--limit" ∷ codes "2" ∷ codes "I" ∷ codes "S" ∷ [])) ≡ Some (run 2 (codes "I") (codes "S"))
 unfolding clap_on_literals line program_app run_app asm_app run_line number_in
-limited_run = refl
+run_with_fuel = refl
 
-pub largest_limit : line (run_words (codes "I" ∷ codes "--limit=4294967295" ∷ codes "S" ∷ [])) ≡ Some (run 4294967295 (codes "I") (codes "S"))
+pub largest_fuel : line (run_words (codes "I" ∷ codes "--limit=4294967295" ∷ codes "S" ∷ [])) ≡ Some (run 4294967295 (codes "I") (codes "S"))
 unfolding clap_on_literals line program_app run_app asm_app run_line number_in
-largest_limit = refl
+largest_fuel = refl
 
 pub dashes_before_names : line (run_words (codes "--" ∷ codes "--help" ∷ codes "-h" ∷ [])) ≡ Some (run 1000000 (codes "--help") (codes "-h"))
 unfolding clap_on_literals line program_app run_app asm_app run_line number_in
 dashes_before_names = refl
 
-pub no_limit : line (run_words (codes "--limit" ∷ codes "0" ∷ codes "I" ∷ codes "S" ∷ [])) ≡ None
+pub no_fuel : line (run_words (codes "--limit" ∷ codes "0" ∷ codes "I" ∷ codes "S" ∷ [])) ≡ None
 unfolding clap_on_literals line program_app run_app asm_app run_line number_in
-no_limit = refl
+no_fuel = refl
 
-pub too_large_limit : line (run_words (codes "--limit" ∷ codes "4294967296" ∷ codes "I" ∷ codes "S" ∷ [])) ≡ None
+pub too_much_fuel : line (run_words (codes "--limit" ∷ codes "4294967296" ∷ codes "I" ∷ codes "S" ∷ [])) ≡ None
 unfolding clap_on_literals line program_app run_app asm_app run_line number_in
-too_large_limit = refl
+too_much_fuel = refl
 
 pub run_alone : line (run_words []) ≡ None
 unfolding clap_on_literals line program_app run_app asm_app run_line number_in
@@ -76,9 +76,9 @@ pub plain_asm : line (codes "det" ∷ codes "asm" ∷ codes "A" ∷ []) ≡ Some
 unfolding clap_on_literals line program_app run_app asm_app run_line number_in
 plain_asm = refl
 
-pub limited_asm : line (codes "det" ∷ codes "asm" ∷ codes "--limit" ∷ codes "2" ∷ codes "A" ∷ []) ≡ None
+pub asm_with_fuel : line (codes "det" ∷ codes "asm" ∷ codes "--limit" ∷ codes "2" ∷ codes "A" ∷ []) ≡ None
 unfolding clap_on_literals line program_app run_app asm_app run_line number_in
-limited_asm = refl
+asm_with_fuel = refl
 
 pub run_files : files_of (run 2 (codes "I") (codes "S")) ≡ codes "I" ∷ codes "S" ∷ []
 run_files = refl

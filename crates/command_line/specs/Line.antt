@@ -31,12 +31,12 @@ abbrev pub with_rules : App → List Rule → App
 with_rules a [] = a
 with_rules a (r ∷ rs) = with_rules (with_rule a r) rs
 
--- how many instructions a space may execute
-abbrev pub limit_rule : Rule
-limit_rule = number (codes "limit") 1 4294967295 (codes "1000000")
+-- the fuel: how many events a space may take
+abbrev pub fuel_rule : Rule
+fuel_rule = number (codes "limit") 1 4294967295 (codes "1000000")
 
 unfoldable pub run_app : App
-run_app = with_rules (new_app (codes "run")) (limit_rule ∷ needed (codes "image") ∷ needed (codes "script") ∷ [])
+run_app = with_rules (new_app (codes "run")) (fuel_rule ∷ needed (codes "image") ∷ needed (codes "script") ∷ [])
 
 unfoldable pub asm_app : App
 asm_app = with_rules (new_app (codes "asm")) (needed (codes "source") ∷ [])
@@ -57,19 +57,19 @@ IsApp c a = (app_of c ≡ a) × ((out-Command c).has_globals ≡ false)
 
 -- ---- the line
 
--- `run` with a limit, an image's file name and a script's; `asm` with a source's
+-- `run` with its fuel, an image's file name and a script's; `asm` with a source's
 pub data Line : Type 0 where
   run : ℕ → Text → Text → Line
   asm : Text → Line
 
 -- the names of the files, in the order of the words
 abbrev pub files_of : Line → List Text
-files_of (run limit image script) = image ∷ script ∷ []
+files_of (run fuel image script) = image ∷ script ∷ []
 files_of (asm source) = source ∷ []
 
 -- numbers are in their ranges
 abbrev pub IsInRange : Line → Type 0
-IsInRange (run limit image script) = (1 ≤ limit) × (limit < 2 ^ 32)
+IsInRange (run fuel image script) = (1 ≤ fuel) × (fuel < 2 ^ 32)
 IsInRange (asm source) = Unit {0}
 
 -- the number of a text that such an argument takes
@@ -82,7 +82,7 @@ number_of low high id rows = option_and_then (number_in low high) (one_of id row
 
 -- the parts, where all are there
 abbrev pub run_of : Option ℕ → Option Text → Option Text → Option Line
-run_of (Some limit) (Some image) (Some script) = Some (run limit image script)
+run_of (Some fuel) (Some image) (Some script) = Some (run fuel image script)
 run_of _ _ _ = None
 
 unfoldable pub run_line : List Row → Option Line
@@ -106,5 +106,5 @@ IsRefused words = ¬ (fault_of program_app words ≡ [])
 
 -- the line that a command stands for
 abbrev pub line_of : Command → Line
-line_of (command.Run limit image script) = run limit image.now script.now
+line_of (command.Run fuel image script) = run fuel image.now script.now
 line_of (command.Asm source) = asm source.now

@@ -26,11 +26,11 @@ fn needed<'a>(alloc: Global, id: &'a str) -> Arg<'a>
 fn run_command<'a>(alloc: Global) -> Result<Command<'a>, AllocError>
     ensures { IfOk result (λ c. IsApp c run_app) }
 {
-    let limit = number(alloc, "limit", 1, 4_294_967_295, "1000000");
+    let fuel = number(alloc, "limit", 1, 4_294_967_295, "1000000");
     let image = needed(alloc, "image");
     let script = needed(alloc, "script");
     Command::new(alloc, "run")
-        .arg(limit)?
+        .arg(fuel)?
         .arg(image)?
         .arg(script)
 }

@@ -3,8 +3,8 @@
 pub enum Command<'a> {
     /// Runs an image on a script.
     Run {
-        /// How many instructions each space may execute: from 1 to 4,294,967,295, at first 1,000,000.
-        limit: u32,
+        /// How many events each space may take: from 1 to 4,294,967,295, or 1,000,000 where `--limit` is not given.
+        fuel: u32,
         /// The image's file name.
         image: &'a str,
         /// The script's file name.

@@ -31,15 +31,15 @@ fn text_from<'a>(matches: &ArgMatches<'a>, id: &str) -> Option<&'a str>
 }
 
 fn run_with<'a>(
-    limit: Option<u32>,
+    fuel: Option<u32>,
     image: Option<&'a str>,
     script: Option<&'a str>,
 ) -> Option<Command<'a>>
-    ensures { option_map line_of result ≡ run_of limit (option_map (λ s. s.now) image.entry)
+    ensures { option_map line_of result ≡ run_of fuel (option_map (λ s. s.now) image.entry)
         (option_map (λ s. s.now) script.entry) }
 {
     Some(Command::Run {
-        limit: limit?,
+        fuel: fuel?,
         image: image?,
         script: script?,
     })
@@ -48,10 +48,10 @@ fn run_with<'a>(
 fn run_from<'a>(matches: &ArgMatches<'a>) -> Option<Command<'a>>
     ensures { option_map line_of result ≡ run_line (rows_of (found_of matches.now)) }
 {
-    let limit = number_from(matches, "limit", 1, 4_294_967_295);
+    let fuel = number_from(matches, "limit", 1, 4_294_967_295);
     let image = text_from(matches, "image");
     let script = text_from(matches, "script");
-    run_with(limit, image, script)
+    run_with(fuel, image, script)
 }
 
 fn asm_from<'a>(matches: &ArgMatches<'a>) -> Option<Command<'a>>

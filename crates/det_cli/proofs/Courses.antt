@@ -128,7 +128,7 @@ memory_of (Some l) i out err end h = record { found = h.found; files = h.files; 
 
 -- memory ran out before any file was asked for
 open_line : (l : Line) → made l [] ≡ None
-open_line (run limit image script) = refl
+open_line (run fuel image script) = refl
 open_line (asm source) = refl
 
 pub no_memory : (o : Option Line) (i : Input) (out err : Output) → Unasked i → Untouched out → Untouched err → CourseOf o i out err NoMemory

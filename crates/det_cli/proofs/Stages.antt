@@ -12,7 +12,7 @@ use Rattle.image_model.specs.Reading.{image_of}
 use Rattle.space_model.specs.Space.{Space, top_of}
 use Rattle.space_model.specs.Stop.{has_returned}
 use Rattle.command_line.specs.Line.{run}
-use Rattle.det_cli.specs.Commands.{image_room, bad_image, image_step, script_step, root_settled, shown, image_shown, steps_of, whole_of}
+use Rattle.det_cli.specs.Commands.{image_room, bad_image, image_step, script_step, expected_of_root, expected_of_image, settled_root, steps_of, whole_of}
 use Rattle.det_cli.specs.Stages.{LoadFault, Loaded, Judged, Led, Reads}
 
 take_none : (j : ℕ) → take {A = List ℕ} j [] ≡ []
@@ -169,21 +169,46 @@ done_by : (b : Bool) → IsDone (cond b Ret Trapped)
 done_by true = lit< tt
 done_by false = lit< tt
 
-pub shown_done : (x : Space) → IsDone (shown x).end
-shown_done x = done_by (has_returned (top_of x).status)
+pub root_done : (x : Space) → IsDone (expected_of_root x).end
+root_done x = done_by (has_returned (top_of x).status)
 
-pub root_shown : (root : Space) (r : Result Space End) → IfOk r (λ x. x ≡ root) → IfOk r (λ x. Some (shown root) ≡ Some (shown x))
-root_shown root (Ok x) h = ap (λ (y : Space). Some (shown y)) (sym h)
-root_shown root (Err f) h = tt
+pub kept_by : {V : Type 0} (e : Expected) (r : Result V End) → IfOk r (λ _. Some e ≡ Some e)
+kept_by e (Ok x) = refl
+kept_by e (Err f) = tt
+
+-- what was read before is answered in place of nothing
+led_by : {U V : Type 0} (shows : V → Expected) (o : Option Expected) (i : Input) (u : U) (v : V) → Led (λ _. shows v) o i (Ok u) → Led shows o i (Ok v)
+led_by shows None i u v h = h
+led_by shows (Some e) i u v h = h
+
+stopped_by : {V : Type 0} (U : Type 0) (e : Expected) (shows : V → Expected) (o : Option Expected) (i : Input) (f : End) → Led {V = U} (λ _. e) o i (Err f) → Led shows o i (Err f)
+stopped_by U e shows None i f h = h
+stopped_by U e shows (Some x) i f h = h
+
+-- what is answered where the script is read, or not
+abbrev pub ReadAs : {U V : Type 0} → V → Result U End → Result V End → Type 0
+ReadAs v (Ok u) r = r ≡ Ok v
+ReadAs v (Err f) r = r ≡ Err f
+
+reads_as : {U V : Type 0} (shows : V → Expected) (steps : List Step) (whole : List (List ℕ) → Option Expected) (i : Input) (v : V) (q : Result U End) (r : Result V End)
+    → ReadAs v q r → Reads (λ _. shows v) steps whole i q → Reads shows steps whole i r
+reads_as shows steps whole i v (Ok u) r e h =
+    record { found = h.found; files = h.files; led = subst (λ x. Led shows (judge steps whole h.found) i x) (sym e) (led_by shows (judge steps whole h.found) i u v h.led) }
+reads_as shows steps whole i v (Err f) r e h =
+    record { found = h.found; files = h.files; led = subst (λ x. Led shows (judge steps whole h.found) i x) (sym e) (stopped_by _ (shows v) shows (judge steps whole h.found) i f h.led) }
 
 -- the image is read, and then the script
-pub image_then_script : {W : Type 0} (items : W → List ℕ) (limit : ℕ) (image script : List ℕ)
-    (told now : List ℕ → Option (List ℕ)) (a b c : List (List ℕ)) (x y z : ℕ) (v : W) (text : List ℕ) (parsed : Image) (r : Result Space End)
+pub image_then_script : {U W : Type 0} (items : W → List ℕ) (fuel : ℕ) (image script : List ℕ)
+    (told now : List ℕ → Option (List ℕ)) (a b c : List (List ℕ)) (x y z : ℕ) (v : W) (text : List ℕ) (parsed : Image) (q : Result U End) (r : Result Image End)
     → Loaded items image image_room (record { told = told; asked_before = a; asked_after = b; faults_before = x; faults_after = y }) (Ok v) → text ≡ items v → image_of text ≡ Ok parsed
-    → ((name : List ℕ) → now name ≡ told name) → x ≤ y
-    → Reads shown (script_step script ∷ []) (λ _. Some (shown (root_settled parsed limit))) (record { told = now; asked_before = b; asked_after = c; faults_before = y; faults_after = z }) r
-    → Reads shown (steps_of (run limit image script)) (whole_of (run limit image script)) (record { told = told; asked_before = a; asked_after = c; faults_before = x; faults_after = z }) r
-image_then_script items limit image script told now a b c x y z v text parsed r loaded e read same le h =
+    → ((name : List ℕ) → now name ≡ told name) → x ≤ y → ReadAs parsed q r
+    → ((e : Expected) → IsDone e.end → Reads (λ _. e) (script_step script ∷ []) (λ _. Some e) (record { told = now; asked_before = b; asked_after = c; faults_before = y; faults_after = z }) q)
+    → Reads (λ i. expected_of_root (settled_root i fuel)) (steps_of (run fuel image script)) (whole_of (run fuel image script))
+    (record { told = told; asked_before = a; asked_after = c; faults_before = x; faults_after = z }) r
+image_then_script items fuel image script told now a b c x y z v text parsed q r loaded e read same le becomes h =
+    let shows : Image → Expected = λ i. expected_of_root (settled_root i fuel) in
     let is : image_of (items v) ≡ Ok parsed = ap image_of (sym e) ∙ read in
-    then_read items shown (image_step image) (script_step script ∷ []) (whole_of (run limit image script)) told now a b c x y z v r loaded (ap bad_image is) same le
-    (subst (λ (q : Result Image ImageError). Reads shown (script_step script ∷ []) (λ _. image_shown limit q) (record { told = now; asked_before = b; asked_after = c; faults_before = y; faults_after = z }) r) (sym is) h)
+    let later : Input = record { told = now; asked_before = b; asked_after = c; faults_before = y; faults_after = z } in
+    let rest = reads_as shows (script_step script ∷ []) (λ _. Some (shows parsed)) later parsed q r becomes (h (shows parsed) (root_done (settled_root parsed fuel))) in
+    then_read items shows (image_step image) (script_step script ∷ []) (whole_of (run fuel image script)) told now a b c x y z v r loaded (ap bad_image is) same le
+    (subst (λ (p : Result Image ImageError). Reads shows (script_step script ∷ []) (λ _. expected_of_image fuel p) later r) (sym is) rest)

@@ -1,5 +1,5 @@
 -- What the files of a command make: a settled root that is shown, or the image of a source.
--- Our choice: the commands, the limits of their files, and what they write.
+-- Our choice: the commands, the room of their files, and what they write.
 use Rattle.std.specs.Prelude.{ℕ, List, [], ◌∷◌, Option, Some, None, Result, Ok, Err, cond}
 use Rattle.command_line.specs.Line.{Line, run, asm}
 use Rattle.image_model.specs.declared.ImageError.{ImageError}
@@ -49,45 +49,45 @@ abbrev pub source_step : List ℕ → Step
 source_step name = record { name = name; room = source_room; refuse = λ bytes. bad_source (source_of bytes) }
 
 -- the settled root of an image, where each space has so much fuel
-abbrev pub root_settled : Image → ℕ → Space
-root_settled image limit = settle_tree (boot image (record { console = [] }) limit)
+abbrev pub settled_root : Image → ℕ → Space
+settled_root image fuel = settle_tree (boot image (record { console = [] }) fuel)
 
 -- the end of a settled root
 abbrev pub end_of : Space → End
 end_of s = let t = top_of s in cond (has_returned t.status) Ret Trapped
 
 -- a settled root is shown by its console and its report
-abbrev pub shown : Space → Expected
-shown s = record { out = console_of s; err = report s; end = end_of s }
+abbrev pub expected_of_root : Space → Expected
+expected_of_root s = record { out = console_of s; err = report s; end = end_of s }
 
 -- an image is written as it is spelled
-abbrev pub spelled : List ℕ → Expected
-spelled bytes = record { out = bytes; err = []; end = Ret }
+abbrev pub expected_of_bytes : List ℕ → Expected
+expected_of_bytes bytes = record { out = bytes; err = []; end = Ret }
 
-abbrev pub image_shown : ℕ → Result Image ImageError → Option Expected
-image_shown limit (Ok image) = Some (shown (root_settled image limit))
-image_shown limit (Err e) = None
+abbrev pub expected_of_image : ℕ → Result Image ImageError → Option Expected
+expected_of_image fuel (Ok image) = Some (expected_of_root (settled_root image fuel))
+expected_of_image fuel (Err e) = None
 
-abbrev pub source_shown : Result Image AsmError → Option Expected
-source_shown (Ok image) = Some (spelled (image_bytes image))
-source_shown (Err e) = None
+abbrev pub expected_of_source : Result Image AsmError → Option Expected
+expected_of_source (Ok image) = Some (expected_of_bytes (image_bytes image))
+expected_of_source (Err e) = None
 
 abbrev pub run_whole : ℕ → List (List ℕ) → Option Expected
-run_whole limit [] = None
-run_whole limit (image ∷ rest) = image_shown limit (image_of image)
+run_whole fuel [] = None
+run_whole fuel (image ∷ rest) = expected_of_image fuel (image_of image)
 
 abbrev pub asm_whole : List (List ℕ) → Option Expected
 asm_whole [] = None
-asm_whole (source ∷ rest) = source_shown (source_of source)
+asm_whole (source ∷ rest) = expected_of_source (source_of source)
 
 -- the files of a command, in the order of the words
 abbrev pub steps_of : Line → List Step
-steps_of (run limit image script) = image_step image ∷ script_step script ∷ []
+steps_of (run fuel image script) = image_step image ∷ script_step script ∷ []
 steps_of (asm source) = source_step source ∷ []
 
 -- what all files of a command make, where none is refused
 abbrev pub whole_of : Line → List (List ℕ) → Option Expected
-whole_of (run limit image script) files = run_whole limit files
+whole_of (run fuel image script) files = run_whole fuel files
 whole_of (asm source) files = asm_whole files
 
 -- what a command makes of its first files

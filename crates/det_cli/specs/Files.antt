@@ -13,7 +13,7 @@ pub record Expected : Type 0 where
 abbrev pub refusal : End → Expected
 refusal e = record { out = []; err = []; end = e }
 
--- a file's name, the most bytes that it may have, and whether bytes within that limit are refused
+-- a file's name, the most bytes that it may have, its room, and whether bytes that fit are refused
 pub record Step : Type 0 where
   pub name : List ℕ
   pub room : ℕ
@@ -22,7 +22,7 @@ pub record Step : Type 0 where
 abbrev pub names_of : List Step → List (List ℕ)
 names_of steps = map (λ s. s.name) steps
 
--- the limit comes before the grammar
+-- the room comes before the grammar
 abbrev pub refusal_at : Step → List ℕ → Option End
 refusal_at s bytes = cond (nat_lt s.room (length bytes)) (Some (TooLarge (s.room + 1))) (s.refuse bytes)
 

@@ -14,7 +14,7 @@ LoadFault name room i f =
     ⊎ ((f ≡ ReadFault) × Rose i.faults_before i.faults_after)
     ⊎ (f ≡ NoMemory)
 
--- what a load of a name with this limit answers, and that it asks for the name
+-- what a load of a name with this room answers, and that it asks for the name
 abbrev pub Loaded : {V : Type 0} → (V → List ℕ) → List ℕ → ℕ → Input → Result V End → Type 0
 Loaded items name room i (Ok v) = (i.asked_after ≡ i.asked_before ++ name ∷ []) × Agrees (i.told name) (items v) × (nat_lt room (length (items v)) ≡ false)
 Loaded items name room i (Err f) = ((i.asked_after ≡ i.asked_before) ⊎ (i.asked_after ≡ i.asked_before ++ name ∷ [])) × LoadFault name room i f

@@ -19,13 +19,13 @@ pub enum End {
     Trapped,
     /// The words are no command.
     Usage,
-    /// The image is within its limit, and no image; with its first fault.
+    /// There is room for the bytes of the image, and they are no image; with its first fault.
     BadImage(ImageError),
-    /// The script is within its limit, and no script; with its first fault.
+    /// There is room for the bytes of the script, and they are no script; with its first fault.
     BadScript(ScriptError),
-    /// The source is within its limit, and no source; with its first fault.
+    /// There is room for the bytes of the source, and they are no source; with its first fault.
     BadSource(AsmError),
-    /// A file has more bytes than its limit; `read` is one more than the limit.
+    /// A file has more bytes than there is room for; `read` is one more than the room.
     TooLarge { read: u64 },
     /// A file could not be loaded.
     ReadFault,

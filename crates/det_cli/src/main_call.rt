@@ -44,10 +44,10 @@ fn carry_out<L: Loader, O: Sink, E: Sink>(
 {
     match command {
         Command::Run {
-            limit,
+            fuel,
             image,
             script,
-        } => run_image(alloc, limit, image, script, files, out, err),
+        } => run_image(alloc, fuel, image, script, files, out, err),
         Command::Asm { source } => assemble_source(alloc, source, files, out, err),
     }
 }

@@ -1,16 +1,14 @@
-ghost use Rattle.std.specs.Prelude.{◌≡◌, ◌≤◌, ◌<◌, ◌^◌, ◌∷◌, [], IfOk, List, ℕ, true, Some};
+ghost use Rattle.std.specs.Prelude.{◌≡◌, ◌≤◌, ◌<◌, ◌^◌, ◌∷◌, [], IfOk, List, ℕ, Some};
 ghost use Rattle.image_model.specs.Reading.{image_of};
-ghost use Rattle.space_model.specs.Space.{is_settled};
 ghost use Rattle.command_line.specs.Line.{run};
-ghost use Rattle.det_cli.specs.Commands.{bad_image, bad_script, script_step, root_settled, shown, steps_of, whole_of};
+ghost use Rattle.det_cli.specs.Status.{IsDone};
+ghost use Rattle.det_cli.specs.Files.{Expected};
+ghost use Rattle.det_cli.specs.Commands.{bad_image, bad_script, expected_of_root, script_step, settled_root, steps_of, whole_of};
 ghost use Rattle.det_cli.specs.Stages.{Loaded, Judged, Reads};
 
 use crate::end::{End, ScriptError};
-use demand_eval::settle;
-use det_core::boot;
 use det_host::{LoadError, Loader};
 use image_file::{Image, ImageFault, read_image};
-use space_tree::{Devices, Space};
 use std::alloc::Global;
 
 /// The most bytes of an image file.
@@ -58,35 +56,18 @@ fn parse(alloc: Global, bytes: &[u8]) -> Result<Image, End>
     }
 }
 
-// The root that an image and a script make, once it has settled.
-fn settled(alloc: Global, image: &Image, limit: u32, script: &[u8]) -> Result<Space, End>
-    requires { 1 ≤ limit }
-    ensures ok { IfOk result (λ s. s ≡ root_settled image.now limit) }
-    ensures judged { Judged (bad_script script.now) result }
-    ensures settled { IfOk result (λ s. is_settled s ≡ true) }
+fn parse_script(bytes: &[u8]) -> Result<(), End>
+    ensures { Judged (bad_script bytes.now) result }
 {
-    if let [_, ..] = script {
+    if let [_, ..] = bytes {
         return Err(End::BadScript(ScriptError { line: 1 }));
     }
-    let Ok(root) = boot(alloc, image, Devices::new(alloc), limit) else {
-        return Err(End::NoMemory);
-    };
-    match settle(alloc, root) {
-        Ok(space) => Ok(space),
-        Err(_) => Err(End::NoMemory),
-    }
+    Ok(())
 }
 
-// The settled root of an image that was read and of a script that is loaded now.
-fn read_script<L: Loader>(
-    alloc: Global,
-    files: &mut L,
-    image: &Image,
-    limit: u32,
-    script: &str,
-) -> Result<Space, End>
-    requires { 1 ≤ limit }
-    ensures reads { Reads shown (script_step script.now ∷ []) (λ _. Some (shown (root_settled image.now limit)))
+// Loads a script and reads it. Where it is not refused, what is expected is what the files before it make.
+fn read_script<L: Loader>(alloc: Global, files: &mut L, script: &str) -> Result<(), End>
+    ensures reads { (e : Expected) → IsDone e.end → Reads (λ _. e) (script_step script.now ∷ []) (λ _. Some e)
         (record {
           told = L.told files.old;
           asked_before = L.asked files.old;
@@ -95,26 +76,24 @@ fn read_script<L: Loader>(
           faults_after = L.faults files.new;
         }) result }
     ensures later { L.faults files.old ≤ L.faults files.new }
-    ensures settled { IfOk result (λ s. is_settled s ≡ true) }
 {
-    let script_bytes = match load(alloc, files, script, SCRIPT_ROOM) {
+    let bytes = match load(alloc, files, script, SCRIPT_ROOM) {
         Ok(bytes) => bytes,
         Err(end) => return Err(end),
     };
-    settled(alloc, image, limit, &script_bytes)
+    parse_script(&bytes)
 }
 
-/// The settled root of an image and a script, where each space has so much fuel. Each file is loaded once, and read before
+/// The image of a run, whatever its fuel, where neither it nor the script is refused. Each file is loaded once, and read before
 /// the next is loaded.
-pub(crate) fn read_root<L: Loader>(
+pub(crate) fn read_run<L: Loader>(
     alloc: Global,
     files: &mut L,
-    limit: u32,
     image: &str,
     script: &str,
-) -> Result<Space, End>
-    requires { 1 ≤ limit }
-    ensures reads { Reads shown (steps_of (run limit image.now script.now)) (whole_of (run limit image.now script.now))
+) -> Result<Image, End>
+    ensures reads { (fuel : ℕ) → Reads (λ i. expected_of_root (settled_root i fuel))
+        (steps_of (run fuel image.now script.now)) (whole_of (run fuel image.now script.now))
         (record {
           told = L.told files.old;
           asked_before = L.asked files.old;
@@ -123,7 +102,6 @@ pub(crate) fn read_root<L: Loader>(
           faults_after = L.faults files.new;
         }) result }
     ensures later { L.faults files.old ≤ L.faults files.new }
-    ensures settled { IfOk result (λ s. is_settled s ≡ true) }
 {
     let image_bytes = match load(alloc, files, image, IMAGE_ROOM) {
         Ok(bytes) => bytes,
@@ -133,5 +111,8 @@ pub(crate) fn read_root<L: Loader>(
         Ok(parsed) => parsed,
         Err(end) => return Err(end),
     };
-    read_script(alloc, files, &parsed, limit, script)
+    match read_script(alloc, files, script) {
+        Ok(()) => Ok(parsed),
+        Err(end) => Err(end),
+    }
 }

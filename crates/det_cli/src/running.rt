@@ -1,16 +1,29 @@
-ghost use Rattle.std.specs.Prelude.{◌≡◌, ◌≤◌, true};
+ghost use Rattle.std.specs.Prelude.{◌≡◌, ◌≤◌, true, IfOk};
 ghost use Rattle.space_model.specs.Space.{is_settled};
 ghost use Rattle.command_line.specs.Line.{run};
-ghost use Rattle.det_cli.specs.Commands.{end_of, shown};
+ghost use Rattle.det_cli.specs.Commands.{end_of, expected_of_root, settled_root};
 ghost use Rattle.det_cli.specs.Answers.{Course, Writes};
 
 use crate::end::End;
-use crate::reading::read_root;
+use crate::reading::read_run;
 use crate::writing::write_all;
+use demand_eval::settle;
+use det_core::boot;
 use det_host::{Loader, Sink, SinkError};
 use det_report::report;
-use space_tree::{Cause, Space, Status};
-use std::alloc::Global;
+use image_file::Image;
+use space_tree::{Cause, Devices, Space, Status};
+use std::alloc::{AllocError, Global};
+
+// The settled root of an image, where each space has so much fuel.
+fn settled_root(alloc: Global, image: &Image, fuel: u32) -> Result<Space, AllocError>
+    requires { 1 ≤ fuel }
+    ensures root { IfOk result (λ s. s ≡ settled_root image.now fuel) }
+    ensures settled { IfOk result (λ s. is_settled s ≡ true) }
+{
+    let root = boot(alloc, image, Devices::new(alloc), fuel)?;
+    settle(alloc, root)
+}
 
 fn end_of(space: &Space) -> End
     ensures { result ≡ end_of space.now }
@@ -38,7 +51,7 @@ pub(crate) fn write_end(error: SinkError) -> End
 // Writes the console and then the report of a settled root.
 fn write_root<O: Sink, E: Sink>(alloc: Global, space: &Space, out: &mut O, err: &mut E) -> End
     requires { is_settled space.now ≡ true }
-    ensures writes { Writes (shown space.now)
+    ensures writes { Writes (expected_of_root space.now)
         (record {
           taken_before = O.taken out.old;
           taken_after = O.taken out.new;
@@ -66,18 +79,49 @@ fn write_root<O: Sink, E: Sink>(alloc: Global, space: &Space, out: &mut O, err: 
     end_of(space)
 }
 
+// Boots and settles an image, where each space has so much fuel, and writes what its root shows.
+fn settle_and_write<O: Sink, E: Sink>(
+    alloc: Global,
+    image: &Image,
+    fuel: u32,
+    out: &mut O,
+    err: &mut E,
+) -> End
+    requires { 1 ≤ fuel }
+    ensures writes { Writes (expected_of_root (settled_root image.now fuel))
+        (record {
+          taken_before = O.taken out.old;
+          taken_after = O.taken out.new;
+          faults_before = O.faults out.old;
+          faults_after = O.faults out.new;
+        })
+        (record {
+          taken_before = E.taken err.old;
+          taken_after = E.taken err.new;
+          faults_before = E.faults err.old;
+          faults_after = E.faults err.new;
+        }) result }
+    ensures out_later { O.faults out.old ≤ O.faults out.new }
+    ensures err_later { E.faults err.old ≤ E.faults err.new }
+{
+    let Ok(root) = settled_root(alloc, image, fuel) else {
+        return End::NoMemory;
+    };
+    write_root(alloc, &root, out, err)
+}
+
 /// Runs an image on a script, where each space has so much fuel.
 pub(crate) fn run_image<L: Loader, O: Sink, E: Sink>(
     alloc: Global,
-    limit: u32,
+    fuel: u32,
     image: &str,
     script: &str,
     files: &mut L,
     out: &mut O,
     err: &mut E,
 ) -> End
-    requires { 1 ≤ limit }
-    ensures course { Course (run limit image.now script.now)
+    requires { 1 ≤ fuel }
+    ensures course { Course (run fuel image.now script.now)
         (record {
           told = L.told files.old;
           asked_before = L.asked files.old;
@@ -101,8 +145,8 @@ pub(crate) fn run_image<L: Loader, O: Sink, E: Sink>(
     ensures out_later { O.faults out.old ≤ O.faults out.new }
     ensures err_later { E.faults err.old ≤ E.faults err.new }
 {
-    match read_root(alloc, files, limit, image, script) {
-        Ok(space) => write_root(alloc, &space, out, err),
+    match read_run(alloc, files, image, script) {
+        Ok(parsed) => settle_and_write(alloc, &parsed, fuel, out, err),
         Err(end) => end,
     }
 }

@@ -38,12 +38,12 @@ fn load(alloc: Global, image: &Image) -> Result<Mem, AllocError>
 
 /// The root of an image, with its devices and so much fuel: from 1 to 2^32 - 1 events.
 #[tactic(auto, unfolding(run_model::specs::Boot::boot))]
-pub fn boot(alloc: Global, image: &Image, devices: Devices, limit: u32) -> Result<Space, AllocError>
-    requires { 1 ≤ limit }
-    ensures value { IfOk result (λ s. s ≡ boot image.now devices limit) }
+pub fn boot(alloc: Global, image: &Image, devices: Devices, fuel: u32) -> Result<Space, AllocError>
+    requires { 1 ≤ fuel }
+    ensures value { IfOk result (λ s. s ≡ boot image.now devices fuel) }
     ensures sound { IfOk result IsSound }
 {
     let memory = load(alloc, image)?;
-    let top = Top::root(image.entry(), image.stack(), memory, limit, devices);
+    let top = Top::root(image.entry(), image.stack(), memory, fuel, devices);
     Ok(Space::alone(alloc, top))
 }

@@ -24,7 +24,7 @@ fn reads_a_run(rt: HostRuntime) -> Result<(), Fail> {
     let texts = ["det", "run", "--limit", "007", "image.dti", "script.txt"];
     let mut words = words_of(rt.alloc(), &texts)?;
     let want = Command::Run {
-        limit: 7,
+        fuel: 7,
         image: "image.dti",
         script: "script.txt",
     };

@@ -28,7 +28,7 @@ fn one_of_sources<R: AllocGlobal + Abort>(
     }
 }
 
-/// Starts child 5 with a limit of 0 instructions, waits for it, and returns.
+/// Starts child 5 with a limit of 0 events, waits for it, and returns.
 const NO_LIMIT_LEFT: &str = ".segment 0x1000 1
 addi a7, zero, 1
 addi a0, zero, 192

@@ -8,5 +8,5 @@ use Rattle.det_core.proofs.booting.boot.Goals as goal
 pub returns-clause-sound : goal.returns-clause-sound
 unfolding boot
 returns-clause-sound c =
-    let same : c.alone.result ≡ boot c.args.image.now c.args.devices c.args.limit = grind (arith, common_steps) in
-    subst IsSound (sym same) (boot_sound c.args.image.now c.args.devices c.args.limit (omega arith) (omega arith))
+    let same : c.alone.result ≡ boot c.args.image.now c.args.devices c.args.fuel = grind (arith, common_steps) in
+    subst IsSound (sym same) (boot_sound c.args.image.now c.args.devices c.args.fuel (omega arith) (omega arith))
