@@ -1,4 +1,4 @@
-; Starts child 5 with a limit of 0 instructions, waits for it, and returns.
+; Starts child 5 with a limit of 0 events, waits for it, and returns.
 .segment 0x1000 1
         addi a7, zero, 1
         addi a0, zero, 192
