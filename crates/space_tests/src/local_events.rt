@@ -131,6 +131,14 @@ fn advanced(rt: &impl Abort, top: &mut Top, depth: u8, quantum: u32) -> Advance
     }
 }
 
+/// How many events a space has, of at most `quantum`.
+pub(crate) fn events_of(rt: &impl Abort, top: &mut Top, depth: u8, quantum: u32) -> u32
+    requires depth { depth ≤ 8 }
+    requires quantum { 1 ≤ quantum }
+{
+    advanced(rt, top, depth, quantum).ran
+}
+
 // What is next of a space; a local event has happened then.
 fn next_of(rt: &impl Abort, top: &mut Top, depth: u8) -> Next
     requires { depth ≤ 8 }

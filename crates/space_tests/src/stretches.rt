@@ -1,11 +1,11 @@
 ghost use Rattle.std.specs.Prelude.{◌≤◌};
 
+use crate::local_events::events_of;
 use demand_eval::settle;
 use det_core::boot;
 use rv_asm::assemble;
-use space_step::advance;
-use space_tree::{Cause, Devices, Regs, Status, Top};
-use std::alloc::{AllocError, Global};
+use space_tree::{Cause, Devices, Regs, Status};
+use std::alloc::Global;
 use std::process::Abort;
 use std::test::Fail;
 
@@ -202,22 +202,15 @@ struct Ending {
     words: [u32; 2],
 }
 
-// How many events a root had, of at most so many.
-fn events_of(top: &mut Top, stretch: u32) -> Result<u32, AllocError>
-    requires { 1 ≤ stretch }
-{
-    let advance = advance(top, 0, stretch)?;
-    Ok(advance.ran)
-}
-
 // The root of a source after stretches of at most so many events.
-fn ended(alloc: Global, source: &[u8], stretch: u32) -> Result<Ending, Fail>
+fn ended<R: AllocGlobal + Abort>(rt: &R, source: &[u8], stretch: u32) -> Result<Ending, Fail>
     requires { 1 ≤ stretch }
 {
+    let alloc = rt.alloc();
     let image = assemble(alloc, source)?;
     let mut root = boot(alloc, &image, Devices::new(alloc), 1_000_000)?;
     for _ in 0..10_000 {
-        if events_of(&mut root.top, stretch)? == 0 {
+        if events_of(rt, &mut root.top, 0, stretch) == 0 {
             break;
         }
     }
@@ -233,7 +226,7 @@ fn ended(alloc: Global, source: &[u8], stretch: u32) -> Result<Ending, Fail>
 fn finish<R: AllocGlobal + Abort>(rt: &R, source: &[u8], stretch: u32) -> Ending
     requires { 1 ≤ stretch }
 {
-    match ended(rt.alloc(), source, stretch) {
+    match ended(rt, source, stretch) {
         Ok(end) => end,
         Err(_) => panic!(rt; "a source is refused, or memory has run out"),
     }
