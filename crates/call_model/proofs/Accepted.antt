@@ -2,8 +2,10 @@
 use Rattle.std.proofs.Common.{◌≡◌, ℕ, Bool, true, false, List, Option, Some, None, if◌then◌else◌, refl, arith, ◌≤◌, nat_lt}
 use Rattle.std.proofs.lemmas.Bool.Decides.{nat_tests}
 use Rattle.call_model.specs.declared.Kind.{Kind}
-use Rattle.call_model.specs.declared.Kind.TheVariants.{Put, Get, Ret, ConsoleOut}
-use Rattle.call_model.specs.Tests.{wrong_options, wrong_child, wrong_range, outside_root, too_long, too_deep, wrong_block, first_failing}
+use Rattle.call_model.specs.declared.Kind.TheVariants.{Put, Get, Ret, ConsoleOut, Fork, Wait, Tfork, Tjoin}
+use Rattle.call_model.specs.declared.Call.{Call}
+use Rattle.call_model.specs.Options.{has, tree}
+use Rattle.call_model.specs.Tests.{wrong_options, wrong_child, wrong_range, outside_root, too_long, too_deep, wrong_block, argument, first_failing}
 use Rattle.call_model.specs.Reading.{call_of, IsAccepted}
 
 -- a call of this kind fails no test
@@ -13,7 +15,7 @@ pub record Passes (kind : Kind) (x : List ℕ) (root : Bool) (depth : ℕ) : Typ
   pub range : wrong_range kind x ≡ false
   pub place : outside_root kind root ≡ false
   pub length : too_long kind x ≡ false
-  pub below : too_deep kind depth ≡ false
+  pub below : too_deep kind x depth ≡ false
   pub block : wrong_block kind x ≡ false
 
 later : (c : Bool) (n : ℕ) (o : Option ℕ) → (if c then Some n else o) ≡ None → (c ≡ false) × (o ≡ None)
@@ -27,19 +29,28 @@ passes kind x root depth h =
     let h4 = later (wrong_range kind x) 4 _ h3.1 in
     let h6 = later (outside_root kind root) 6 _ h4.1 in
     let h7 = later (too_long kind x) 7 _ h6.1 in
-    let h8 = later (too_deep kind depth) 8 _ h7.1 in
+    let h8 = later (too_deep kind x depth) 8 _ h7.1 in
     let h9 = later (wrong_block kind x) 9 _ h8.1 in
     record { options = h2.0; child = h3.0; range = h4.0; place = h6.0; length = h7.0; below = h8.0; block = h9.0 }
 
 not_past : (a b : ℕ) → nat_lt a b ≡ false → b ≤ a
 not_past a b h = grind (arith, nat_tests)
 
+-- of a call by whether Tree is among its options
+by_tree : (asked : Bool) (k l : Call) → IsAccepted k → IsAccepted l → IsAccepted (if asked then k else l)
+by_tree true k l first second = first
+by_tree false k l first second = second
+
 named_kept : (kind : Kind) (x : List ℕ) (root : Bool) (depth : ℕ) → Passes kind x root depth → IsAccepted (call_of kind x)
 unfolding wrong_options wrong_range too_long wrong_block
-named_kept Put x root depth p = (p.options, record { ranges = p.range; block = p.block })
-named_kept Get x root depth p = (p.options, record { ranges = p.range; block = p.block })
+named_kept Put x root depth p = by_tree (has tree (argument x 0)) _ _ tt (p.options, record { ranges = p.range; block = p.block })
+named_kept Get x root depth p = by_tree (has tree (argument x 0)) _ _ tt (p.options, record { ranges = p.range; block = p.block })
 named_kept Ret x root depth p = tt
 named_kept ConsoleOut x root depth p = (not_past _ _ p.range, not_past _ _ p.length)
+named_kept Fork x root depth p = tt
+named_kept Wait x root depth p = tt
+named_kept Tfork x root depth p = tt
+named_kept Tjoin x root depth p = tt
 
 -- registers that fail no test name a call that keeps what the tests ask
 pub named_accepted : (kind : Kind) (x : List ℕ) (root : Bool) (depth : ℕ) → first_failing kind x root depth ≡ None → IsAccepted (call_of kind x)

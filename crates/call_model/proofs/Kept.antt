@@ -2,7 +2,7 @@
 use Rattle.std.proofs.Common.{◌≡◌, ℕ, Bool, true, false, not, ◌&&◌, ◌||◌, ◌==◌, refl, arith, ◌≤◌, ◌+◌, ◌%◌, ◌^◌, nat_lt}
 use Rattle.std.proofs.lemmas.Bool.Decides.{nat_tests}
 use Rattle.call_model.specs.declared.Transfer.{Transfer}
-use Rattle.call_model.specs.Options.{regs, copy, zeroing, perm, has, is_no_range, IsRange, bad_ranges, bad_block}
+use Rattle.call_model.specs.Options.{regs, copy, has, has_range, is_no_range, IsRange, bad_ranges, bad_block}
 use Rattle.call_model.specs.Reading.{IsTransfer}
 
 both : (a b : Bool) → (a || b) ≡ false → (a ≡ false) × (b ≡ false)
@@ -25,9 +25,9 @@ is_range a s h =
     let d = both _ _ b.1 in
     record { first = is_zero _ b.0; whole = is_zero _ d.0; within = not_past _ _ d.1 }
 
-pub destination_range : (t : Transfer) → IsTransfer t → (has copy t.options || (has zeroing t.options || has perm t.options)) ≡ true → IsRange t.destination t.size
+pub destination_range : (t : Transfer) → IsTransfer t → has_range t.options ≡ true → IsRange t.destination t.size
 unfolding bad_ranges
-destination_range t k e = is_range _ _ (second (has copy t.options || (has zeroing t.options || has perm t.options)) _ e (both _ _ k.ranges).0)
+destination_range t k e = is_range _ _ (second (has_range t.options) _ e (both _ _ k.ranges).0)
 
 pub source_range : (t : Transfer) → IsTransfer t → has copy t.options ≡ true → IsRange t.source t.size
 unfolding bad_ranges

@@ -3,7 +3,7 @@ use Rattle.std.proofs.Common.{◌≡◌, ℕ, ◌==◌, Bool, true, false, cond,
 use Rattle.std.proofs.lemmas.Bool.Decides.{nat_tests}
 use Rattle.std.specs.List.{find}
 use Rattle.call_model.specs.declared.Kind.{Kind}
-use Rattle.call_model.specs.declared.Kind.TheVariants.{Put, Get, Ret, ConsoleOut}
+use Rattle.call_model.specs.declared.Kind.TheVariants.{Put, Get, Ret, ConsoleOut, Fork, Wait, Tfork, Tjoin}
 use Rattle.call_model.specs.Kinds.{number_of, kinds, kind_of}
 
 -- each kind is that of its number
@@ -12,6 +12,10 @@ kind_of-number_of Put = refl
 kind_of-number_of Get = refl
 kind_of-number_of Ret = refl
 kind_of-number_of ConsoleOut = refl
+kind_of-number_of Fork = refl
+kind_of-number_of Wait = refl
+kind_of-number_of Tfork = refl
+kind_of-number_of Tjoin = refl
 
 same_number : (n m : ℕ) → (n == m) ≡ true → m ≡ n
 same_number n m e = grind (arith, nat_tests)

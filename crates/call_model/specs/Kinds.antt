@@ -3,16 +3,20 @@
 use Rattle.std.specs.Prelude.{ℕ, ◌==◌, List, [], ◌∷◌, Option}
 use Rattle.std.specs.List.{find}
 use Rattle.call_model.specs.declared.Kind.{Kind}
-use Rattle.call_model.specs.declared.Kind.TheVariants.{Put, Get, Ret, ConsoleOut}
+use Rattle.call_model.specs.declared.Kind.TheVariants.{Put, Get, Ret, ConsoleOut, Fork, Wait, Tfork, Tjoin}
 
 abbrev pub number_of : Kind → ℕ
 number_of Put = 1
 number_of Get = 2
 number_of Ret = 3
 number_of ConsoleOut = 4
+number_of Fork = 16
+number_of Wait = 17
+number_of Tfork = 18
+number_of Tjoin = 19
 
 abbrev pub kinds : List Kind
-kinds = Put ∷ Get ∷ Ret ∷ ConsoleOut ∷ []
+kinds = Put ∷ Get ∷ Ret ∷ ConsoleOut ∷ Fork ∷ Wait ∷ Tfork ∷ Tjoin ∷ []
 
 -- the kind of call that has this number, if there is one
 abbrev pub kind_of : ℕ → Option Kind

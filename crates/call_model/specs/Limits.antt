@@ -1,10 +1,14 @@
 -- The numbers that bound what a call may name.
 -- Our choice: the numbers.
-use Rattle.std.specs.Prelude.{ℕ}
+use Rattle.std.specs.Prelude.{ℕ, ◌+◌, ◌<◌}
 
 -- the greatest number of a child
 abbrev pub greatest_child : ℕ
 greatest_child = 65535
+
+-- a number that a child may have
+abbrev pub IsChild : ℕ → Type 0
+IsChild n = n < greatest_child + 1
 
 -- the depth of the deepest spaces; the root is at depth 0
 abbrev pub greatest_depth : ℕ

@@ -15,8 +15,14 @@ copy = 2
 abbrev pub zeroing : ℕ
 zeroing = 4
 
+abbrev pub merging : ℕ
+merging = 8
+
 abbrev pub perm : ℕ
 perm = 16
+
+abbrev pub snap : ℕ
+snap = 32
 
 abbrev pub start : ℕ
 start = 64
@@ -24,13 +30,16 @@ start = 64
 abbrev pub limit_option : ℕ
 limit_option = 128
 
+abbrev pub tree : ℕ
+tree = 256
+
 -- the bits of the permission
 abbrev pub permission_bits : ℕ
 permission_bits = 0x3000
 
 -- all bits that may be set
 abbrev pub known_bits : ℕ
-known_bits = 0x30D7
+known_bits = 0x31FF
 
 -- one of these bits is among the options
 abbrev pub has : ℕ → ℕ → Bool
@@ -44,17 +53,21 @@ permission options = options / 4096 % 4
 abbrev pub has_unknown : ℕ → Bool
 has_unknown options = not (bit_and options known_bits == options)
 
--- permission bits without Perm; both of Copy and Zero
+-- two of Copy, Zero and Merge
+abbrev pub has_two_changes : ℕ → Bool
+has_two_changes options = (has copy options && has zeroing options) || ((has copy options || has zeroing options) && has merging options)
+
+-- permission bits without Perm; two of Copy, Zero and Merge; Tree with any other bit
 abbrev pub has_clash : ℕ → Bool
-has_clash options = (has permission_bits options && not (has perm options)) || (has copy options && has zeroing options)
+has_clash options = (has permission_bits options && not (has perm options)) || (has_two_changes options || (has tree options && not (options == tree)))
 
--- Limit without Start
+-- Limit without Start, or Merge
 unfoldable pub bad_put_options : ℕ → Bool
-bad_put_options options = has_unknown options || (has_clash options || (has limit_option options && not (has start options)))
+bad_put_options options = has_unknown options || (has_clash options || ((has limit_option options && not (has start options)) || has merging options))
 
--- Start or Limit
+-- Snap, Start or Limit
 unfoldable pub bad_get_options : ℕ → Bool
-bad_get_options options = has_unknown options || (has_clash options || (has start options || has limit_option options))
+bad_get_options options = has_unknown options || (has_clash options || (has snap options || (has start options || has limit_option options)))
 
 -- the end is above the memory's
 abbrev pub passes_end : ℕ → ℕ → Bool
@@ -70,10 +83,13 @@ pub record IsRange (address size : ℕ) : Type 0 where
   pub whole : size % page_size ≡ 0
   pub within : address + size ≤ 2 ^ 32
 
--- with Copy, Zero or Perm the destination, with Copy the source too
+-- one of the options that change a range of the destination's memory
+abbrev pub has_range : ℕ → Bool
+has_range options = has copy options || (has zeroing options || (has merging options || has perm options))
+
+-- with Copy, Zero, Merge or Perm the destination, with Copy the source too
 unfoldable pub bad_ranges : ℕ → ℕ → ℕ → ℕ → Bool
-bad_ranges options source destination size =
-    ((has copy options || (has zeroing options || has perm options)) && is_no_range destination size) || (has copy options && is_no_range source size)
+bad_ranges options source destination size = (has_range options && is_no_range destination size) || (has copy options && is_no_range source size)
 
 -- with Regs: an address that is no multiple of 4, or from which on there are not 136 bytes
 unfoldable pub bad_block : ℕ → ℕ → Bool

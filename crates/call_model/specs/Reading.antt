@@ -1,15 +1,15 @@
 -- The call that registers name, or the first test that they fail.
 -- Our choice: which register holds what.
-use Rattle.std.specs.Prelude.{◌≡◌, ℕ, ◌+◌, ◌^◌, ◌≤◌, Bool, false, List, Option, Some, None, Result, Ok, Err}
+use Rattle.std.specs.Prelude.{◌≡◌, ℕ, ◌+◌, ◌^◌, ◌≤◌, Bool, false, if◌then◌else◌, List, Option, Some, None, Result, Ok, Err}
 use Rattle.call_model.specs.declared.Kind.{Kind}
 use Rattle.call_model.specs.declared.Kind.TheVariants as kinds
 use Rattle.call_model.specs.declared.Transfer.{Transfer}
 use Rattle.call_model.specs.declared.Call.{Call}
-use Rattle.call_model.specs.declared.Call.TheVariants.{Put, Get, Ret, ConsoleOut}
+use Rattle.call_model.specs.declared.Call.TheVariants.{Put, PutTree, Get, GetTree, Ret, ConsoleOut, Fork, Wait, Tfork, Tjoin}
 use Rattle.call_model.specs.declared.Badcall.{Badcall}
 use Rattle.call_model.specs.Kinds.{kind_of}
 use Rattle.call_model.specs.Limits.{greatest_length}
-use Rattle.call_model.specs.Options.{bad_put_options, bad_get_options, bad_ranges, bad_block}
+use Rattle.call_model.specs.Options.{has, tree, bad_put_options, bad_get_options, bad_ranges, bad_block}
 use Rattle.call_model.specs.Tests.{argument, first_failing}
 
 -- a0 to a6
@@ -18,10 +18,14 @@ transfer x = record { options = argument x 0; child = argument x 1; block = argu
 
 -- the call of a kind, with registers that fail no test
 abbrev pub call_of : Kind → List ℕ → Call
-call_of kinds.Put x = Put (transfer x)
-call_of kinds.Get x = Get (transfer x)
+call_of kinds.Put x = if has tree (argument x 0) then PutTree (argument x 1) (argument x 3) (argument x 4) else Put (transfer x)
+call_of kinds.Get x = if has tree (argument x 0) then GetTree (argument x 1) (argument x 3) (argument x 4) else Get (transfer x)
 call_of kinds.Ret x = Ret (argument x 0)
 call_of kinds.ConsoleOut x = ConsoleOut (argument x 1) (argument x 2)
+call_of kinds.Fork x = Fork (argument x 1)
+call_of kinds.Wait x = Wait (argument x 1)
+call_of kinds.Tfork x = Tfork (argument x 1)
+call_of kinds.Tjoin x = Tjoin (argument x 1)
 
 -- the call, or the number of the first test that fails
 abbrev pub unless_failed : Option ℕ → Call → Result Call Badcall
@@ -46,5 +50,5 @@ pub record IsTransfer (t : Transfer) : Type 0 where
 abbrev pub IsAccepted : Call → Type 0
 IsAccepted (Put t) = (bad_put_options t.options ≡ false) × IsTransfer t
 IsAccepted (Get t) = (bad_get_options t.options ≡ false) × IsTransfer t
-IsAccepted (Ret value) = Unit {0}
 IsAccepted (ConsoleOut addr len) = (addr + len ≤ 2 ^ 32) × (len ≤ greatest_length)
+IsAccepted k = Unit {0}

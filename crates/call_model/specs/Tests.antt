@@ -1,11 +1,11 @@
 -- The tests of a call on its registers, x0 to x31: a7 is the number of the call's kind, a0 to a6 are what it takes. Each test is
 -- told by the kinds that it concerns; the others pass it.
 -- Our choice: the tests, their numbers and their order.
-use Rattle.std.specs.Prelude.{ℕ, ◌+◌, ◌==◌, Bool, false, not, nat_lt, if◌then◌else◌, List, [], ◌∷◌, slice_index, Option, Some, None}
+use Rattle.std.specs.Prelude.{ℕ, ◌+◌, Bool, false, not, ◌&&◌, ◌||◌, nat_lt, if◌then◌else◌, List, [], ◌∷◌, slice_index, Option, Some, None}
 use Rattle.call_model.specs.declared.Kind.{Kind}
-use Rattle.call_model.specs.declared.Kind.TheVariants.{Put, Get, ConsoleOut}
+use Rattle.call_model.specs.declared.Kind.TheVariants.{Put, Get, ConsoleOut, Fork, Wait, Tfork, Tjoin}
 use Rattle.call_model.specs.Limits.{greatest_child, greatest_depth, greatest_length}
-use Rattle.call_model.specs.Options.{bad_put_options, bad_get_options, bad_ranges, bad_block, passes_end}
+use Rattle.call_model.specs.Options.{has, tree, bad_put_options, bad_get_options, bad_ranges, bad_block, passes_end}
 
 -- a0 is argument 0
 abbrev pub argument : List ℕ → ℕ → ℕ
@@ -17,10 +17,22 @@ wrong_options Put x = bad_put_options (argument x 0)
 wrong_options Get x = bad_get_options (argument x 0)
 wrong_options kind x = false
 
+-- no number of a child
+abbrev pub is_no_child : ℕ → Bool
+is_no_child n = nat_lt greatest_child n
+
+-- the child of Put or Get, with Tree the child that is copied and the one that it is copied to as well
+abbrev pub wrong_tree : List ℕ → Bool
+wrong_tree x = is_no_child (argument x 1) || (has tree (argument x 0) && (is_no_child (argument x 3) || is_no_child (argument x 4)))
+
 -- a child number above the greatest
 unfoldable pub wrong_child : Kind → List ℕ → Bool
-wrong_child Put x = nat_lt greatest_child (argument x 1)
-wrong_child Get x = nat_lt greatest_child (argument x 1)
+wrong_child Put x = wrong_tree x
+wrong_child Get x = wrong_tree x
+wrong_child Fork x = is_no_child (argument x 1)
+wrong_child Wait x = is_no_child (argument x 1)
+wrong_child Tfork x = is_no_child (argument x 1)
+wrong_child Tjoin x = is_no_child (argument x 1)
 wrong_child kind x = false
 
 -- a range of Put or Get, or the bytes of console out
@@ -40,10 +52,16 @@ unfoldable pub too_long : Kind → List ℕ → Bool
 too_long ConsoleOut x = nat_lt greatest_length (argument x 2)
 too_long kind x = false
 
--- a child that would be deeper than the deepest
-unfoldable pub too_deep : Kind → ℕ → Bool
-too_deep Put depth = depth == greatest_depth
-too_deep kind depth = false
+-- how many levels below its caller a call makes spaces: with Tree a child's child, else a child
+abbrev pub new_levels : Kind → List ℕ → ℕ
+new_levels Put x = if has tree (argument x 0) then 2 else 1
+new_levels Fork x = 1
+new_levels Tfork x = 1
+new_levels kind x = 0
+
+-- a space that would be deeper than the deepest
+unfoldable pub too_deep : Kind → List ℕ → ℕ → Bool
+too_deep kind x depth = nat_lt greatest_depth (depth + new_levels kind x)
 
 -- a register block that does not stand in memory
 unfoldable pub wrong_block : Kind → List ℕ → Bool
@@ -67,7 +85,7 @@ tests =
     ∷ test 4 (λ kind x root depth. wrong_range kind x)
     ∷ test 6 (λ kind x root depth. outside_root kind root)
     ∷ test 7 (λ kind x root depth. too_long kind x)
-    ∷ test 8 (λ kind x root depth. too_deep kind depth)
+    ∷ test 8 (λ kind x root depth. too_deep kind x depth)
     ∷ test 9 (λ kind x root depth. wrong_block kind x)
     ∷ []
 

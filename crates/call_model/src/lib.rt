@@ -2,8 +2,8 @@
 #![tactic(auto)]
 
 /// What Put and Get are asked for (OSDI 2010, "Efficient System-Enforced Deterministic Parallelism", the section on the
-/// kernel interface), in registers a0 to a6. Options are bits: 1 Regs, 2 Copy, 4 Zero, 16 Perm, 64 Start, 128 Limit; bits
-/// 12 and 13 are the permission. Addresses and sizes are in bytes, the limit in events.
+/// kernel interface), in registers a0 to a6. Options are bits: 1 Regs, 2 Copy, 4 Zero, 8 Merge, 16 Perm, 32 Snap, 64 Start,
+/// 128 Limit; bits 12 and 13 are the permission. Addresses and sizes are in bytes, the limit in events.
 #[derive(Clone, Copy, Debug, PartialEq, Eq)]
 pub struct Transfer {
     pub options: u32,
@@ -22,6 +22,10 @@ pub enum Kind {
     Get,
     Ret,
     ConsoleOut,
+    Fork,
+    Wait,
+    Tfork,
+    Tjoin,
 }
 
 /// A call of a space.
@@ -29,12 +33,24 @@ pub enum Kind {
 pub enum Call {
     /// Changes a child, and may start it.
     Put(Transfer),
+    /// Copies the caller's child `from`, with all below it, to child `to` of child `child`.
+    PutTree { child: u16, from: u16, to: u16 },
     /// Changes the caller by what a child has.
     Get(Transfer),
+    /// Copies child `from` of child `child`, with all below it, to the caller's child `to`.
+    GetTree { child: u16, from: u16, to: u16 },
     /// Stops with this value.
     Ret { value: u32 },
     /// Writes `len` bytes from `addr` on to the console.
     ConsoleOut { addr: u32, len: u32 },
+    /// Starts a process: a child that goes on from here with a copy of the caller's memory.
+    Fork { child: u16 },
+    /// Waits for a process and all below it, and removes them.
+    Wait { child: u16 },
+    /// Starts a thread: a child that goes on from here with a copy of the caller's memory, and with a snapshot of it.
+    Tfork { child: u16 },
+    /// Merges what a thread has changed since its snapshot into the caller's memory.
+    Tjoin { child: u16 },
 }
 
 /// The number of the first test that a call's registers fail.

@@ -1,15 +1,14 @@
 -- How a space runs until it stops, over what its children do when they are waited for: by its next events, and until it has stopped.
-use Rattle.std.proofs.Common.{◌≡◌, ℕ, zero, suc, ◌≤◌, Bool, true, false, cond, List, Option, Some, None, refl, sym, ap, ◌∙◌, subst, arith}
-use Rattle.call_model.specs.declared.Transfer.{Transfer}
+use Rattle.std.proofs.Common.{◌≡◌, ℕ, zero, suc, ◌≤◌, Bool, true, false, cond, List, ◌∷◌, Option, Some, None, refl, sym, ap, ◌∙◌, subst, arith}
 use Rattle.call_model.specs.declared.Call.{Call}
-use Rattle.call_model.specs.declared.Call.TheVariants.{Put, Get, Ret, ConsoleOut}
+use Rattle.call_model.specs.declared.Call.TheVariants.{Put, PutTree, Get, GetTree, Ret, ConsoleOut, Fork, Wait, Tfork, Tjoin}
 use Rattle.space_model.specs.Stop.{is_stopped}
 use Rattle.space_model.specs.Space.{Space, space, Children, Top, top_of, children_of, find, over}
 use Rattle.space_model.specs.declared.Refusal.{Refusal}
-use Rattle.space_model.specs.declared.Reach.TheVariants.{Itself}
+use Rattle.space_model.specs.declared.Await.{Await}
 use Rattle.space_model.specs.Call.{Seen, Meeting, first_top, seen_of, apply_meeting}
 use Rattle.space_model.specs.Meeting.{awaits, meet, or_fresh, refusals, first_refusal, action, unless_refused}
-use Rattle.space_model.proofs.Parts.{caller_alike}
+use Rattle.space_model.proofs.Parts.{caller_alike, wait_alike, join_alike}
 use Rattle.space_model.specs.Event.{NextEvent, rests, moves, meets, next, Follows}
 use Rattle.space_model.proofs.Children.{over_missing, over-at}
 use Rattle.run_model.specs.Demand.{Meaning, run_for, wait_for, wait_for_child, go_on, meaning, run, of_children, left_of}
@@ -34,7 +33,13 @@ run_on-follows f levels (suc n) t u cs is = run_on-moves f levels t is.0 cs is.1
 -- a call changes nothing of what its caller has paid
 action_fuel : (k : Call) (u : Top) (seen : List Seen) (cs : Children) → (top_of (apply_meeting (action k u seen) cs)).fuel ≡ u.fuel
 action_fuel (Put x) u seen cs = refl
+action_fuel (PutTree child from to) u seen cs = refl
 action_fuel (Get x) u seen cs = (caller_alike x (or_fresh u (first_top seen)) u).fuel
+action_fuel (GetTree child from to) u seen cs = refl
+action_fuel (Fork child) u seen cs = refl
+action_fuel (Wait child) u seen cs = (wait_alike (or_fresh u (first_top seen)) u).fuel
+action_fuel (Tfork child) u seen cs = refl
+action_fuel (Tjoin child) u seen cs = (join_alike (or_fresh u (first_top seen)) u).fuel
 action_fuel (Ret value) u seen cs = refl
 action_fuel (ConsoleOut addr len) u seen cs = refl
 
@@ -61,24 +66,14 @@ run_on-meets f levels t u k cs e =
     let first : (run_for f levels (suc t.fuel) (space t cs)).space ≡ (run_for f levels t.fuel (meet levels k u cs')).space = rw e refl in
     first ∙ ap (λ n. (run_for f levels n (meet levels k u cs')).space) turns
 
--- what becomes of the child that Put or Get waits for
-wait_one : (f : Meaning) (n : ℕ) (cs : Children) (o : Option Space) → find n cs ≡ o
-    → (wait_for_child f (record { number = n; reach = Itself }) cs o).children ≡ over n (λ c. (f Itself c).space) cs
-wait_one f n cs None at = sym (over_missing n (λ c. (f Itself c).space) cs at)
-wait_one f n cs (Some c) at = over-at n (λ d. (f Itself c).space) (λ d. (f Itself d).space) c cs at refl
+-- what becomes of a child that is waited for
+wait_one : (f : Meaning) (a : Await) (cs : Children) (o : Option Space) → find a.number cs ≡ o → (wait_for_child f a cs o).children ≡ over a.number (λ c. (f a.reach c).space) cs
+wait_one f a cs None at = sym (over_missing a.number (λ c. (f a.reach c).space) cs at)
+wait_one f a cs (Some c) at = over-at a.number (λ d. (f a.reach c).space) (λ d. (f a.reach d).space) c cs at refl
 
-pub wait_for-put : (f : Meaning) (x : Transfer) (cs : Children) → (wait_for f (awaits (Put x)) cs).children ≡ over x.child (λ c. (f Itself c).space) cs
-wait_for-put f x cs = wait_one f x.child cs (find x.child cs) refl
-
-pub wait_for-get : (f : Meaning) (x : Transfer) (cs : Children) → (wait_for f (awaits (Get x)) cs).children ≡ over x.child (λ c. (f Itself c).space) cs
-wait_for-get f x cs = wait_one f x.child cs (find x.child cs) refl
-
--- where it is missing, nothing does
-pub wait_for-missing : (f : Meaning) (x : Transfer) (cs : Children) → find x.child cs ≡ None
-    → ((wait_for f (awaits (Put x)) cs).children ≡ cs) × ((wait_for f (awaits (Get x)) cs).children ≡ cs)
-wait_for-missing f x cs at =
-    let same = over_missing x.child (λ c. (f Itself c).space) cs at in
-    (wait_for-put f x cs ∙ same, wait_for-get f x cs ∙ same)
+-- to wait for some is to wait for the first, and then for the others
+pub wait_for-first : (f : Meaning) (a : Await) (others : List Await) (cs : Children) → (wait_for f (a ∷ others) cs).children ≡ (wait_for f others (over a.number (λ c. (f a.reach c).space) cs)).children
+wait_for-first f a others cs = ap (λ xs. (wait_for f others xs).children) (wait_one f a cs (find a.number cs) refl)
 
 -- the run of a space is its run over its children's own
 pub run-run_on : (levels : ℕ) (s : Space) → run levels s ≡ run_on (of_children levels) levels s

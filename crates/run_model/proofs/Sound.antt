@@ -6,7 +6,7 @@ use Rattle.space_model.specs.Space.{Space, space, Children, Top, Devices, top_of
 use Rattle.space_model.specs.Sound.{IsSoundTop, IsSoundAt, AreSound, IsSound}
 use Rattle.space_model.specs.declared.Reach.{Reach}
 use Rattle.space_model.specs.declared.Reach.TheVariants.{Itself, Whole}
-use Rattle.space_model.specs.Call.{Await}
+use Rattle.space_model.specs.declared.Await.{Await}
 use Rattle.space_model.specs.Meeting.{awaits, meet}
 use Rattle.space_model.specs.Event.{NextEvent, rests, moves, meets, next}
 use Rattle.space_model.proofs.Sound.{found_sound, over_sound, over_found_sound, meet_sound}

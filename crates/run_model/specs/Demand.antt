@@ -7,7 +7,7 @@ use Rattle.space_model.specs.Space.{Space, space, Children, none, child, Top, to
 use Rattle.call_model.specs.declared.Call.{Call}
 use Rattle.space_model.specs.declared.Reach.{Reach}
 use Rattle.space_model.specs.declared.Reach.TheVariants.{Itself, Whole}
-use Rattle.space_model.specs.Call.{Await}
+use Rattle.space_model.specs.declared.Await.{Await}
 use Rattle.space_model.specs.Meeting.{awaits, meet}
 use Rattle.space_model.specs.Event.{NextEvent, rests, moves, meets, next}
 

@@ -7,7 +7,7 @@ use Rattle.space_model.specs.Space.{Space, space, Children, top_of, children_of,
 use Rattle.space_model.specs.Path.{under}
 use Rattle.space_model.specs.declared.Reach.{Reach}
 use Rattle.space_model.specs.declared.Reach.TheVariants.{Itself, Whole}
-use Rattle.space_model.specs.Call.{Await}
+use Rattle.space_model.specs.declared.Await.{Await}
 use Rattle.space_model.specs.Meeting.{awaits, meet}
 use Rattle.space_model.specs.Event.{NextEvent, rests, moves, meets, next}
 

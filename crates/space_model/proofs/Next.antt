@@ -1,17 +1,19 @@
 -- What the next event of a space tells: a call that meets a child is one that may, of a top that may pay; a local event keeps a top
 -- sound, and so do many.
-use Rattle.std.proofs.Common.{◌≡◌, ℕ, zero, suc, ◌-◌, ◌≤◌, ◌<◌, ◌==◌, nat_lt, Bool, false, List, Option, Some, None, Result, Ok, Err, refl, sym, ap, ◌∙◌, subst, arith}
+use Rattle.std.proofs.Common.{◌≡◌, ℕ, zero, suc, ◌-◌, ◌≤◌, ◌<◌, ◌+◌, nat_lt, Bool, true, false, ◌&&◌, ◌||◌, if◌then◌else◌, List, Option, Some, None, Result, Ok, Err, refl, sym, ap, ◌∙◌, subst, arith}
 use Rattle.std.proofs.lemmas.Bool.Decides.{nat_tests}
 use Rattle.memory_model.specs.Memory.{may_read, first_without}
 use Rattle.instruction_model.specs.Outcome.{view_of, Outcome, goes, stores, calls, traps, outcome}
+use Rattle.call_model.specs.declared.Transfer.{Transfer}
 use Rattle.call_model.specs.declared.Call.{Call}
 use Rattle.call_model.specs.declared.Call.TheVariants as named
 use Rattle.call_model.specs.declared.Badcall as refusal
 use Rattle.call_model.specs.declared.Kind.{Kind}
 use Rattle.call_model.specs.declared.Kind.TheVariants as kinds
-use Rattle.call_model.specs.Limits.{greatest_child, greatest_depth}
+use Rattle.call_model.specs.Limits.{greatest_child, greatest_depth, IsChild}
+use Rattle.call_model.specs.Options.{has, tree}
 use Rattle.call_model.specs.Kinds.{kind_of}
-use Rattle.call_model.specs.Tests.{argument, wrong_child, too_deep, first_failing}
+use Rattle.call_model.specs.Tests.{argument, is_no_child, new_levels, wrong_tree, wrong_child, too_deep, first_failing}
 use Rattle.call_model.specs.Reading as reading
 use Rattle.call_model.specs.Reading.{unless_failed, read_as, read, IsAccepted}
 use Rattle.call_model.proofs.Accepted.{Passes, passes, named_accepted}
@@ -23,12 +25,16 @@ use Rattle.space_model.specs.Change.{after_payment}
 use Rattle.space_model.specs.Meeting.{MayMeet}
 use Rattle.space_model.specs.Event.{Effect, becomes, asks, NextEvent, rests, moves, meets, charge, with_devices, output, console_out, effect_of, by_reading, call, after_outcome, instruction, by_limit_left, by_fuel_left, by_status, next, Follows, IsNotLocal, MayPay}
 
-fits : (n : ℕ) → nat_lt greatest_child n ≡ false → n < 65536
+fits : (n : ℕ) → is_no_child n ≡ false → IsChild n
 fits n h = grind (arith, nat_tests)
 
--- a child below the last level is not asked for
-shallow : (levels : ℕ) → (greatest_depth - levels == greatest_depth) ≡ false → 1 ≤ levels
-shallow levels h = grind (arith, nat_tests)
+-- a space below the last level is not asked for
+shallow : (levels n : ℕ) → nat_lt greatest_depth (greatest_depth - levels + n) ≡ false → n ≤ levels
+shallow levels n h = grind (arith, nat_tests)
+
+neither : (a b : Bool) → (a || b) ≡ false → (a ≡ false) × (b ≡ false)
+neither true b h = cc
+neither false b h = (refl, h)
 
 -- no call of a device is asked for
 device_asks : (t : Top) (o : Option Devices) (f : Devices → Effect) (k : Call) → ((d : Devices) → f d ≡ asks k → ⊥) → with_devices t o f ≡ asks k → ⊥
@@ -47,11 +53,33 @@ asked : (t : Top) (c k : Call) → effect_of t c ≡ asks k → c ≡ k
 asked t (named.ConsoleOut addr len) k e = absurd (console_asks t addr len k e)
 asked t c k e = cc
 
+-- the numbers that Put and Get name, with Tree among the options or without
+tree_numbers : (asked : Bool) (a b c : ℕ) → (is_no_child a || (asked && (is_no_child b || is_no_child c))) ≡ false → IsChild a × (asked ≡ true → IsChild b × IsChild c)
+tree_numbers true a b c h =
+    let first = neither (is_no_child a) _ h in
+    let rest = neither (is_no_child b) (is_no_child c) first.1 in
+    (fits a first.0, λ e. (fits b rest.0, fits c rest.1))
+tree_numbers false a b c h = (fits a (neither (is_no_child a) false h).0, λ e. cc)
+
+put_meets : (levels : ℕ) (asked : Bool) (a b c : ℕ) (x : Transfer) → x.child ≡ a → nat_lt greatest_depth (greatest_depth - levels + (if asked then 2 else 1)) ≡ false
+    → (is_no_child a || (asked && (is_no_child b || is_no_child c))) ≡ false → MayMeet levels (if asked then named.PutTree a b c else named.Put x)
+put_meets levels true a b c x is deep h = let ns = tree_numbers true a b c h in let others = ns.1 refl in (shallow levels 2 deep, ns.0, others.0, others.1)
+put_meets levels false a b c x is deep h = (shallow levels 1 deep, subst IsChild (sym is) (tree_numbers false a b c h).0)
+
+get_meets : (levels : ℕ) (asked : Bool) (a b c : ℕ) (x : Transfer) → x.child ≡ a → (is_no_child a || (asked && (is_no_child b || is_no_child c))) ≡ false
+    → MayMeet levels (if asked then named.GetTree a b c else named.Get x)
+get_meets levels true a b c x is h = let ns = tree_numbers true a b c h in let others = ns.1 refl in (ns.0, others.0, others.1)
+get_meets levels false a b c x is h = subst IsChild (sym is) (tree_numbers false a b c h).0
+
 -- of registers that fail no test, it may meet its child
 named_meets : (levels : ℕ) (t : Top) (kind : Kind) (x : List ℕ) (root : Bool) (k : Call) → Passes kind x root (greatest_depth - levels) → effect_of t (reading.call_of kind x) ≡ asks k → MayMeet levels (reading.call_of kind x)
 unfolding wrong_child too_deep
-named_meets levels t kinds.Put x root k p e = (shallow levels p.below, fits (argument x 1) p.child)
-named_meets levels t kinds.Get x root k p e = fits (argument x 1) p.child
+named_meets levels t kinds.Put x root k p e = put_meets levels (has tree (argument x 0)) (argument x 1) (argument x 3) (argument x 4) (reading.transfer x) refl p.below p.child
+named_meets levels t kinds.Get x root k p e = get_meets levels (has tree (argument x 0)) (argument x 1) (argument x 3) (argument x 4) (reading.transfer x) refl p.child
+named_meets levels t kinds.Fork x root k p e = (shallow levels 1 p.below, fits (argument x 1) p.child)
+named_meets levels t kinds.Wait x root k p e = fits (argument x 1) p.child
+named_meets levels t kinds.Tfork x root k p e = (shallow levels 1 p.below, fits (argument x 1) p.child)
+named_meets levels t kinds.Tjoin x root k p e = fits (argument x 1) p.child
 named_meets levels t kinds.Ret x root k p e = cc
 named_meets levels t kinds.ConsoleOut x root k p e = absurd (console_asks t (argument x 1) (argument x 2) k e)
 

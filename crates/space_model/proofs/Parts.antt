@@ -3,6 +3,7 @@ use Rattle.std.proofs.Common.{◌≡◌, ℕ, Bool, true, false, List, [], ◌�
 use Rattle.call_model.specs.declared.Transfer.{Transfer}
 use Rattle.call_model.specs.Options.{has}
 use Rattle.space_model.specs.Space.{Top}
+use Rattle.space_model.specs.Runtime.{after_fork, after_thread_fork, after_join, after_wait}
 use Rattle.space_model.specs.Part.{Part, part_if, with_parts, put_parts, get_parts, child_after, caller_after}
 
 -- a top with the fuel, the use and the devices of another
@@ -17,10 +18,14 @@ alike_itself t = record { fuel = refl; used = refl; devices = refl }
 alike_then : (t u v : Top) → IsAlike t u → IsAlike u v → IsAlike t v
 alike_then t u v a b = record { fuel = b.fuel ∙ a.fuel; used = b.used ∙ a.used; devices = b.devices ∙ a.devices }
 
+-- a part leaves them
+abbrev Keeps : Part → Type 0
+Keeps p = (t : Top) → IsAlike t (p t)
+
 -- each of these parts leaves them
 abbrev AllKeep : List (ℕ × Part) → Type 0
 AllKeep [] = Unit {0}
-AllKeep (p ∷ ps) = ((t : Top) → IsAlike t (p.1 t)) × AllKeep ps
+AllKeep (p ∷ ps) = Keeps p.1 × AllKeep ps
 
 optional_keeps : (asked : Bool) (p : Part) → ((t : Top) → IsAlike t (p t)) → (t : Top) → IsAlike t (part_if asked p t)
 optional_keeps true p h t = h t
@@ -39,7 +44,13 @@ child_alike x t c =
       λ u. record { fuel = refl; used = refl; devices = refl },
       (
         λ u. record { fuel = refl; used = refl; devices = refl },
-        (λ u. record { fuel = refl; used = refl; devices = refl }, (λ u. record { fuel = refl; used = refl; devices = refl }, (λ u. record { fuel = refl; used = refl; devices = refl }, tt))),
+        (
+          λ u. record { fuel = refl; used = refl; devices = refl },
+          (
+            λ u. record { fuel = refl; used = refl; devices = refl },
+            (λ u. record { fuel = refl; used = refl; devices = refl }, (λ u. record { fuel = refl; used = refl; devices = refl }, tt)),
+          ),
+        ),
       ),
     )
     c
@@ -49,6 +60,28 @@ unfolding caller_after
 caller_alike x c t =
     all_keep x.options (get_parts x c) (
       λ u. record { fuel = refl; used = refl; devices = refl },
-      (λ u. record { fuel = refl; used = refl; devices = refl }, (λ u. record { fuel = refl; used = refl; devices = refl }, (λ u. record { fuel = refl; used = refl; devices = refl }, tt))),
+      (
+        λ u. record { fuel = refl; used = refl; devices = refl },
+        (
+          λ u. record { fuel = refl; used = refl; devices = refl },
+          (λ u. record { fuel = refl; used = refl; devices = refl }, (λ u. record { fuel = refl; used = refl; devices = refl }, tt)),
+        ),
+      ),
     )
     t
+
+pub fork_alike : (t c : Top) → IsAlike c (after_fork t c)
+unfolding after_fork
+fork_alike t c = record { fuel = refl; used = refl; devices = refl }
+
+pub thread_fork_alike : (t c : Top) → IsAlike c (after_thread_fork t c)
+unfolding after_thread_fork
+thread_fork_alike t c = record { fuel = refl; used = refl; devices = refl }
+
+pub join_alike : (c t : Top) → IsAlike t (after_join c t)
+unfolding after_join
+join_alike c t = record { fuel = refl; used = refl; devices = refl }
+
+pub wait_alike : (c t : Top) → IsAlike t (after_wait c t)
+unfolding after_wait
+wait_alike c t = record { fuel = refl; used = refl; devices = refl }

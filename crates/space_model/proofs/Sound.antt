@@ -3,30 +3,32 @@
 -- `with_top_sound` and `with_space_sound` of what stands at a path, and `meet_sound` of a call.
 use Rattle.std.proofs.Common.{◌≡◌, ℕ, zero, suc, pred, ◌+◌, ◌-◌, ◌==◌, ◌≤◌, ◌<◌, ◌≢◌, Bool, true, false, cond, List, [], ◌∷◌, length, get_or, Option, Some, None, refl, ap, ap₂, ◌∙◌, subst, arith, nat_lt}
 use Rattle.std.proofs.lemmas.Bool.Decides.{nat_tests}
-use Rattle.std.specs.Prelude.{option_map}
+use Rattle.std.specs.Prelude.{option_map, if◌then◌else◌}
 use Rattle.call_model.specs.declared.Transfer.{Transfer}
 use Rattle.call_model.specs.declared.Call.{Call}
-use Rattle.call_model.specs.declared.Call.TheVariants.{Put, Get, Ret, ConsoleOut}
+use Rattle.call_model.specs.declared.Call.TheVariants.{Put, PutTree, Get, GetTree, Ret, ConsoleOut, Fork, Wait, Tfork, Tjoin}
+use Rattle.call_model.specs.Limits.{IsChild}
 use Rattle.space_model.specs.declared.Refusal.{Refusal}
-use Rattle.space_model.specs.Space.{Space, space, Children, none, child, Top, top_of, children_of, find, over, has, enter, put_child}
+use Rattle.space_model.specs.Space.{Space, space, Children, none, child, Top, top_of, children_of, find, over, has, enter, put_child, remove_child, height, levels_of}
 use Rattle.space_model.specs.Sound.{has_devices, IsSoundTop, IsSoundAt, AreSound}
 use Rattle.space_model.specs.Path.{with_top, with_space, is_root}
-use Rattle.space_model.specs.Change.{after_payment}
-use Rattle.space_model.specs.Call.{Meeting, below, seen_of, apply_meeting}
-use Rattle.space_model.specs.Part.{child_after, caller_after}
+use Rattle.space_model.specs.Change.{after_payment, after_success}
+use Rattle.space_model.specs.Call.{Meeting, below, seen_of, copy_to, edit, apply_meeting}
+use Rattle.space_model.specs.Part.{Part, child_after, caller_after}
+use Rattle.space_model.specs.Runtime.{after_fork, after_thread_fork, after_join, after_wait}
 use Rattle.space_model.specs.Event.{MayPay}
-use Rattle.space_model.specs.Meeting.{MayMeet, awaits, meet, or_fresh, refusals, first_refusal, action, unless_refused}
-use Rattle.space_model.proofs.Parts.{IsAlike, child_alike, caller_alike}
+use Rattle.space_model.specs.Meeting.{MayMeet, awaits, meet, or_fresh, space_or_fresh, test_refusal, height_refusal, with_copy, refusals, first_refusal, action, unless_refused}
+use Rattle.space_model.proofs.Parts.{IsAlike, child_alike, caller_alike, fork_alike, thread_fork_alike, join_alike, wait_alike}
 
 same_number : (n m : ℕ) → (n == m) ≡ true → n ≡ m
 same_number n m e = grind (arith, nat_tests)
 
 -- a child that was found is sound one level below, and its number fits
-pub find_sound : (levels fuel least n : ℕ) (cs : Children) (c : Space) → AreSound (suc levels) fuel least cs → find n cs ≡ Some c → (n < 65536) × IsSoundAt levels false fuel c
+pub find_sound : (levels fuel least n : ℕ) (cs : Children) (c : Space) → AreSound (suc levels) fuel least cs → find n cs ≡ Some c → (IsChild n) × IsSoundAt levels false fuel c
 find_sound levels fuel least n none c ok is = cc
 find_sound levels fuel least n (child m s rest) c ok is = go (n == m) refl is (λ at. find_sound levels fuel (suc m) n rest c ok.3 at)
   where
-    go : (b : Bool) → (n == m) ≡ b → cond b (Some s) (find n rest) ≡ Some c → (find n rest ≡ Some c → (n < 65536) × IsSoundAt levels false fuel c) → (n < 65536) × IsSoundAt levels false fuel c
+    go : (b : Bool) → (n == m) ≡ b → cond b (Some s) (find n rest) ≡ Some c → (find n rest ≡ Some c → (IsChild n) × IsSoundAt levels false fuel c) → (IsChild n) × IsSoundAt levels false fuel c
     go true e at later =
         let number : n ≡ m = same_number n m e in
         let same : s ≡ c = cc in
@@ -71,7 +73,7 @@ pub over_found_sound : (levels fuel least n : ℕ) (f : Space → Space) (c : Sp
 over_found_sound levels fuel least n f c cs ok is new =
     over_sound levels fuel least n f cs ok (λ d at h. let same : c ≡ d = cc in subst (λ x. IsSoundAt (pred levels) false fuel (f x)) same new)
 
-enter_sound : (levels fuel least n : ℕ) (s : Space) (cs : Children) → AreSound (suc levels) fuel least cs → has n cs ≡ false → least ≤ n → n < 65536 → IsSoundAt levels false fuel s → AreSound (suc levels) fuel least (enter n s cs)
+enter_sound : (levels fuel least n : ℕ) (s : Space) (cs : Children) → AreSound (suc levels) fuel least cs → has n cs ≡ false → least ≤ n → IsChild n → IsSoundAt levels false fuel s → AreSound (suc levels) fuel least (enter n s cs)
 enter_sound levels fuel least n s none ok un low high new = (low, high, new, tt)
 enter_sound levels fuel least n s (child m c rest) ok un low high new =
     let other : n ≢ m = λ e. (let same : (n == m) ≡ true = grind (arith, nat_tests) in cc) in
@@ -82,7 +84,7 @@ enter_sound levels fuel least n s (child m c rest) ok un low high new =
     go other false e later = let after : m ≤ n = grind (arith, nat_tests) in let past : suc m ≤ n = omega (arith, other) in (ok.0, ok.1, ok.2, later past)
 
 -- a child put in the place of the one there, or as a new one
-pub put_sound : (levels fuel n : ℕ) (s : Space) (cs : Children) → 1 ≤ levels → AreSound levels fuel 0 cs → n < 65536 → IsSoundAt (pred levels) false fuel s → AreSound levels fuel 0 (put_child n s cs)
+pub put_sound : (levels fuel n : ℕ) (s : Space) (cs : Children) → 1 ≤ levels → AreSound levels fuel 0 cs → IsChild n → IsSoundAt (pred levels) false fuel s → AreSound levels fuel 0 (put_child n s cs)
 put_sound zero fuel n s cs some ok high new = absurd (omega arith)
 put_sound (suc levels) fuel n s cs some ok high new = go (has n cs) refl
   where
@@ -102,7 +104,7 @@ with_top_sound (n ∷ p) levels root fuel t (space u cs) top ok =
     (ok.0, over_sound levels fuel 0 n (with_top p t) cs ok.1 (λ c at h. with_top_sound p (pred levels) false fuel t c inner h))
 
 -- a space put at a path, whose numbers fit as a slice of u16 has them
-pub with_space_sound : (p : List ℕ) (levels : ℕ) (root : Bool) (fuel : ℕ) (r s : Space) → length p ≤ levels → ((k : ℕ) → get_or p k 0 < 65536) → IsSoundAt (levels - length p) (is_root root p) fuel r → IsSoundAt levels root fuel s → IsSoundAt levels root fuel (with_space p r s)
+pub with_space_sound : (p : List ℕ) (levels : ℕ) (root : Bool) (fuel : ℕ) (r s : Space) → length p ≤ levels → ((k : ℕ) → IsChild (get_or p k 0)) → IsSoundAt (levels - length p) (is_root root p) fuel r → IsSoundAt levels root fuel s → IsSoundAt levels root fuel (with_space p r s)
 with_space_sound [] levels root fuel r s long fit new ok = let same : levels - 0 ≡ levels = omega arith in subst (λ k. IsSoundAt k root fuel r) same new
 with_space_sound (n ∷ []) levels root fuel r (space t cs) long fit new ok =
     let some : 1 ≤ levels = omega arith in
@@ -122,39 +124,135 @@ paid_sound fuel root t u some old new = let total = old.sum in record { sum = om
 alike_sound : (fuel : ℕ) (root : Bool) (t u : Top) → IsAlike t u → IsSoundTop fuel root t → IsSoundTop fuel root u
 alike_sound fuel root t u a ok = record { sum = ap₂ (λ m n. m + n) a.fuel a.used ∙ ok.sum; devices = ap has_devices a.devices ∙ ok.devices }
 
--- the child of a Put stays as sound as it was, and a fresh one is sound
-child_sound : (levels : ℕ) (root : Bool) (fuel : ℕ) (x : Transfer) (u : Top) (o : Option Space) → IsSoundTop fuel root u
-    → ((c : Space) → o ≡ Some c → IsSoundAt levels false fuel c) → IsSoundAt levels false fuel (space (child_after x u (or_fresh u (option_map top_of o))) (below o))
-child_sound levels root fuel x u None top found =
+-- sound children stay so without one of them, and of any lower least number
+least_sound : (levels fuel least low : ℕ) (cs : Children) → low ≤ least → AreSound levels fuel least cs → AreSound levels fuel low cs
+least_sound levels fuel least low none lower ok = tt
+least_sound zero fuel least low (child m s rest) lower ok = absurd ok
+least_sound (suc levels) fuel least low (child m s rest) lower ok = let first : least ≤ m = ok.0 in (omega arith, ok.1, ok.2, ok.3)
+
+remove_sound : (levels fuel least n : ℕ) (cs : Children) → AreSound levels fuel least cs → AreSound levels fuel least (remove_child n cs)
+remove_sound levels fuel least n none ok = tt
+remove_sound zero fuel least n (child m s rest) ok = absurd ok
+remove_sound (suc levels) fuel least n (child m s rest) ok = go (n == m) (remove_sound (suc levels) fuel (suc m) n rest ok.3)
+  where
+    go : (b : Bool) → AreSound (suc levels) fuel (suc m) (remove_child n rest) → AreSound (suc levels) fuel least (cond b rest (child m s (remove_child n rest)))
+    go true later = let first : least ≤ m = ok.0 in let lower : least ≤ suc m = omega arith in least_sound (suc levels) fuel (suc m) least rest lower ok.3
+    go false later = (ok.0, ok.1, ok.2, later)
+
+-- a sound space has at most its levels below it, and is sound wherever it fits
+mutual
+  height_within : (levels : ℕ) (root : Bool) (fuel : ℕ) (s : Space) → IsSoundAt levels root fuel s → height s ≤ levels
+  height_within levels root fuel (space t cs) ok = levels_within levels fuel 0 cs ok.1
+
+  levels_within : (levels fuel least : ℕ) (cs : Children) → AreSound levels fuel least cs → levels_of cs ≤ levels
+  levels_within levels fuel least none ok = omega arith
+  levels_within zero fuel least (child n s rest) ok = absurd ok
+  levels_within (suc levels) fuel least (child n s rest) ok =
+      let one = height_within levels false fuel s ok.2 in
+      let others = levels_within (suc levels) fuel (suc n) rest ok.3 in
+      omega (arith, one, others)
+
+mutual
+  fits_sound : (levels below : ℕ) (root : Bool) (fuel : ℕ) (s : Space) → IsSoundAt levels root fuel s → height s ≤ below → IsSoundAt below root fuel s
+  fits_sound levels below root fuel (space t cs) ok fits = (ok.0, all_fit levels below fuel 0 cs ok.1 fits)
+
+  all_fit : (levels below fuel least : ℕ) (cs : Children) → AreSound levels fuel least cs → levels_of cs ≤ below → AreSound below fuel least cs
+  all_fit levels below fuel least none ok fits = tt
+  all_fit zero below fuel least (child n s rest) ok fits = absurd ok
+  all_fit (suc levels) zero fuel least (child n s rest) ok fits = absurd (omega (arith, fits))
+  all_fit (suc levels) (suc below) fuel least (child n s rest) ok fits =
+      let one : height s ≤ below = omega (arith, fits) in
+      let others : levels_of rest ≤ suc below = omega (arith, fits) in
+      (ok.0, ok.1, fits_sound levels below false fuel s ok.2 one, all_fit (suc levels) (suc below) fuel (suc n) rest ok.3 others)
+
+-- a child as a call changes its top
+child_sound : (levels : ℕ) (fuel : ℕ) (p : Part) (u : Top) (root : Bool) (o : Option Space) → IsSoundTop fuel root u → ((c : Top) → IsAlike c (p c))
+    → ((c : Space) → o ≡ Some c → IsSoundAt levels false fuel c) → IsSoundAt levels false fuel (space (p (or_fresh u (option_map top_of o))) (below o))
+child_sound levels fuel p u root None top alike found =
     let total = top.sum in
     let c = or_fresh u None in
     let ok : IsSoundTop fuel false c = record { sum = omega arith; devices = refl } in
-    (alike_sound fuel false c (child_after x u c) (child_alike x u c) ok, tt)
-child_sound levels root fuel x u (Some (space t cs)) top found = let ok = found (space t cs) refl in (alike_sound fuel false t (child_after x u t) (child_alike x u t) ok.0, ok.1)
+    (alike_sound fuel false c (p c) (alike c) ok, tt)
+child_sound levels fuel p u root (Some (space t cs)) top alike found = let ok = found (space t cs) refl in (alike_sound fuel false t (p t) (alike t) ok.0, ok.1)
 
 -- the same of any sound children
 pub found_sound : (levels fuel n : ℕ) (cs : Children) → AreSound levels fuel 0 cs → (c : Space) → find n cs ≡ Some c → IsSoundAt (pred levels) false fuel c
 found_sound zero fuel n cs ok c is = let none = no_child fuel 0 n cs ok in cc
 found_sound (suc levels) fuel n cs ok c is = (find_sound levels fuel 0 n cs c ok is).1
 
+-- a child that becomes a copy of a space which fits, or goes
+copied_sound : (levels fuel n : ℕ) (o : Option Space) (cs : Children) → IsChild n → AreSound levels fuel 0 cs
+    → ((s : Space) → o ≡ Some s → (1 ≤ levels) × IsSoundAt (pred levels) false fuel s) → AreSound levels fuel 0 (edit (copy_to n o) cs)
+copied_sound levels fuel n None cs high ok fits = remove_sound levels fuel 0 n cs ok
+copied_sound levels fuel n (Some s) cs high ok fits = let h = fits s refl in put_sound levels fuel n s cs h.0 ok high h.1
+
+-- a space whose height is tested fits two levels below
+tested_fits : (levels fuel : ℕ) (o : Option Space) → first_refusal (height_refusal levels o ∷ []) ≡ None → ((s : Space) → o ≡ Some s → IsSoundAt (pred levels) false fuel s)
+    → (s : Space) → o ≡ Some s → (1 ≤ pred levels) × IsSoundAt (pred (pred levels)) false fuel s
+tested_fits levels fuel None passes found s is = cc
+tested_fits levels fuel (Some r) passes found s is =
+    let same : r ≡ s = cc in
+    subst (λ x. (1 ≤ pred levels) × IsSoundAt (pred (pred levels)) false fuel x) same (go (nat_lt levels (2 + height r)) refl passes)
+  where
+    go : (b : Bool) → nat_lt levels (2 + height r) ≡ b → first_refusal ((if b then test_refusal 8 else None) ∷ []) ≡ None → (1 ≤ pred levels) × IsSoundAt (pred (pred levels)) false fuel r
+    go true is e = cc
+    go false is e =
+        let within : 2 + height r ≤ levels = grind (arith, nat_tests) in
+        (omega (arith, within), fits_sound (pred levels) (pred (pred levels)) false fuel r (found r refl) (omega (arith, within)))
+
+-- a child's child fits as a child
+grandchild_fits : (levels fuel n : ℕ) (o : Option Space) → ((c : Space) → o ≡ Some c → IsSoundAt (pred levels) false fuel c)
+    → (s : Space) → find n (below o) ≡ Some s → (1 ≤ levels) × IsSoundAt (pred levels) false fuel s
+grandchild_fits levels fuel n None found s is = cc
+grandchild_fits zero fuel n (Some (space t cs)) found s is = let none = no_child fuel 0 n cs (found (space t cs) refl).1 in cc
+grandchild_fits (suc levels) fuel n (Some (space t cs)) found s is =
+    let ok = found_sound levels fuel n cs (found (space t cs) refl).1 s is in
+    let within = height_within (pred levels) false fuel s ok in
+    (omega arith, fits_sound (pred levels) levels false fuel s ok (omega (arith, within)))
+
+-- a caller as a call changes it, and goes on
+caller_sound : (fuel : ℕ) (root : Bool) (u v : Top) → IsAlike u v → IsSoundTop fuel root u → IsSoundTop fuel root (after_success v)
+caller_sound fuel root u v a top = let after = alike_sound fuel root u v a top in record { sum = after.sum; devices = after.devices }
+
 -- what a call of a sound caller does that no test stops
 action_sound : (levels : ℕ) (root : Bool) (fuel : ℕ) (k : Call) (u : Top) (cs : Children) → MayMeet levels k → IsSoundTop fuel root u → AreSound levels fuel 0 cs
-    → IsSoundAt levels root fuel (apply_meeting (action k u (seen_of (awaits k) cs)) cs)
-action_sound levels root fuel (Put x) u cs may top ok = (
+    → first_refusal (refusals levels k u (seen_of (awaits k) cs)) ≡ None → IsSoundAt levels root fuel (apply_meeting (action k u (seen_of (awaits k) cs)) cs)
+action_sound levels root fuel (Put x) u cs may top ok passes = (
   record { sum = top.sum; devices = top.devices },
-  put_sound levels fuel x.child _ cs may.0 ok may.1 (child_sound (pred levels) root fuel x u (find x.child cs) top (found_sound levels fuel x.child cs ok)),
+  put_sound levels fuel x.child _ cs may.0 ok may.1 (child_sound (pred levels) fuel (child_after x u) u root (find x.child cs) top (child_alike x u) (found_sound levels fuel x.child cs ok)),
 )
-action_sound levels root fuel (Get x) u cs may top ok =
+action_sound levels root fuel (PutTree n from to) u cs may top ok passes =
+    let two : 2 ≤ levels = may.0 in
+    let one : 1 ≤ levels = omega (arith, two) in
+    let here = child_sound (pred levels) fuel (λ c. c) u root (find n cs) top (λ c. record { fuel = refl; used = refl; devices = refl }) (found_sound levels fuel n cs ok) in
+    let copied = copied_sound (pred levels) fuel to (find from cs) (below (find n cs)) may.3 here.1 (tested_fits levels fuel (find from cs) passes (found_sound levels fuel from cs ok)) in
+    (record { sum = top.sum; devices = top.devices }, put_sound levels fuel n _ cs one ok may.1 (here.0, copied))
+action_sound levels root fuel (Get x) u cs may top ok passes =
     let c = or_fresh u (option_map top_of (find x.child cs)) in
-    let after = alike_sound fuel root u (caller_after x c u) (caller_alike x c u) top in
-    (record { sum = after.sum; devices = after.devices }, ok)
-action_sound levels root fuel (Ret value) u cs may top ok = absurd may
-action_sound levels root fuel (ConsoleOut addr len) u cs may top ok = absurd may
+    (caller_sound fuel root u (caller_after x c u) (caller_alike x c u) top, ok)
+action_sound levels root fuel (GetTree n from to) u cs may top ok passes =
+    (record { sum = top.sum; devices = top.devices }, copied_sound levels fuel to (find from (below (find n cs))) cs may.2 ok (grandchild_fits levels fuel from (find n cs) (found_sound levels fuel n cs ok)))
+action_sound levels root fuel (Fork n) u cs may top ok passes = (
+  record { sum = top.sum; devices = top.devices },
+  put_sound levels fuel n _ cs may.0 ok may.1 (child_sound (pred levels) fuel (after_fork u) u root (find n cs) top (fork_alike u) (found_sound levels fuel n cs ok)),
+)
+action_sound levels root fuel (Wait n) u cs may top ok passes =
+    let c = or_fresh u (option_map top_of (find n cs)) in
+    (caller_sound fuel root u (after_wait c u) (wait_alike c u) top, remove_sound levels fuel 0 n cs ok)
+action_sound levels root fuel (Tfork n) u cs may top ok passes = (
+  record { sum = top.sum; devices = top.devices },
+  put_sound levels fuel n _ cs may.0 ok may.1 (child_sound (pred levels) fuel (after_thread_fork u) u root (find n cs) top (thread_fork_alike u) (found_sound levels fuel n cs ok)),
+)
+action_sound levels root fuel (Tjoin n) u cs may top ok passes =
+    let c = or_fresh u (option_map top_of (find n cs)) in
+    (caller_sound fuel root u (after_join c u) (join_alike c u) top, ok)
+action_sound levels root fuel (Ret value) u cs may top ok passes = absurd may
+action_sound levels root fuel (ConsoleOut addr len) u cs may top ok passes = absurd may
 
 -- a caller that stops is as sound as it was
 unless_sound : (levels : ℕ) (root : Bool) (fuel : ℕ) (o : Option Refusal) (u : Top) (m : Meeting) (cs : Children) → IsSoundTop fuel root u → AreSound levels fuel 0 cs
-    → IsSoundAt levels root fuel (apply_meeting m cs) → IsSoundAt levels root fuel (apply_meeting (unless_refused o u m) cs)
-unless_sound levels root fuel None u m cs top ok acts = acts
+    → (o ≡ None → IsSoundAt levels root fuel (apply_meeting m cs)) → IsSoundAt levels root fuel (apply_meeting (unless_refused o u m) cs)
+unless_sound levels root fuel None u m cs top ok acts = acts refl
 unless_sound levels root fuel (Some r) u m cs top ok acts = (record { sum = top.sum; devices = top.devices }, ok)
 
 -- a call of a sound caller that pays for it

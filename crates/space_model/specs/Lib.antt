@@ -8,5 +8,6 @@ pub mod Change
 pub mod Block
 pub mod Call
 pub mod Part
+pub mod Runtime
 pub mod Meeting
 pub mod Event

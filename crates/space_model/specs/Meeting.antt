@@ -1,44 +1,102 @@
 -- What calls that meet children do once the children that they wait for are ready (OSDI 2010, "Efficient System-Enforced Deterministic
 -- Parallelism", the section on the kernel interface). A meeting is its tests, in their order, and what it does where none of them stops the
 -- caller; so all tests come before any change.
--- Source: OSDI 2010, "Efficient System-Enforced Deterministic Parallelism", the kernel interface: the options of Put and Get.
--- Our choice: the order of their parts, and that all tests come before any change.
-use Rattle.std.specs.Prelude.{ℕ, ◌+◌, List, [], ◌∷◌, Option, Some, None, option_map, Bool, if◌then◌else◌, ◌≤◌, ◌<◌}
-use Rattle.memory_model.specs.Memory.{may_read, may_write, first_without}
+-- Source: OSDI 2010, "Efficient System-Enforced Deterministic Parallelism", the kernel interface: the options of Put and Get, Tree among them, and
+-- that a byte which both sides changed stops the merging space.
+-- Our choice: the order of the tests and of the parts, that all tests come before any change, and that Tree is a copy.
+use Rattle.std.specs.Prelude.{ℕ, ◌+◌, List, [], ◌∷◌, Option, Some, None, option_map, Bool, if◌then◌else◌, ◌≤◌, nat_lt}
+use Rattle.memory_model.specs.Memory.{Memory, may_read, may_write, first_without}
+use Rattle.merge_model.specs.Merge.{first_conflict}
 use Rattle.call_model.specs.declared.Transfer.{Transfer}
 use Rattle.call_model.specs.declared.Call.{Call}
-use Rattle.call_model.specs.declared.Call.TheVariants.{Put, Get}
-use Rattle.call_model.specs.Options.{has, regs}
+use Rattle.call_model.specs.declared.Call.TheVariants.{Put, PutTree, Get, GetTree, Fork, Wait, Tfork, Tjoin}
+use Rattle.call_model.specs.Limits.{IsChild}
+use Rattle.call_model.specs.Options.{has, regs, merging}
 use Rattle.space_model.specs.declared.Cause.{Cause}
-use Rattle.space_model.specs.declared.Cause.TheVariants.{LoadFault, StoreFault}
+use Rattle.space_model.specs.declared.Cause.TheVariants.{LoadFault, StoreFault, Badcall, Conflict}
 use Rattle.space_model.specs.declared.Refusal.{Refusal}
-use Rattle.space_model.specs.Space.{Space, Children, Top}
+use Rattle.space_model.specs.Space.{Space, space, Children, Top, top_of, find, height}
 use Rattle.space_model.specs.Change.{stop, after_success}
 use Rattle.space_model.specs.Beginning.{fresh_top}
-use Rattle.space_model.specs.Part.{child_after, caller_after}
-use Rattle.space_model.specs.declared.Reach.TheVariants.{Itself}
-use Rattle.space_model.specs.Call.{Await, Seen, change, Meeting, seen_of, first_top, apply_meeting}
+use Rattle.space_model.specs.Part.{child_after, caller_after, destination_page, page_count}
+use Rattle.space_model.specs.Runtime.{shared_pages, after_fork, after_thread_fork, after_join, after_wait}
+use Rattle.space_model.specs.declared.Await.{Await}
+use Rattle.space_model.specs.declared.Reach.TheVariants.{Itself, Whole}
+use Rattle.space_model.specs.Call.{Seen, change, place, take_away, copy_to, edit, Meeting, seen_of, first_top, first_space, second_space, below, apply_meeting}
 
 -- a missing child of a caller is read as a fresh one, with the fuel that every space had at first
 abbrev pub or_fresh : Top → Option Top → Top
 or_fresh t None = fresh_top (t.fuel + t.used)
 or_fresh t (Some c) = c
 
+-- the same of a child with all below it
+abbrev pub space_or_fresh : Top → Option Space → Space
+space_or_fresh t o = space (or_fresh t (option_map top_of o)) (below o)
+
+abbrev pub itself : ℕ → Await
+itself n = record { number = n; reach = Itself }
+
+abbrev pub whole : ℕ → Await
+whole n = record { number = n; reach = Whole }
+
 -- the children that a call waits for, in this order
 abbrev pub awaits : Call → List Await
-awaits (Put x) = record { number = x.child; reach = Itself } ∷ []
-awaits (Get x) = record { number = x.child; reach = Itself } ∷ []
+awaits (Put x) = itself x.child ∷ []
+awaits (PutTree child from to) = whole child ∷ whole from ∷ []
+awaits (Get x) = itself x.child ∷ []
+awaits (GetTree child from to) = whole child ∷ whole to ∷ []
+awaits (Fork child) = itself child ∷ []
+awaits (Wait child) = whole child ∷ []
+awaits (Tfork child) = itself child ∷ []
+awaits (Tjoin child) = itself child ∷ []
 awaits k = []
 
 -- with Regs, the least address of the register block that lacks a right
 abbrev pub block_refusal : Transfer → Cause → (ℕ → Bool) → Option Refusal
 block_refusal x cause right = if has regs x.options then option_map (λ a. record { cause = cause; value = a }) (first_without right x.block 136) else None
 
+-- the call fails the test of this number, one of those that stand behind the tests on registers
+abbrev pub test_refusal : ℕ → Option Refusal
+test_refusal n = Some (record { cause = Badcall; value = n })
+
+-- test 5: the child has no snapshot
+abbrev pub snapshot_refusal : Option Memory → Option Refusal
+snapshot_refusal None = test_refusal 5
+snapshot_refusal (Some snapshot) = None
+
+-- test 8 of a space that is copied to a child's child, of a caller with so many levels left below it: the copy would be deeper than the deepest
+abbrev pub height_refusal : ℕ → Option Space → Option Refusal
+height_refusal levels None = None
+height_refusal levels (Some s) = if nat_lt levels (2 + height s) then test_refusal 8 else None
+
+-- the least address of a range at which both sides have changed the byte since the snapshot
+abbrev pub conflict_refusal : Option Memory → Memory → Memory → ℕ → ℕ → Option Refusal
+conflict_refusal None child parent first count = None
+conflict_refusal (Some snapshot) child parent first count = option_map (λ a. record { cause = Conflict; value = a }) (first_conflict snapshot child parent first count)
+
+-- a test where an option asks for it
+abbrev pub refusal_if : Bool → Option Refusal → Option Refusal
+refusal_if asked refusal = if asked then refusal else None
+
+-- the tests of a Get of a child
+abbrev pub get_refusals : Transfer → Top → Top → List (Option Refusal)
+get_refusals x t c =
+    refusal_if (has merging x.options) (snapshot_refusal c.snapshot)
+    ∷ block_refusal x StoreFault (may_write t.memory)
+    ∷ refusal_if (has merging x.options) (conflict_refusal c.snapshot c.memory t.memory (destination_page x) (page_count x))
+    ∷ []
+
+-- the tests of a join of a thread
+abbrev pub join_refusals : Top → Top → List (Option Refusal)
+join_refusals t c = snapshot_refusal c.snapshot ∷ conflict_refusal c.snapshot c.memory t.memory 0 shared_pages ∷ []
+
 -- the tests of a call in their order, each with what it stops the caller for, where it does; of a caller with so many levels of children
 -- left below it, by what it sees of the children that it waits for
 abbrev pub refusals : ℕ → Call → Top → List Seen → List (Option Refusal)
 refusals levels (Put x) t seen = block_refusal x LoadFault (may_read t.memory) ∷ []
-refusals levels (Get x) t seen = block_refusal x StoreFault (may_write t.memory) ∷ []
+refusals levels (PutTree child from to) t seen = height_refusal levels (second_space seen) ∷ []
+refusals levels (Get x) t seen = get_refusals x t (or_fresh t (first_top seen))
+refusals levels (Tjoin child) t seen = join_refusals t (or_fresh t (first_top seen))
 refusals levels k t seen = []
 
 -- the first that stops the caller
@@ -47,10 +105,20 @@ first_refusal [] = None
 first_refusal (None ∷ others) = first_refusal others
 first_refusal (Some r ∷ others) = Some r
 
+-- a child's child becomes a copy of a space, or goes
+abbrev pub with_copy : ℕ → Option Space → Space → Space
+with_copy n o (space t cs) = space t (edit (copy_to n o) cs)
+
 -- what a call does that no test stops, in the order of its parts
 abbrev pub action : Call → Top → List Seen → Meeting
 action (Put x) t seen = record { caller = after_success t; edits = change x.child (child_after x t (or_fresh t (first_top seen))) ∷ [] }
+action (PutTree child from to) t seen = record { caller = after_success t; edits = place child (with_copy to (second_space seen) (space_or_fresh t (first_space seen))) ∷ [] }
 action (Get x) t seen = record { caller = after_success (caller_after x (or_fresh t (first_top seen)) t); edits = [] }
+action (GetTree child from to) t seen = record { caller = after_success t; edits = copy_to to (find from (below (first_space seen))) ∷ [] }
+action (Fork child) t seen = record { caller = after_success t; edits = change child (after_fork t (or_fresh t (first_top seen))) ∷ [] }
+action (Wait child) t seen = record { caller = after_success (after_wait (or_fresh t (first_top seen)) t); edits = take_away child ∷ [] }
+action (Tfork child) t seen = record { caller = after_success t; edits = change child (after_thread_fork t (or_fresh t (first_top seen))) ∷ [] }
+action (Tjoin child) t seen = record { caller = after_success (after_join (or_fresh t (first_top seen)) t); edits = [] }
 action k t seen = record { caller = t; edits = [] }
 
 -- the caller stops, and nothing else changes; or the call acts
@@ -68,6 +136,12 @@ meet levels k t cs = apply_meeting (meeting levels k t (seen_of (awaits k) cs)) 
 
 -- a call that may meet a child, with so many levels of children left below its caller
 abbrev pub MayMeet : ℕ → Call → Type 0
-MayMeet levels (Put x) = (1 ≤ levels) × (x.child < 65536)
-MayMeet levels (Get x) = x.child < 65536
+MayMeet levels (Put x) = (1 ≤ levels) × IsChild x.child
+MayMeet levels (PutTree child from to) = (2 ≤ levels) × IsChild child × IsChild from × IsChild to
+MayMeet levels (Get x) = IsChild x.child
+MayMeet levels (GetTree child from to) = IsChild child × IsChild from × IsChild to
+MayMeet levels (Fork child) = (1 ≤ levels) × IsChild child
+MayMeet levels (Wait child) = IsChild child
+MayMeet levels (Tfork child) = (1 ≤ levels) × IsChild child
+MayMeet levels (Tjoin child) = IsChild child
 MayMeet levels k = ⊥

@@ -1,14 +1,16 @@
 -- The parts of what calls do, each from tops to tops, and the options that ask for them (OSDI 2010, "Efficient System-Enforced Deterministic
--- Parallelism", the section on the kernel interface: the options Regs, Copy, Zero, Perm, Start and Limit of Put and Get). A range of memory is
--- its first page and its number of pages, so that all of memory is one.
+-- Parallelism", the section on the kernel interface: the options of Put and Get). A range of memory is its first page and its number of pages,
+-- so that all of memory is one.
 -- Source: OSDI 2010, "Efficient System-Enforced Deterministic Parallelism", the kernel interface: the options of Put and Get.
--- Our choice: what each does, and that Copy carries permissions.
+-- Our choice: what each does, their order, that Copy carries permissions, and that the snapshot stays when Merge has used it.
 use Rattle.std.specs.Prelude.{ℕ, ◌/◌, List, [], ◌∷◌, Option, Some, None, Bool, if◌then◌else◌}
 use Rattle.memory_model.specs.Memory.{Memory, with_permissions}
+use Rattle.memory_model.specs.Sizes.{page_size}
 use Rattle.memory_model.specs.Ranges.{with_zeros, with_copies}
+use Rattle.merge_model.specs.Merge.{with_merge}
 use Rattle.instruction_model.specs.Outcome.{Registers}
 use Rattle.call_model.specs.declared.Transfer.{Transfer}
-use Rattle.call_model.specs.Options.{has, regs, copy, zeroing, perm, start, limit_option, permission}
+use Rattle.call_model.specs.Options.{has, regs, copy, zeroing, merging, perm, snap, start, limit_option, permission}
 use Rattle.space_model.specs.declared.Status.TheVariants.{Running}
 use Rattle.space_model.specs.Space.{Top}
 use Rattle.space_model.specs.Block.{registers_at, with_block}
@@ -28,6 +30,15 @@ zero_part first count t = record t { memory = with_zeros t.memory first count }
 abbrev pub copy_part : Memory → ℕ → ℕ → ℕ → Part
 copy_part source from first count t = record t { memory = with_copies t.memory source from first count }
 
+-- a parent's memory with what a child has changed in a range since its snapshot, where it has one
+abbrev pub with_changes : Option Memory → Memory → Memory → ℕ → ℕ → Memory
+with_changes None child parent first count = parent
+with_changes (Some snapshot) child parent first count = with_merge snapshot child parent first count
+
+-- what a child has changed since its snapshot; permissions stay
+abbrev pub merge_part : Option Memory → Memory → ℕ → ℕ → Part
+merge_part snapshot child first count t = record t { memory = with_changes snapshot child t.memory first count }
+
 -- this permission; bytes stay
 abbrev pub permission_part : ℕ → ℕ → ℕ → Part
 permission_part first count p t = record t { memory = with_permissions t.memory first count p }
@@ -35,6 +46,10 @@ permission_part first count p t = record t { memory = with_permissions t.memory 
 -- the register block of a top from an address on, whatever the permissions are
 abbrev pub block_part : ℕ → Top → Part
 block_part a c t = record t { memory = with_block t.memory a c }
+
+-- its memory as it is now, kept to merge against
+abbrev pub snapshot_part : Part
+snapshot_part t = record t { snapshot = Some t.memory }
 
 -- it runs, with this limit
 abbrev pub start_part : Option ℕ → Part
@@ -50,13 +65,13 @@ with_parts options [] t = t
 with_parts options (p ∷ ps) t = with_parts options ps (part_if (has p.0 options) p.1 t)
 
 abbrev pub source_page : Transfer → ℕ
-source_page x = x.source / 4096
+source_page x = x.source / page_size
 
 abbrev pub destination_page : Transfer → ℕ
-destination_page x = x.destination / 4096
+destination_page x = x.destination / page_size
 
 abbrev pub page_count : Transfer → ℕ
-page_count x = x.size / 4096
+page_count x = x.size / page_size
 
 -- with Limit, the limit of a child that is started
 abbrev pub start_limit : Transfer → Option ℕ
@@ -69,6 +84,7 @@ put_parts x t =
     ∷ (zeroing, zero_part (destination_page x) (page_count x))
     ∷ (copy, copy_part t.memory (source_page x) (destination_page x) (page_count x))
     ∷ (perm, permission_part (destination_page x) (page_count x) (permission x.options))
+    ∷ (snap, snapshot_part)
     ∷ (start, start_part (start_limit x))
     ∷ []
 
@@ -77,6 +93,7 @@ abbrev pub get_parts : Transfer → Top → List (ℕ × Part)
 get_parts x c =
     (zeroing, zero_part (destination_page x) (page_count x))
     ∷ (copy, copy_part c.memory (source_page x) (destination_page x) (page_count x))
+    ∷ (merging, merge_part c.snapshot c.memory (destination_page x) (page_count x))
     ∷ (perm, permission_part (destination_page x) (page_count x) (permission x.options))
     ∷ (regs, block_part x.block c)
     ∷ []

@@ -2,7 +2,7 @@
 -- 65,536, fuel and used add to one number in all, and the root alone has devices.
 -- Our choice: a depth of at most 8, child numbers below 65,536, one sum of fuel and used.
 use Rattle.std.specs.Prelude.{◌≡◌, ℕ, zero, suc, ◌+◌, ◌^◌, ◌<◌, ◌≤◌, Option, Some, None, Bool, true, false}
-use Rattle.call_model.specs.Limits.{greatest_depth}
+use Rattle.call_model.specs.Limits.{greatest_depth, IsChild}
 use Rattle.space_model.specs.Space.{Space, space, Children, none, child, Top, Devices}
 
 abbrev pub has_devices : Option Devices → Bool
@@ -23,7 +23,7 @@ abbrev mutual
   pub AreSound : ℕ → ℕ → ℕ → Children → Type 0
   AreSound levels fuel least none = Unit {0}
   AreSound zero fuel least (child n s rest) = ⊥
-  AreSound (suc levels) fuel least (child n s rest) = (least ≤ n) × (n < 65536) × IsSoundAt levels false fuel s × AreSound (suc levels) fuel (suc n) rest
+  AreSound (suc levels) fuel least (child n s rest) = (least ≤ n) × IsChild n × IsSoundAt levels false fuel s × AreSound (suc levels) fuel (suc n) rest
 
 -- a whole tree, from its root on
 abbrev pub IsSound : Space → Type 0

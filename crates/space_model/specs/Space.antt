@@ -1,7 +1,7 @@
 -- The state of a space, without its children (its top) and with them (OSDI 2010, "Efficient System-Enforced Deterministic
 -- Parallelism": a tree of spaces, each with registers, a private memory and a snapshot; fuel and limits count events).
 -- Source: OSDI 2010, "Efficient System-Enforced Deterministic Parallelism", "Spaces": registers, a private memory, a snapshot, a limit.
-use Rattle.std.specs.Prelude.{ℕ, List, [], ◌∷◌, Option, Bool, true, false, Some, None, cond, ◌==◌, nat_lt}
+use Rattle.std.specs.Prelude.{ℕ, suc, List, [], ◌∷◌, Option, Bool, true, false, Some, None, cond, ◌==◌, nat_lt, max}
 use Rattle.memory_model.specs.Memory.{Memory}
 use Rattle.instruction_model.specs.Outcome.{Registers}
 use Rattle.space_model.specs.declared.Status.{Status}
@@ -71,6 +71,15 @@ remove_child n (child m c rest) = cond (n == m) rest (child m c (remove_child n 
 abbrev pub children_from : List (ℕ × Space) → Children
 children_from [] = none
 children_from (e ∷ es) = child e.0 e.1 (children_from es)
+
+-- how many levels of children there are below a space
+abbrev mutual
+  pub height : Space → ℕ
+  height (space t cs) = levels_of cs
+
+  pub levels_of : Children → ℕ
+  levels_of none = 0
+  levels_of (child n s rest) = max (suc (height s)) (levels_of rest)
 
 -- no space in it runs
 abbrev mutual

@@ -58,3 +58,10 @@ pub enum Reach {
     /// The child and every space below it.
     Whole,
 }
+
+/// A child that a call waits for.
+#[derive(Clone, Copy, Debug, PartialEq, Eq)]
+pub struct Await {
+    pub number: u16,
+    pub reach: Reach,
+}
