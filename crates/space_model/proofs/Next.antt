@@ -10,10 +10,10 @@ use Rattle.call_model.specs.declared.Call.TheVariants as named
 use Rattle.call_model.specs.declared.Badcall as refusal
 use Rattle.call_model.specs.declared.Kind.{Kind}
 use Rattle.call_model.specs.declared.Kind.TheVariants as kinds
-use Rattle.call_model.specs.Limits.{greatest_child, greatest_depth, IsChild}
+use Rattle.call_model.specs.Limits.{greatest_depth, IsChild}
 use Rattle.call_model.specs.Options.{has, tree}
 use Rattle.call_model.specs.Kinds.{kind_of}
-use Rattle.call_model.specs.Tests.{argument, is_no_child, new_levels, wrong_tree, wrong_child, too_deep, first_failing}
+use Rattle.call_model.specs.Tests.{argument, is_no_child, wrong_child, too_deep, first_failing}
 use Rattle.call_model.specs.Reading as reading
 use Rattle.call_model.specs.Reading.{unless_failed, read_as, read, IsAccepted}
 use Rattle.call_model.proofs.Accepted.{Passes, passes, named_accepted}

@@ -4,7 +4,6 @@
 use Rattle.std.proofs.Common.{◌≡◌, ℕ, zero, suc, pred, ◌+◌, ◌-◌, ◌==◌, ◌≤◌, ◌<◌, ◌≢◌, Bool, true, false, cond, List, [], ◌∷◌, length, get_or, Option, Some, None, refl, ap, ap₂, ◌∙◌, subst, arith, nat_lt}
 use Rattle.std.proofs.lemmas.Bool.Decides.{nat_tests}
 use Rattle.std.specs.Prelude.{option_map, if◌then◌else◌}
-use Rattle.call_model.specs.declared.Transfer.{Transfer}
 use Rattle.call_model.specs.declared.Call.{Call}
 use Rattle.call_model.specs.declared.Call.TheVariants.{Put, PutTree, Get, GetTree, Ret, ConsoleOut, Fork, Wait, Tfork, Tjoin}
 use Rattle.call_model.specs.Limits.{IsChild}
@@ -17,7 +16,7 @@ use Rattle.space_model.specs.Call.{Meeting, below, seen_of, copy_to, edit, apply
 use Rattle.space_model.specs.Part.{Part, child_after, caller_after}
 use Rattle.space_model.specs.Runtime.{after_fork, after_thread_fork, after_join, after_wait}
 use Rattle.space_model.specs.Event.{MayPay}
-use Rattle.space_model.specs.Meeting.{MayMeet, awaits, meet, or_fresh, space_or_fresh, test_refusal, height_refusal, with_copy, refusals, first_refusal, action, unless_refused}
+use Rattle.space_model.specs.Meeting.{MayMeet, awaits, meet, or_fresh, test_refusal, height_refusal, refusals, first_refusal, action, unless_refused}
 use Rattle.space_model.proofs.Parts.{IsAlike, child_alike, caller_alike, fork_alike, thread_fork_alike, join_alike, wait_alike}
 
 same_number : (n m : ℕ) → (n == m) ≡ true → n ≡ m

@@ -2,7 +2,7 @@
 -- on emulating high-level abstractions: fork, exec and wait of processes, and fork and join of threads that share memory).
 -- Source: OSDI 2010, "Efficient System-Enforced Deterministic Parallelism", emulating high-level abstractions: fork and wait, thread fork and join.
 -- Our choice: that each is one call; the registers that it sets; that threads share what is below a fixed address.
-use Rattle.std.specs.Prelude.{ℕ, Option, None}
+use Rattle.std.specs.Prelude.{ℕ, None}
 use Rattle.memory_model.specs.Sizes.{pages}
 use Rattle.instruction_model.specs.Outcome.{Registers, with_register, onward}
 use Rattle.space_model.specs.Space.{Top}

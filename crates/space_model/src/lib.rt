@@ -51,16 +51,17 @@ pub struct Refusal {
 }
 
 /// How much of a child is waited for.
-#[derive(Clone, Copy, Debug, PartialEq, Eq)]
+#[derive(Clone, Copy, Debug, Default, PartialEq, Eq)]
 pub enum Reach {
     /// The child itself.
+    #[default]
     Itself,
     /// The child and every space below it.
     Whole,
 }
 
 /// A child that a call waits for.
-#[derive(Clone, Copy, Debug, PartialEq, Eq)]
+#[derive(Clone, Copy, Debug, Default, PartialEq, Eq)]
 pub struct Await {
     pub number: u16,
     pub reach: Reach,

@@ -8,11 +8,12 @@ use crate::checks::{
     wrong_range,
 };
 use crate::kinds::kind_of;
+use crate::options::{TREE, has};
 use call_model::{Badcall, Call, Kind, Transfer};
 use std::marker::Model;
 
-/// A call that passed the tests on registers. Options of Put and Get stand together; with Copy, Zero or Perm the destination
-/// is a range of whole pages of memory, with Copy the source too; with Regs the register block stands in memory, at a
+/// A call that passed the tests on registers. Options of Put and Get stand together; with Copy, Zero, Merge or Perm the
+/// destination is a range of whole pages of memory, with Copy the source too; with Regs the register block stands in memory, at a
 /// multiple of 4. Console out's bytes stand in memory and are at most 65,536.
 #[derive(Clone, Copy, Debug, PartialEq, Eq)]
 pub struct AcceptedCall {
@@ -73,7 +74,7 @@ fn first_failing(kind: Kind, x: &[u32; 32], is_root: bool, depth: u8) -> Option<
         Some(6)
     } else if too_long(kind, x) {
         Some(7)
-    } else if too_deep(kind, depth) {
+    } else if too_deep(kind, x, depth) {
         Some(8)
     } else if wrong_block(kind, x) {
         Some(9)
@@ -89,7 +90,17 @@ fn call_of(kind: Kind, x: &[u32; 32]) -> Call
     ensures { result ≡ reading.call_of kind x.now }
 {
     match kind {
+        Kind::Put if has(argument(x, 0), TREE) => Call::PutTree {
+            child: argument(x, 1) as u16,
+            from: argument(x, 3) as u16,
+            to: argument(x, 4) as u16,
+        },
         Kind::Put => Call::Put(transfer(x)),
+        Kind::Get if has(argument(x, 0), TREE) => Call::GetTree {
+            child: argument(x, 1) as u16,
+            from: argument(x, 3) as u16,
+            to: argument(x, 4) as u16,
+        },
         Kind::Get => Call::Get(transfer(x)),
         Kind::Ret => Call::Ret {
             value: argument(x, 0),
@@ -98,6 +109,18 @@ fn call_of(kind: Kind, x: &[u32; 32]) -> Call
             addr: argument(x, 1),
             len: argument(x, 2),
         },
+        Kind::Fork => Call::Fork {
+            child: argument(x, 1) as u16,
+        },
+        Kind::Wait => Call::Wait {
+            child: argument(x, 1) as u16,
+        },
+        Kind::Tfork => Call::Tfork {
+            child: argument(x, 1) as u16,
+        },
+        Kind::Tjoin => Call::Tjoin {
+            child: argument(x, 1) as u16,
+        },
     }
 }
 
@@ -105,13 +128,13 @@ fn call_of(kind: Kind, x: &[u32; 32]) -> Call
 /// number of the first. In this order:
 ///
 /// 1. a7 is no call number;
-/// 2. an option that is not known, permission bits without Perm, both of Copy and Zero, Limit without Start, or in Get one
-///    of Start and Limit;
-/// 3. a child number above 65,535;
+/// 2. an option that is not known, permission bits without Perm, two of Copy, Zero and Merge, Tree with another bit; in Put
+///    Merge, or Limit without Start; in Get one of Snap, Start and Limit;
+/// 3. a child number above 65,535, with Tree one of three;
 /// 4. a range that is not of whole pages of 4,096 bytes, or one that passes the end of memory;
 /// 6. console out outside the root;
 /// 7. console out of more than 65,536 bytes;
-/// 8. Put at depth 8;
+/// 8. Put, Fork or Tfork at depth 8, Put with Tree at depth 7 or 8;
 /// 9. a register block at no multiple of 4, or above 0xFFFFFF78.
 #[tactic(auto, using(call_model::proofs::Accepted::named_accepted, call_model::proofs::Accepted::named_child))]
 pub fn read_call(x: &[u32; 32], is_root: bool, depth: u8) -> Result<AcceptedCall, Badcall>

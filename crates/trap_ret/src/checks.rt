@@ -1,9 +1,11 @@
-ghost use Rattle.std.specs.Prelude.{◌≡◌, ◌+◌, ◌<◌};
+ghost use Rattle.std.specs.Prelude.{◌≡◌, ◌+◌, ◌<◌, ◌≤◌};
 ghost use Rattle.call_model.specs.Options as options_of;
 ghost use Rattle.call_model.specs.Tests as table;
 
 use crate::limits::{GREATEST_CHILD, GREATEST_DEPTH, GREATEST_LENGTH, LAST_BLOCK, PAGE_SIZE};
-use crate::options::{COPY, KNOWN, LIMIT, PERM, PERMISSION, REGS, START, ZERO, has};
+use crate::options::{
+    COPY, KNOWN, LIMIT, MERGE, PERM, PERMISSION, REGS, SNAP, START, TREE, ZERO, has,
+};
 use call_model::Kind;
 
 /// Argument `number` of a call, below 8: register a0 and those above it.
@@ -15,10 +17,21 @@ pub(crate) fn argument(x: &[u32; 32], number: usize) -> u32
     x[10 + number]
 }
 
+// Two of Copy, Zero and Merge.
+fn has_two_changes(options: u32) -> bool
+    ensures { result ≡ options_of.has_two_changes options }
+{
+    (has(options, COPY) && has(options, ZERO))
+        || ((has(options, COPY) || has(options, ZERO)) && has(options, MERGE))
+}
+
+// Permission bits without Perm, two changes of one range, or Tree with another bit.
 fn has_clash(options: u32) -> bool
     ensures { result ≡ options_of.has_clash options }
 {
-    (has(options, PERMISSION) && !has(options, PERM)) || (has(options, COPY) && has(options, ZERO))
+    (has(options, PERMISSION) && !has(options, PERM))
+        || has_two_changes(options)
+        || (has(options, TREE) && options != TREE)
 }
 
 fn has_unknown(options: u32) -> bool
@@ -31,14 +44,21 @@ fn has_unknown(options: u32) -> bool
 fn bad_put_options(options: u32) -> bool
     ensures { result ≡ options_of.bad_put_options options }
 {
-    has_unknown(options) || has_clash(options) || (has(options, LIMIT) && !has(options, START))
+    has_unknown(options)
+        || has_clash(options)
+        || (has(options, LIMIT) && !has(options, START))
+        || has(options, MERGE)
 }
 
 #[tactic(auto, unfolding(call_model::specs::Options::bad_get_options))]
 fn bad_get_options(options: u32) -> bool
     ensures { result ≡ options_of.bad_get_options options }
 {
-    has_unknown(options) || has_clash(options) || has(options, START) || has(options, LIMIT)
+    has_unknown(options)
+        || has_clash(options)
+        || has(options, SNAP)
+        || has(options, START)
+        || has(options, LIMIT)
 }
 
 fn passes_end(address: u32, size: u32) -> bool
@@ -53,12 +73,18 @@ fn is_no_range(address: u32, size: u32) -> bool
     address % PAGE_SIZE != 0 || size % PAGE_SIZE != 0 || passes_end(address, size)
 }
 
+fn has_range(options: u32) -> bool
+    ensures { result ≡ options_of.has_range options }
+{
+    has(options, COPY) || has(options, ZERO) || has(options, MERGE) || has(options, PERM)
+}
+
 #[tactic(auto, unfolding(call_model::specs::Options::bad_ranges))]
 fn bad_ranges(options: u32, source: u32, destination: u32, size: u32) -> bool
     ensures { result ≡ options_of.bad_ranges options source destination size }
 {
-    let changes = has(options, COPY) || has(options, ZERO) || has(options, PERM);
-    (changes && is_no_range(destination, size)) || (has(options, COPY) && is_no_range(source, size))
+    (has_range(options) && is_no_range(destination, size))
+        || (has(options, COPY) && is_no_range(source, size))
 }
 
 #[tactic(auto, unfolding(call_model::specs::Options::bad_block))]
@@ -80,13 +106,29 @@ pub(crate) fn wrong_options(kind: Kind, x: &[u32; 32]) -> bool
     }
 }
 
+fn is_no_child(number: u32) -> bool
+    ensures { result ≡ table.is_no_child number }
+{
+    number > GREATEST_CHILD
+}
+
+// The child of Put or Get, with Tree the child that is copied and the one that it is copied to as well.
+fn wrong_tree(x: &[u32; 32]) -> bool
+    ensures { result ≡ table.wrong_tree x.now }
+{
+    is_no_child(argument(x, 1))
+        || (has(argument(x, 0), TREE)
+            && (is_no_child(argument(x, 3)) || is_no_child(argument(x, 4))))
+}
+
 /// Test 3: a child number above the greatest.
 #[tactic(auto, unfolding(call_model::specs::Tests::wrong_child))]
 pub(crate) fn wrong_child(kind: Kind, x: &[u32; 32]) -> bool
     ensures { result ≡ table.wrong_child kind x.now }
 {
     match kind {
-        Kind::Put | Kind::Get => argument(x, 1) > GREATEST_CHILD,
+        Kind::Put | Kind::Get => wrong_tree(x),
+        Kind::Fork | Kind::Wait | Kind::Tfork | Kind::Tjoin => is_no_child(argument(x, 1)),
         _ => false,
     }
 }
@@ -130,15 +172,24 @@ pub(crate) fn too_long(kind: Kind, x: &[u32; 32]) -> bool
     }
 }
 
-/// Test 8: a child that would be deeper than the deepest.
-#[tactic(auto, unfolding(call_model::specs::Tests::too_deep))]
-pub(crate) fn too_deep(kind: Kind, depth: u8) -> bool
-    ensures { result ≡ table.too_deep kind depth }
+// How many levels below its caller a call makes spaces.
+fn new_levels(kind: Kind, x: &[u32; 32]) -> u32
+    ensures value { result ≡ table.new_levels kind x.now }
+    ensures small { result ≤ 2 }
 {
     match kind {
-        Kind::Put => depth == GREATEST_DEPTH,
-        _ => false,
+        Kind::Put if has(argument(x, 0), TREE) => 2,
+        Kind::Put | Kind::Fork | Kind::Tfork => 1,
+        _ => 0,
     }
+}
+
+/// Test 8: a space that would be deeper than the deepest.
+#[tactic(auto, unfolding(call_model::specs::Tests::too_deep))]
+pub(crate) fn too_deep(kind: Kind, x: &[u32; 32], depth: u8) -> bool
+    ensures { result ≡ table.too_deep kind x.now depth }
+{
+    u32::from(depth) + new_levels(kind, x) > u32::from(GREATEST_DEPTH)
 }
 
 /// Test 9: a register block that does not stand in memory.

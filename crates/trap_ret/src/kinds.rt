@@ -12,6 +12,10 @@ pub(crate) fn kind_of(number: u32) -> Option<Kind>
         2 => Some(Kind::Get),
         3 => Some(Kind::Ret),
         4 => Some(Kind::ConsoleOut),
+        16 => Some(Kind::Fork),
+        17 => Some(Kind::Wait),
+        18 => Some(Kind::Tfork),
+        19 => Some(Kind::Tjoin),
         _ => None,
     }
 }
