@@ -1,10 +1,10 @@
 -- A call of registers that fail no test keeps what the tests ask.
-use Rattle.std.proofs.Common.{◌≡◌, ℕ, Bool, true, false, List, Option, Some, None, if◌then◌else◌, refl, arith, ◌≤◌, nat_lt}
+use Rattle.std.proofs.Common.{◌≡◌, ℕ, Bool, true, false, ◌||◌, List, Option, Some, None, if◌then◌else◌, refl, arith, ◌≤◌, nat_lt}
 use Rattle.std.proofs.lemmas.Bool.Decides.{nat_tests}
 use Rattle.call_model.specs.declared.Kind.{Kind}
 use Rattle.call_model.specs.declared.Kind.TheVariants.{Put, Get, Ret, ConsoleOut, Fork, Wait, Tfork, Tjoin}
 use Rattle.call_model.specs.declared.Call.{Call}
-use Rattle.call_model.specs.Options.{has, tree}
+use Rattle.call_model.specs.Options.{has, tree, has_two_changes, has_clash, bad_put_options, bad_get_options}
 use Rattle.call_model.specs.Tests.{wrong_options, wrong_child, wrong_range, outside_root, too_long, too_deep, wrong_block, argument, first_failing}
 use Rattle.call_model.specs.Reading.{call_of, IsAccepted}
 
@@ -41,10 +41,26 @@ by_tree : (asked : Bool) (k l : Call) → IsAccepted k → IsAccepted l → IsAc
 by_tree true k l first second = first
 by_tree false k l first second = second
 
+neither : (a b : Bool) → (a || b) ≡ false → (a ≡ false) × (b ≡ false)
+neither true b h = cc
+neither false b h = (refl, h)
+
+-- options that do not clash ask for one change of a range at most
+one_change : (options : ℕ) → has_clash options ≡ false → has_two_changes options ≡ false
+one_change options h = (neither _ _ (neither _ _ h).1).0
+
+put_change : (options : ℕ) → bad_put_options options ≡ false → has_two_changes options ≡ false
+unfolding bad_put_options
+put_change options h = one_change options (neither _ _ (neither _ _ h).1).0
+
+get_change : (options : ℕ) → bad_get_options options ≡ false → has_two_changes options ≡ false
+unfolding bad_get_options
+get_change options h = one_change options (neither _ _ (neither _ _ h).1).0
+
 named_kept : (kind : Kind) (x : List ℕ) (root : Bool) (depth : ℕ) → Passes kind x root depth → IsAccepted (call_of kind x)
 unfolding wrong_options wrong_range too_long wrong_block
-named_kept Put x root depth p = by_tree (has tree (argument x 0)) _ _ tt (p.options, record { ranges = p.range; block = p.block })
-named_kept Get x root depth p = by_tree (has tree (argument x 0)) _ _ tt (p.options, record { ranges = p.range; block = p.block })
+named_kept Put x root depth p = by_tree (has tree (argument x 0)) _ _ tt (p.options, record { changes = put_change (argument x 0) p.options; ranges = p.range; block = p.block })
+named_kept Get x root depth p = by_tree (has tree (argument x 0)) _ _ tt (p.options, record { changes = get_change (argument x 0) p.options; ranges = p.range; block = p.block })
 named_kept Ret x root depth p = tt
 named_kept ConsoleOut x root depth p = (not_past _ _ p.range, not_past _ _ p.length)
 named_kept Fork x root depth p = tt

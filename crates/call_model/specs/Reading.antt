@@ -9,7 +9,7 @@ use Rattle.call_model.specs.declared.Call.TheVariants.{Put, PutTree, Get, GetTre
 use Rattle.call_model.specs.declared.Badcall.{Badcall}
 use Rattle.call_model.specs.Kinds.{kind_of}
 use Rattle.call_model.specs.Limits.{greatest_length}
-use Rattle.call_model.specs.Options.{has, tree, bad_put_options, bad_get_options, bad_ranges, bad_block}
+use Rattle.call_model.specs.Options.{has, tree, has_two_changes, bad_put_options, bad_get_options, bad_ranges, bad_block}
 use Rattle.call_model.specs.Tests.{argument, first_failing}
 
 -- a0 to a6
@@ -43,6 +43,7 @@ read x root depth = read_as (kind_of (argument x 7)) x root depth
 
 -- what the tests keep of Put and Get, whose options have to stand together
 pub record IsTransfer (t : Transfer) : Type 0 where
+  pub changes : has_two_changes t.options ≡ false
   pub ranges : bad_ranges t.options t.source t.destination t.size ≡ false
   pub block : bad_block t.options t.block ≡ false
 
