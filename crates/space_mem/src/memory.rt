@@ -49,6 +49,11 @@ impl Mem {
         }
     }
 
+    /// What the memory takes its pages from.
+    pub fn allocator(&self) -> Global {
+        *self.runs.allocator()
+    }
+
     /// The byte at an address.
     pub fn byte(&self, at: u32) -> u8
         ensures { result ≡ byte_at self.now.memory at }
