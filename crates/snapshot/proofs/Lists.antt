@@ -1,0 +1,54 @@
+-- Lists of pages that a child changed.
+use Rattle.std.specs.Prelude.{◌≡◌, ℕ, ◌+◌, ◌*◌, ◌/◌, ◌%◌, ◌<◌, ◌≤◌, List, [], ◌∷◌, ◌++◌, All, slice_index}
+use Rattle.std.proofs.Common.{sym, ◌∙◌, ap, arith, inl, inr, subst}
+use Rattle.std.proofs.lemmas.Bool.{cases_lt}
+use Rattle.std.proofs.lemmas.List.Elements.{All-nil, All-cons}
+use Rattle.memory_model.specs.Memory.{Memory, byte_at}
+use Rattle.memory_model.specs.Ranges.{NoneUsed, IsPageOf}
+use Rattle.snapshot.specs.Pages.{AreChanged, SameBytes}
+
+-- pages that neither memory uses
+pub same_unused : (m n : Memory) (from end : ℕ) → NoneUsed m from end → NoneUsed n from end → SameBytes m n from end
+same_unused m n from end p q a above below =
+    let e : a ≡ 4096 * (a / 4096) + a % 4096 = omega arith in
+    ap (byte_at m) e
+    ∙ (p (a / 4096) (omega arith) (omega arith)).1 (a % 4096) (omega arith)
+    ∙ sym ((q (a / 4096) (omega arith) (omega arith)).1 (a % 4096) (omega arith))
+    ∙ ap (byte_at n) (sym e)
+
+-- a page of the same bytes
+pub same_page : (m n : Memory) (page : ℕ) (xs ys : List ℕ) → IsPageOf m page xs → IsPageOf n page ys → xs ≡ ys → SameBytes m n page (page + 1)
+same_page m n page xs ys p q same a above below =
+    let k = a % 4096 in
+    let e : a ≡ 4096 * page + k = omega arith in
+    ap (byte_at m) e ∙ p.byte k (omega arith) ∙ ap (λ l. slice_index l k) same ∙ sym (q.byte k (omega arith)) ∙ ap (byte_at n) (sym e)
+
+pub same_join : (m n : Memory) (a b c : ℕ) → SameBytes m n a b → SameBytes m n b c → SameBytes m n a c
+same_join m n a b c p q k above below = elim (cases_lt k (4096 * b)) [
+  | inl before ↦ p k above before
+  | inr after ↦ q k after below
+]
+
+pub same_less : (m n : Memory) (a b c : ℕ) → b ≤ c → SameBytes m n a c → SameBytes m n a b
+same_less m n a b c le same k above below = same k above (omega arith)
+
+-- no page at all
+pub changed_start : (m n : Memory) (low : ℕ) (ps : List ℕ) → ps ≡ [] → AreChanged m n low low ps
+changed_start m n low ps none = subst (AreChanged m n low low) (sym none) (omega arith, λ a above below. absurd (omega arith))
+
+-- no page of those that follow is changed
+pub changed_more : (m n : Memory) (low end more : ℕ) (ps : List ℕ) → AreChanged m n low end ps → end ≤ more → SameBytes m n end more → AreChanged m n low more ps
+changed_more m n low end more [] all le same = (omega (arith, all.0), same_join m n low end more all.1 same)
+changed_more m n low end more (p ∷ ps) all le same =
+    (all.0, (omega (arith, all.1.0), (all.1.1.0, changed_more m n (p + 1) end more ps all.1.1.1 le same)))
+
+-- one more page is changed
+pub changed_push : (m n : Memory) (low end page : ℕ) (ps : List ℕ) → AreChanged m n low end ps → end ≤ page → SameBytes m n end page → AreChanged m n low (page + 1) (ps ++ page ∷ [])
+changed_push m n low end page [] all le same =
+    (omega (arith, all.0), (omega arith, (same_join m n low end page all.1 same, (omega arith, λ a above below. absurd (omega arith)))))
+changed_push m n low end page (p ∷ ps) all le same =
+    (all.0, (omega (arith, all.1.0), (all.1.1.0, changed_push m n (p + 1) end page ps all.1.1.1 le same)))
+
+pub changed_below : (m n : Memory) (low end : ℕ) (ps : List ℕ) → AreChanged m n low end ps → end ≤ 1048576 → All (λ p. p < 1048576) ps
+changed_below m n low end [] all le = All-nil (λ p. p < 1048576)
+changed_below m n low end (p ∷ ps) all le = All-cons (λ q. q < 1048576) p ps (omega (arith, all.1.0)) (changed_below m n (p + 1) end ps all.1.1.1 le)

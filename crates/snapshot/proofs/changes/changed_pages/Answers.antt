@@ -1,0 +1,80 @@
+use Rattle.std.proofs.Common.{◌+◌, ◌*◌, arith, refl, subst, sym, ◌∙◌, ap}
+use Rattle.std.proofs.lemmas.Result.{err_from_is_err_and}
+use Rattle.snapshot.specs.Pages.{AreChanged}
+use Rattle.snapshot.proofs.Lists.{changed_more, changed_push, changed_start, same_join, same_less}
+use Rattle.snapshot.proofs.Conflicts.{none_join, none_unchanged, fails_at}
+use Rattle.snapshot.proofs.changes.changed_pages.Goals.{then-branch+in_ok-push, else-branch}
+use Rattle.snapshot.proofs.changes.changed_pages.Goals as goal
+
+pub loop-page-init : goal.loop-page-init
+loop-page-init c = record {
+  above = omega arith;
+  within = omega arith;
+  changed = changed_start c.args.child.now.memory c.args.snapshot.now.memory c.args.range.first _ c.new-changed.ensures.items;
+  none = λ a above below. absurd (omega arith);
+}
+
+pub returns-then-page-end-clause-changed : goal.returns-then-page-end-clause-changed
+returns-then-page-end-clause-changed c =
+    let l = c.loop-page in
+    changed_more c.args.child.now.memory c.args.snapshot.now.memory c.args.range.first l.from _ _ l.invariant.changed l.invariant.within
+    (same_less c.args.child.now.memory c.args.snapshot.now.memory l.from _ _ c.if-page-end.true c.in-Some.ensures.some.same)
+
+pub returns-then-page-end-clause-sure : goal.returns-then-page-end-clause-sure
+returns-then-page-end-clause-sure c =
+    let l = c.loop-page in
+    let s = c.args.snapshot.now.memory in
+    let d = c.args.child.now.memory in
+    none_join s d c.args.parent.now.memory _ (4096 * l.from) _ l.invariant.none
+    (none_unchanged s d c.args.parent.now.memory l.from _ (same_less d s l.from _ _ c.if-page-end.true c.in-Some.ensures.some.same))
+
+pub returns-in_err-is_changed-clause-conflict : goal.returns-in_err-is_changed-clause-conflict
+returns-in_err-is_changed-clause-conflict c =
+    let l = c.loop-page in
+    let s = c.args.snapshot.now.memory in
+    let d = c.args.child.now.memory in
+    let p = c.args.parent.now.memory in
+    let next = c.in-Some.ensures.some in
+    let none = none_join s d p _ (4096 * l.from) _ l.invariant.none (none_unchanged s d p l.from c.in-Some.page next.same) in
+    let told = err_from_is_err_and c.from_residual.result c.from_residual.ensures.1 in
+    rw (told.1, told.2) (fails_at s d p c.args.range.first c.args.range.count c.in-Some.page c.in_err-is_changed.field-0.0 (omega (arith, next.above, l.invariant.above)) c.if-page-end.false none c.in_err-is_changed.ensures.conflict)
+
+pub loop-page-preserved : goal.loop-page-preserved
+loop-page-preserved c =
+    let l = c.loop-page in
+    let s = c.args.snapshot.now.memory in
+    let d = c.args.child.now.memory in
+    let p = c.args.parent.now.memory in
+    let next = c.in-Some.ensures.some in
+    let page = c.in-Some.page in
+    record {
+      above = omega (arith, next.above, l.invariant.above);
+      within = omega arith;
+      changed = elim c.if-branch.branch [
+        | then-branch+in_ok-push w ↦
+            let is = ap (λ v. v.items) w.changed-is ∙ w.in_ok-push.ensures.items in
+            subst (AreChanged d s c.args.range.first (page + 1)) (sym is)
+            (changed_push d s c.args.range.first l.from page l.changed.items l.invariant.changed next.above next.same)
+        | else-branch w ↦
+            let is = ap (λ v. v.items) w.changed-is in
+            subst (AreChanged d s c.args.range.first (page + 1)) (sym is)
+            (changed_more d s c.args.range.first l.from (page + 1) l.changed.items l.invariant.changed (omega (arith, next.above)) (same_join d s l.from page (page + 1) next.same (c.in_ok-is_changed.ensures.same w.if-branch.false)))
+      ];
+      none = none_join s d p _ (4096 * page) _
+          (none_join s d p _ (4096 * l.from) _ l.invariant.none (none_unchanged s d p l.from page next.same))
+          c.in_ok-is_changed.ensures.sure;
+    }
+
+pub returns-clause-changed : goal.returns-clause-changed
+returns-clause-changed c =
+    let l = c.loop-page in
+    changed_more c.args.child.now.memory c.args.snapshot.now.memory c.args.range.first l.from _ _ l.invariant.changed l.invariant.within
+    (same_less c.args.child.now.memory c.args.snapshot.now.memory l.from _ 1048576 (omega (arith, c.args.range.within)) (c.in_default.ensures.none refl))
+
+pub returns-clause-sure : goal.returns-clause-sure
+returns-clause-sure c =
+    let l = c.loop-page in
+    let s = c.args.snapshot.now.memory in
+    let d = c.args.child.now.memory in
+    none_join s d c.args.parent.now.memory _ (4096 * l.from) _ l.invariant.none
+    (none_unchanged s d c.args.parent.now.memory l.from _ (same_less d s l.from _ 1048576 (omega (arith, c.args.range.within)) (c.in_default.ensures.none refl)))

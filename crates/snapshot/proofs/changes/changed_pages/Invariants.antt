@@ -1,0 +1,14 @@
+use Rattle.std.proofs.Common.{◌≤◌, ◌*◌, ◌-◌}
+use Rattle.snapshot.specs.Pages.{AreChanged, NoneConflicts}
+use Rattle.snapshot.proofs.changes.changed_pages.Given as goal
+
+abbrev pub invariant-loop-page : goal.invariant-loop-page
+invariant-loop-page l = record {
+  above : l.fn.range.first ≤ l.from;
+  within : l.from ≤ l.end;
+  changed : AreChanged l.child.memory l.snapshot.memory l.fn.range.first l.from l.changed.items;
+  none : NoneConflicts l.snapshot.memory l.child.memory l.parent.memory (4096 * l.fn.range.first) (4096 * l.from);
+}
+
+abbrev pub decreases-loop-page : goal.decreases-loop-page
+decreases-loop-page l = l.end - l.from

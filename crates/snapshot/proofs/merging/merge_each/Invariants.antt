@@ -1,0 +1,10 @@
+use Rattle.std.proofs.Common.{ℕ, ◌+◌, drop}
+use Rattle.space_mem.specs.Held.{Owns}
+use Rattle.snapshot.proofs.Merged.{IsUpTo}
+use Rattle.snapshot.proofs.merging.merge_each.Given as goal
+
+abbrev pub invariant-loop-page : goal.invariant-loop-page
+invariant-loop-page l = record {
+  up : IsUpTo l.snapshot.memory l.child.memory l.fn.parent.memory l.parent.memory l.fn.range.first (l.fn.range.first + l.fn.range.count) (drop l.page-index l.changed);
+  stays : (page : ℕ) → Owns l.fn.parent page → Owns l.parent page;
+}

@@ -1,0 +1,10 @@
+use Rattle.std.proofs.Common.{ℕ, ◌≡◌, All, take}
+use Rattle.space_mem.specs.Held.{Owns}
+use Rattle.snapshot.proofs.merging.own_each.Given as goal
+
+abbrev pub invariant-loop-page : goal.invariant-loop-page
+invariant-loop-page l = record {
+  same : l.memory.memory ≡ l.fn.memory.memory;
+  owned : All (Owns l.memory) (take l.page-index l.each);
+  stays : (page : ℕ) → Owns l.fn.memory page → Owns l.memory page;
+}

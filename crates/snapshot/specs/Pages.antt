@@ -1,0 +1,36 @@
+-- Pages of a range that a child changed, and what is merged of one page.
+-- Our choice: a restatement for proofs.
+use Rattle.std.specs.Prelude.{◌≡◌, ℕ, ◌+◌, ◌*◌, ◌<◌, ◌≤◌, false, true, List, [], ◌∷◌, slice_index}
+use Rattle.memory_model.specs.Memory.{Memory, byte_at}
+use Rattle.memory_model.specs.Sizes.{page_size, pages}
+use Rattle.merge_model.specs.Merge.{is_conflict, merged_byte}
+
+-- two memories have the same bytes in the pages from one to before another
+abbrev pub SameBytes : Memory → Memory → ℕ → ℕ → Type 0
+SameBytes m n first end = (a : ℕ) → page_size * first ≤ a → a < page_size * end → byte_at m a ≡ byte_at n a
+
+-- no address from one to before another is in conflict
+abbrev pub NoneConflicts : Memory → Memory → Memory → ℕ → ℕ → Type 0
+NoneConflicts snapshot child parent from to = (a : ℕ) → from ≤ a → a < to → is_conflict snapshot child parent a ≡ false
+
+-- the next page from n on of which the bytes of two memories may differ
+pub record IsNextPage (m n : Memory) (from page : ℕ) : Type 0 where
+  pub above : from ≤ page
+  pub below : page < pages
+  pub same : SameBytes m n from page
+
+-- rising pages from one to before another, and the bytes of two memories are the same in all others
+abbrev pub AreChanged : Memory → Memory → ℕ → ℕ → List ℕ → Type 0
+AreChanged m n low end [] = (low ≤ end) × SameBytes m n low end
+AreChanged m n low end (page ∷ rest) = (low ≤ page) × ((page < end) × (SameBytes m n low page × AreChanged m n (page + 1) end rest))
+
+-- the bytes of a page after a merge
+abbrev pub IsMergedPage : Memory → Memory → Memory → ℕ → List ℕ → Type 0
+IsMergedPage snapshot child parent page bytes = (k : ℕ) → k < page_size → slice_index bytes k ≡ merged_byte snapshot child parent (page_size * page + k)
+
+-- the least address of a page that is in conflict
+pub record IsFirstConflict (snapshot child parent : Memory) (page addr : ℕ) : Type 0 where
+  pub above : page_size * page ≤ addr
+  pub below : addr < page_size * (page + 1)
+  pub here : is_conflict snapshot child parent addr ≡ true
+  pub least : NoneConflicts snapshot child parent (page_size * page) addr

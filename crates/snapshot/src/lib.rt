@@ -1,0 +1,13 @@
+//! Snapshots of memories, and the merge of what a child wrote since its snapshot into its parent's memory.
+#![tactic(auto)]
+
+mod changes;
+mod fault;
+mod merging;
+mod page;
+mod taking;
+mod walk;
+
+pub use fault::MergeError;
+pub use merging::merge;
+pub use taking::take;

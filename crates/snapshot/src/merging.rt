@@ -1,0 +1,88 @@
+ghost use Rattle.std.specs.Prelude.{◌≡◌, ℕ, ◌*◌, ◌+◌, ◌<◌, ◌≤◌, All, IfErr, IsOk, OnErr, OnOk, Some, None};
+ghost use Rattle.memory_model.specs.Sizes.{page_size, pages};
+ghost use Rattle.merge_model.specs.Merge.{first_conflict, with_merge};
+ghost use Rattle.space_mem.specs.Held.{Owns};
+ghost use Rattle.snapshot.specs.Faults.{MayFail};
+ghost use Rattle.snapshot.specs.Pages.{AreChanged, NoneConflicts};
+
+use crate::changes::changed_pages;
+use crate::fault::MergeError;
+use crate::page::{SIZE, merge_in_page};
+use memory_model::PAGE_SIZE;
+use space_mem::{Mem, Pages};
+use std::alloc::AllocError;
+
+// Owns each of these pages. The one error is want of memory: some of them may be owned then that were not.
+fn own_each(memory: &mut Mem, each: &[u32]) -> Result<(), AllocError>
+    requires { All (λ page. page < pages) each.now }
+    ensures same { memory.new.memory ≡ memory.old.memory }
+    ensures owned { OnOk result (All (Owns memory.new) each.now) }
+    ensures stays { (page : ℕ) → Owns memory.old page → Owns memory.new page }
+{
+    for page in each {
+        memory.own(Pages {
+            first: *page,
+            count: 1,
+        })?;
+    }
+    Ok(())
+}
+
+// Merges a page that is owned and has no conflict, by way of `scratch`.
+fn merge_one(
+    parent: &mut Mem,
+    child: &Mem,
+    snapshot: &Mem,
+    page: u32,
+    scratch: &mut [u8; SIZE],
+) -> Result<(), MergeError>
+    requires within { page < pages }
+    requires free { NoneConflicts snapshot.now.memory child.now.memory parent.old.memory (page_size * page) (page_size * (page + 1)) }
+    requires owned { Owns parent.old page }
+    ensures ok { OnOk result (parent.new.memory ≡ with_merge snapshot.now.memory child.now.memory parent.old.memory page 1) }
+    ensures sure { IsOk result }
+    ensures stays { (p : ℕ) → Owns parent.old p → Owns parent.new p }
+{
+    merge_in_page(parent, child, snapshot, page, scratch)?;
+    parent.write_bytes(PAGE_SIZE * page, scratch)?;
+    Ok(())
+}
+
+// Merges the pages of a range that the child changed, which are owned and have no conflict.
+fn merge_each(
+    parent: &mut Mem,
+    child: &Mem,
+    snapshot: &Mem,
+    range: Pages,
+    changed: &[u32],
+) -> Result<(), MergeError>
+    requires changed { AreChanged child.now.memory snapshot.now.memory range.first (range.first + range.count) changed.now }
+    requires free { NoneConflicts snapshot.now.memory child.now.memory parent.old.memory (page_size * range.first) (page_size * (range.first + range.count)) }
+    requires owned { All (Owns parent.old) changed.now }
+    ensures ok { OnOk result (parent.new.memory ≡ with_merge snapshot.now.memory child.now.memory parent.old.memory range.first range.count) }
+    ensures sure { IsOk result }
+    ensures stays { (page : ℕ) → Owns parent.old page → Owns parent.new page }
+{
+    let mut scratch = [0; SIZE];
+    for page in changed {
+        merge_one(parent, child, snapshot, *page, &mut scratch)?;
+    }
+    Ok(())
+}
+
+/// Merges what a child wrote since its snapshot into its parent's memory (OSDI 2010, the kernel interface: Merge): in each page of
+/// the range, each byte of the child's that differs from the snapshot's takes the place of the parent's. Permissions stay, and
+/// the pages that the parent owned are owned. The error is `Conflict` at the least address of the range at which both the
+/// child's byte and the parent's differ from the snapshot's, equal to one another or not, or want of memory. At an error no
+/// byte and no permission of the parent has changed; some pages of the range may be owned that were not.
+pub fn merge(parent: &mut Mem, child: &Mem, snapshot: &Mem, range: Pages) -> Result<(), MergeError>
+    ensures ok { OnOk result (parent.new.memory ≡ with_merge snapshot.now.memory child.now.memory parent.old.memory range.first range.count) }
+    ensures sure { OnOk result (first_conflict snapshot.now.memory child.now.memory parent.old.memory range.first range.count ≡ None) }
+    ensures conflict { IfErr result (MayFail (first_conflict snapshot.now.memory child.now.memory parent.old.memory range.first range.count)) }
+    ensures err { OnErr result (parent.new.memory ≡ parent.old.memory) }
+    ensures stays { (page : ℕ) → Owns parent.old page → Owns parent.new page }
+{
+    let changed = changed_pages(parent, child, snapshot, range)?;
+    own_each(parent, &changed)?;
+    merge_each(parent, child, snapshot, range, &changed)
+}

@@ -1,0 +1,13 @@
+ghost use Rattle.std.specs.Prelude.{◌≡◌, IfOk};
+
+use space_mem::Mem;
+use std::alloc::AllocError;
+
+/// A snapshot of a memory: an equal memory, which no later write to this one changes. The memory stays as it was. The one error
+/// is want of memory.
+pub fn take(memory: &mut Mem) -> Result<Mem, AllocError>
+    ensures equal { IfOk result (λ snapshot. snapshot.memory ≡ memory.old.memory) }
+    ensures same { memory.new ≡ memory.old }
+{
+    memory.frozen()
+}
