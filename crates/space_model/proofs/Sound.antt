@@ -1,6 +1,7 @@
 -- What looking up, changing and putting a child, at a path too, and what a call does to a space keep of a sound tree.
 -- Forms for callers: `find_sound` is of a child that was found, `over_sound` and `put_sound` of one that was changed or put,
--- `with_top_sound` and `with_space_sound` of what stands at a path, and `meet_sound` of a call.
+-- `with_top_sound` and `with_space_sound` of what stands at a path, `height_within` of how many levels of children there are,
+-- and `meet_sound` of a call.
 use Rattle.std.proofs.Common.{◌≡◌, ℕ, zero, suc, pred, ◌+◌, ◌-◌, ◌==◌, ◌≤◌, ◌<◌, ◌≢◌, Bool, true, false, cond, List, [], ◌∷◌, length, get_or, Option, Some, None, refl, ap, ap₂, ◌∙◌, subst, arith, nat_lt}
 use Rattle.std.proofs.lemmas.Bool.Decides.{nat_tests}
 use Rattle.std.specs.Prelude.{option_map, if◌then◌else◌}
@@ -140,7 +141,7 @@ remove_sound (suc levels) fuel least n (child m s rest) ok = go (n == m) (remove
 
 -- a sound space has at most its levels below it, and is sound wherever it fits
 mutual
-  height_within : (levels : ℕ) (root : Bool) (fuel : ℕ) (s : Space) → IsSoundAt levels root fuel s → height s ≤ levels
+  pub height_within : (levels : ℕ) (root : Bool) (fuel : ℕ) (s : Space) → IsSoundAt levels root fuel s → height s ≤ levels
   height_within levels root fuel (space t cs) ok = levels_within levels fuel 0 cs ok.1
 
   levels_within : (levels fuel least : ℕ) (cs : Children) → AreSound levels fuel least cs → levels_of cs ≤ levels

@@ -4,7 +4,7 @@ use Rattle.std.specs.Prelude.{Option, IfSome, option_and_then}
 use Rattle.std.proofs.lemmas.List.{take_all}
 use Rattle.std.specs.BTreeMap.{BTreeMap, IsOrdered, is_at, insert_entry}
 use Rattle.std.specs.Map.{lookup, set_value}
-use Rattle.space_model.specs.Space.{Space, space, Top, top_of, Children, children_of, find, over, put_child, children_from}
+use Rattle.space_model.specs.Space.{Space, space, Top, top_of, children_of, find, over, put_child, children_from}
 use Rattle.space_model.specs.Path.{at, under, with_top, with_space, HasParent}
 use Rattle.space_model.proofs.Children.{over_missing, over_itself}
 use Rattle.space_model.proofs.Entries.{find_entries, over_entries, put_entries}

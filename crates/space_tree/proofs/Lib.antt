@@ -1,3 +1,4 @@
 pub mod Entries
 pub mod Values
+pub mod Heights
 pub mod Sounds

@@ -2,12 +2,14 @@
 #![tactic(auto)]
 
 mod devices;
+mod levels;
 mod path;
 mod settled;
 mod space;
 mod top;
 
 pub use devices::Devices;
+pub use levels::height;
 pub use path::{Path, at, put_at, swap_top};
 pub use rv_exec::Regs;
 pub use settled::{is_settled, is_stopped};

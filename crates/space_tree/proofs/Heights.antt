@@ -1,0 +1,13 @@
+-- How many levels the spaces in a list make, as children do.
+use Rattle.std.proofs.Common.{◌≡◌, ℕ, suc, List, [], ◌∷◌, refl, ap}
+use Rattle.std.specs.Prelude.{max}
+use Rattle.std.specs.Map.{values_of}
+use Rattle.space_model.specs.Space.{Space, height, levels_of, children_from}
+
+abbrev pub most_levels : List Space → ℕ
+most_levels [] = 0
+most_levels (s ∷ rest) = max (suc (height s)) (most_levels rest)
+
+pub most_levels_values : (es : List (ℕ × Space)) → most_levels (values_of es) ≡ levels_of (children_from es)
+most_levels_values [] = refl
+most_levels_values (e ∷ es) = ap (max (suc (height e.1))) (most_levels_values es)

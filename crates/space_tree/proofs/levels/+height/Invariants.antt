@@ -1,0 +1,8 @@
+use Rattle.std.proofs.Common.{◌≡◌}
+use Rattle.std.specs.Prelude.{max}
+use Rattle.space_model.specs.Space.{levels_of, children_from}
+use Rattle.space_tree.proofs.Heights.{most_levels}
+use Rattle.space_tree.proofs.levels.+height.Given as goal
+
+abbrev pub invariant-levels-loop-child : goal.invariant-levels-loop-child
+invariant-levels-loop-child l = max l.most (most_levels l.child-iterator) ≡ levels_of (children_from l.children.entries)
