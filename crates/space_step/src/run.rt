@@ -5,7 +5,7 @@ ghost use Rattle.space_step.specs.Run.{IsRun};
 
 use crate::event::Advance;
 use crate::running::advance;
-use space_tree::Top;
+use space_tree::{Top, copy_top};
 use std::alloc::AllocError;
 use std::marker::Model;
 
@@ -90,7 +90,7 @@ pub fn run_local(mut top: Top, depth: u8, quantum: u32) -> Result<Run, AllocErro
     ensures none { IfOk result (λ r. r.ran ≡ 0 → IsNotLocal (next (8 - depth) r.start)) }
     ensures sound { (fuel : ℕ) (root : Bool) → IsSoundTop fuel root top → IfOk result (λ r. IsSoundTop fuel root r.top) }
 {
-    let start = top.copied()?;
+    let start = copy_top(&mut top)?;
     let Advance { ran, next } = advance(&mut top, depth, quantum)?;
     match next {
         Some(_) => Ok(Run {

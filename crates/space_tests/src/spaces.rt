@@ -1,6 +1,6 @@
 use space_tree::{
-    Cause, Devices, Mem, Pages, Path, Space, Status, Top, at, is_settled, is_stopped, put_at,
-    swap_top,
+    Cause, Devices, Mem, Pages, Path, Space, Status, Top, at, copy_top, is_settled, is_stopped,
+    put_at, swap_top,
 };
 use std::alloc::{AllocError, Global};
 use std::process::Abort;
@@ -69,7 +69,7 @@ fn limit(top: &mut Top) -> Result<(), AllocError> {
 
 // A copy of a space, which then writes and stops.
 fn copy_of(top: &mut Top) -> Result<Top, AllocError> {
-    let copy = top.copied()?;
+    let copy = copy_top(top)?;
     top.memory.write(0x2000, 8)?;
     top.stop(Cause::Ret, 1);
     Ok(copy)

@@ -1,6 +1,7 @@
 //! Spaces: the state of a space without its children, and a tree of them.
 #![tactic(auto)]
 
+mod copying;
 mod devices;
 mod levels;
 mod path;
@@ -8,6 +9,7 @@ mod settled;
 mod space;
 mod top;
 
+pub use copying::copy_top;
 pub use devices::Devices;
 pub use levels::height;
 pub use path::{Path, at, put_at, swap_top};

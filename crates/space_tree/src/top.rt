@@ -146,45 +146,4 @@ impl Top {
             *limit -= events;
         }
     }
-
-    /// An equal state, whose memories no later write to this one's changes. The one error is want of memory.
-    pub fn copied(&mut self) -> Result<Top, AllocError>
-        ensures equal { IfOk result (λ t. t ≡ self.old) }
-        ensures same { self.new ≡ self.old }
-    {
-        let memory = self.memory.frozen()?;
-        let snapshot = frozen(&mut self.snapshot)?;
-        let devices = copied(&self.devices)?;
-        Ok(Top {
-            registers: self.registers,
-            memory,
-            snapshot,
-            limit: self.limit,
-            fuel: self.fuel,
-            used: self.used,
-            status: self.status,
-            devices,
-        })
-    }
-}
-
-// An equal memory, where there is one.
-fn frozen(snapshot: &mut Option<Mem>) -> Result<Option<Mem>, AllocError>
-    ensures equal { IfOk result (λ o. memory_in o ≡ memory_in snapshot.old) }
-    ensures same { snapshot.new ≡ snapshot.old }
-{
-    match snapshot {
-        Some(memory) => Ok(Some(memory.frozen()?)),
-        None => Ok(None),
-    }
-}
-
-// Equal devices, where there are any.
-fn copied(devices: &Option<Devices>) -> Result<Option<Devices>, AllocError>
-    ensures { IfOk result (λ o. o ≡ devices.now) }
-{
-    match devices {
-        Some(devices) => Ok(Some(devices.copied()?)),
-        None => Ok(None),
-    }
 }
