@@ -1,4 +1,5 @@
 pub mod Entries
 pub mod Values
 pub mod Heights
+pub mod Copies
 pub mod Sounds

@@ -1,10 +1,14 @@
-ghost use Rattle.std.specs.Prelude.{◌≡◌, IfOk};
+ghost use Rattle.std.specs.Prelude.{◌≡◌, map, IfOk};
+ghost use Rattle.std.specs.BTreeMap.{get, IsOrdered};
+ghost use Rattle.std.specs.Ordering.{nat_cmp};
 ghost use Rattle.space_mem.specs.Held.{memory_in};
 
 use crate::devices::Devices;
+use crate::space::Space;
 use crate::top::Top;
 use space_mem::Mem;
-use std::alloc::AllocError;
+use std::alloc::{AllocError, Global};
+use std::collections::BTreeMap;
 
 /// An equal state, whose memories no later write to this one's changes. The one error is want of memory.
 pub fn copy_top(top: &mut Top) -> Result<Top, AllocError>
@@ -26,6 +30,17 @@ pub fn copy_top(top: &mut Top) -> Result<Top, AllocError>
     })
 }
 
+/// An equal space with all below it, whose memories no later write to this one's changes. The one error is want of memory.
+#[cycle(copy)]
+pub fn copy_tree(alloc: Global, space: &mut Space) -> Result<Space, AllocError>
+    ensures equal { IfOk result (λ s. s ≡ space.old) }
+    ensures same { space.new ≡ space.old }
+{
+    let top = copy_top(&mut space.top)?;
+    let children = copy_children(alloc, &mut space.children)?;
+    Ok(Space { top, children })
+}
+
 // An equal memory, where there is one.
 fn copy_snapshot(snapshot: &mut Option<Mem>) -> Result<Option<Mem>, AllocError>
     ensures equal { IfOk result (λ o. memory_in o ≡ memory_in snapshot.old) }
@@ -45,4 +60,47 @@ fn copy_devices(devices: &Option<Devices>) -> Result<Option<Devices>, AllocError
         Some(devices) => Ok(Some(devices.copied()?)),
         None => Ok(None),
     }
+}
+
+// The numbers of the children, in rising order.
+fn numbers(alloc: Global, children: &BTreeMap<u16, Space>) -> Result<Vec<u16>, AllocError>
+    ensures numbers { IfOk result (λ numbers. numbers.items ≡ map (λ e. e.0) children.now.entries) }
+    ensures rising { IsOrdered nat_cmp children.now }
+{
+    children.keys().copied().collect(alloc)
+}
+
+// A copy of the child of that number, where there is one.
+#[cycle(copy)]
+fn copy_child(
+    alloc: Global,
+    children: &mut BTreeMap<u16, Space>,
+    number: u16,
+) -> Result<Option<Space>, AllocError>
+    ensures equal { IfOk result (λ o. o ≡ get nat_cmp children.old number) }
+    ensures same { children.new.entries ≡ children.old.entries }
+{
+    match children.get_mut(&number) {
+        Some(child) => Ok(Some(copy_tree(alloc, child)?)),
+        None => Ok(None),
+    }
+}
+
+// Copies of the children, with all below them, under the same numbers.
+#[cycle(copy)]
+fn copy_children(
+    alloc: Global,
+    children: &mut BTreeMap<u16, Space>,
+) -> Result<BTreeMap<u16, Space>, AllocError>
+    ensures equal { IfOk result (λ copies. copies.entries ≡ children.old.entries) }
+    ensures same { children.new.entries ≡ children.old.entries }
+{
+    let numbers = numbers(alloc, children)?;
+    let mut copies = BTreeMap::new(alloc);
+    for number in &numbers {
+        if let Some(copy) = copy_child(alloc, children, *number)? {
+            copies.insert(*number, copy)?;
+        }
+    }
+    Ok(copies)
 }

@@ -9,7 +9,7 @@ mod settled;
 mod space;
 mod top;
 
-pub use copying::copy_top;
+pub use copying::{copy_top, copy_tree};
 pub use devices::Devices;
 pub use levels::height;
 pub use path::{Path, at, put_at, swap_top};
