@@ -2,4 +2,6 @@ pub mod Places
 pub mod Parts
 pub mod Words
 pub mod Entries
+pub mod Trees
 pub mod Meetings
+pub mod Tests

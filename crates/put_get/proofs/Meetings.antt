@@ -4,24 +4,23 @@ use Rattle.std.specs.Prelude.{Bool, true, false, option_map, Result, Ok, Err, On
 use Rattle.std.proofs.lemmas.Result.{on_ok_weaker}
 use Rattle.std.specs.BTreeMap.{is_at}
 use Rattle.std.specs.Map.{lookup}
-use Rattle.memory_model.specs.Memory.{may_read, may_write}
 use Rattle.call_model.specs.declared.Transfer.{Transfer}
 use Rattle.call_model.specs.declared.Call.{Call}
-use Rattle.call_model.specs.declared.Call.TheVariants.{Put, Get}
+use Rattle.call_model.specs.declared.Call.TheVariants.{Put, PutTree, Get, GetTree, Ret, ConsoleOut, Fork, Wait, Tfork, Tjoin}
 use Rattle.call_model.specs.Options.{has}
 use Rattle.space_model.specs.declared.Refusal.{Refusal}
-use Rattle.space_model.specs.declared.Cause.TheVariants.{LoadFault, StoreFault}
+use Rattle.space_model.specs.declared.Cause.TheVariants.{Conflict}
 use Rattle.space_model.specs.Space.{Space, space, Children, Top, top_of, children_of, find, children_from}
 use Rattle.space_model.specs.Change.{after_payment, stop, after_success}
-use Rattle.space_model.specs.Call.{edit, change, seen_of, apply_meeting}
+use Rattle.space_model.specs.Call.{Seen, edit, change, seen_of, apply_meeting}
 use Rattle.space_model.specs.Event.{MayPay}
 use Rattle.space_model.specs.Beginning.{fresh_top}
-use Rattle.space_model.specs.Meeting.{or_fresh, awaits, block_refusal, first_refusal, action, unless_refused, meet, MayMeet}
+use Rattle.space_model.specs.Meeting.{or_fresh, awaits, refusals, first_refusal, action, unless_refused, meet, MayMeet}
 use Rattle.space_model.specs.Part.{Part, part_if, with_parts, get_parts, child_after, caller_after}
 use Rattle.space_model.specs.Sound.{IsSoundAt}
 use Rattle.space_model.proofs.Entries.{find_entries}
 use Rattle.space_model.proofs.Sound.{meeting_sound}
-use Rattle.put_get.specs.Meetings.{refusal_of, with_action}
+use Rattle.put_get.specs.Meetings.{get_conflict, early_refusals, last_refusal, early_of, conflict_of, with_action, unless_conflict, acts_or_stops}
 
 -- a caller that has paid reads the same child
 pub or_fresh-paid : (t : Top) (o : Option Top) → 0 < t.fuel → or_fresh (after_payment t t) o ≡ or_fresh t o
@@ -40,18 +39,27 @@ pub taken_missing : (x : Transfer) (t u : Top) (es : List (ℕ × Space)) → No
     → u ≡ with_taken x t (find x.child (children_from es))
 taken_missing x t u es at is = is ∙ ap (with_taken x t) (at ∙ find_entries x.child es)
 
--- a call with one test is stopped by that test
-one_test : (o : Option Refusal) → o ≡ first_refusal (o ∷ [])
-one_test None = refl
-one_test (Some r) = refl
+-- the conflict with a child that was found, or with a fresh one
+pub conflict_there : (x : Transfer) (t c : Top) (s : Space) (es : List (ℕ × Space)) → Some s ≡ lookup (is_at (nat_cmp x.child)) es → c ≡ top_of s
+    → get_conflict x t c ≡ get_conflict x t (or_fresh t (option_map top_of (find x.child (children_from es))))
+conflict_there x t c s es at top = ap (get_conflict x t) top ∙ ap (λ o. get_conflict x t (or_fresh t (option_map top_of o))) (at ∙ find_entries x.child es)
 
-pub put_test : (levels : ℕ) (x : Transfer) (s : Space) (k : Call) → k ≡ Put x → block_refusal x LoadFault (may_read (top_of s).memory) ≡ refusal_of levels k s
-unfolding refusal_of
-put_test levels x s k is = one_test (block_refusal x LoadFault (may_read (top_of s).memory)) ∙ ap (λ l. refusal_of levels l s) (sym is)
+pub conflict_missing : (x : Transfer) (t : Top) (es : List (ℕ × Space)) → None ≡ lookup (is_at (nat_cmp x.child)) es
+    → get_conflict x t (fresh_top (t.fuel + t.used)) ≡ get_conflict x t (or_fresh t (option_map top_of (find x.child (children_from es))))
+conflict_missing x t es at = ap (λ o. get_conflict x t (or_fresh t (option_map top_of o))) (at ∙ find_entries x.child es)
 
-pub get_test : (levels : ℕ) (x : Transfer) (s : Space) (k : Call) → k ≡ Get x → block_refusal x StoreFault (may_write (top_of s).memory) ≡ refusal_of levels k s
-unfolding refusal_of
-get_test levels x s k is = one_test (block_refusal x StoreFault (may_write (top_of s).memory)) ∙ ap (λ l. refusal_of levels l s) (sym is)
+-- calls that merge nothing find no conflict
+pub put_free : (x : Transfer) (k : Call) (s : Space) → Put x ≡ k → conflict_of k s ≡ None
+unfolding conflict_of
+put_free x k s is = ap (λ l. conflict_of l s) (sym is)
+
+pub put_tree_free : (n from to : ℕ) (k : Call) (s : Space) → PutTree n from to ≡ k → conflict_of k s ≡ None
+unfolding conflict_of
+put_tree_free n from to k s is = ap (λ l. conflict_of l s) (sym is)
+
+pub get_tree_free : (n from to : ℕ) (k : Call) (s : Space) → GetTree n from to ≡ k → conflict_of k s ≡ None
+unfolding conflict_of
+get_tree_free n from to k s is = ap (λ l. conflict_of l s) (sym is)
 
 -- a part that neither reads nor writes what an event takes
 record Passes (p : Part) : Type 0 where
@@ -87,7 +95,10 @@ get_passes x c = (
     record { paid = λ t. refl; pays = λ t h. record { running = h.running; fuel = h.fuel; limit = h.limit } },
     (
       record { paid = λ t. refl; pays = λ t h. record { running = h.running; fuel = h.fuel; limit = h.limit } },
-      (record { paid = λ t. refl; pays = λ t h. record { running = h.running; fuel = h.fuel; limit = h.limit } }, tt),
+      (
+        record { paid = λ t. refl; pays = λ t h. record { running = h.running; fuel = h.fuel; limit = h.limit } },
+        (record { paid = λ t. refl; pays = λ t h. record { running = h.running; fuel = h.fuel; limit = h.limit } }, tt),
+      ),
     ),
   ),
 )
@@ -121,20 +132,97 @@ get_met x s t u v cs view some taken went =
     ∙ ap (λ c. space (after_success (caller_after x c (after_payment t t))) cs) (sym (or_fresh-paid t o fuel))
     ∙ ap (with_action (Get x)) view
 
--- a meeting whose first test is known
-pub acts_met : (levels : ℕ) (k : Call) (s u : Space) → None ≡ refusal_of levels k s → u ≡ with_action k s → u ≡ meet levels k (after_payment (top_of s) (top_of s)) (children_of s)
-unfolding with_action refusal_of
-acts_met levels k s u first is =
-    let p = after_payment (top_of s) (top_of s) in
-    is ∙ ap (λ o. apply_meeting (unless_refused o p (action k p (seen_of (awaits k) (children_of s)))) (children_of s)) first
+-- the conflict that a caller which has paid finds is the one that it found before
+pub conflict_met : (x : Transfer) (s : Space) (t : Top) (cs : Children) → space t cs ≡ s → 0 < (top_of s).fuel → get_conflict x t (or_fresh t (option_map top_of (find x.child cs))) ≡ conflict_of (Get x) s
+unfolding conflict_of
+conflict_met x s t cs view some =
+    let o = option_map top_of (find x.child cs) in
+    let fuel : 0 < t.fuel = subst (λ r. 0 < (top_of r).fuel) (sym view) some in
+    ap (get_conflict x t) (sym (or_fresh-paid t o fuel)) ∙ ap (conflict_of (Get x)) view
 
-pub stops_met : (levels : ℕ) (k : Call) (s : Space) (r : Refusal) (t u : Top) (cs : Children) → space t cs ≡ s → Some r ≡ refusal_of levels k s → u ≡ stop (after_payment t t) r.cause r.value
-    → space u cs ≡ meet levels k (after_payment (top_of s) (top_of s)) (children_of s)
-unfolding refusal_of
-stops_met levels k s r t u cs view first is =
+-- three tests, of which the last is that of a conflict
+three_tests : (a b c : Option Refusal) → first_refusal (a ∷ b ∷ []) ≡ None → first_refusal (a ∷ b ∷ c ∷ []) ≡ c
+three_tests None None None h = refl
+three_tests None None (Some r) h = refl
+three_tests None (Some q) c h = cc
+three_tests (Some p) b c h = cc
+
+three_stops : (a b c : Option Refusal) (r : Refusal) → first_refusal (a ∷ b ∷ []) ≡ Some r → first_refusal (a ∷ b ∷ c ∷ []) ≡ Some r
+three_stops None None c r h = cc
+three_stops None (Some q) c r h = h
+three_stops (Some p) b c r h = h
+
+two_tests : (a b : Option Refusal) → first_refusal (a ∷ []) ≡ None → first_refusal (a ∷ b ∷ []) ≡ b
+two_tests None None h = refl
+two_tests None (Some r) h = refl
+two_tests (Some p) b h = cc
+
+two_stops : (a b : Option Refusal) (r : Refusal) → first_refusal (a ∷ []) ≡ Some r → first_refusal (a ∷ b ∷ []) ≡ Some r
+two_stops None b r h = cc
+two_stops (Some p) b r h = h
+
+-- where no early test stops a caller, the conflict does, if there is one
+early_then : (levels : ℕ) (k : Call) (t : Top) (seen : List Seen) → first_refusal (early_refusals levels k t seen) ≡ None → first_refusal (refusals levels k t seen) ≡ last_refusal k t seen
+early_then levels (Get x) t seen h = three_tests _ _ _ h
+early_then levels (Tjoin n) t seen h = two_tests _ _ h
+early_then levels (Put x) t seen h = h
+early_then levels (PutTree n from to) t seen h = h
+early_then levels (GetTree n from to) t seen h = h
+early_then levels (Fork n) t seen h = h
+early_then levels (Wait n) t seen h = h
+early_then levels (Tfork n) t seen h = h
+early_then levels (Ret value) t seen h = h
+early_then levels (ConsoleOut addr len) t seen h = h
+
+early_stops : (levels : ℕ) (k : Call) (t : Top) (seen : List Seen) (r : Refusal) → first_refusal (early_refusals levels k t seen) ≡ Some r → first_refusal (refusals levels k t seen) ≡ Some r
+early_stops levels (Get x) t seen r h = three_stops _ _ _ r h
+early_stops levels (Tjoin n) t seen r h = two_stops _ _ r h
+early_stops levels (Put x) t seen r h = h
+early_stops levels (PutTree n from to) t seen r h = h
+early_stops levels (GetTree n from to) t seen r h = h
+early_stops levels (Fork n) t seen r h = h
+early_stops levels (Wait n) t seen r h = h
+early_stops levels (Tfork n) t seen r h = h
+early_stops levels (Ret value) t seen r h = h
+early_stops levels (ConsoleOut addr len) t seen r h = h
+
+unless_is : (o : Option Refusal) (k : Call) (s : Space)
+    → unless_conflict o k s ≡ apply_meeting (unless_refused o (after_payment (top_of s) (top_of s)) (action k (after_payment (top_of s) (top_of s)) (seen_of (awaits k) (children_of s)))) (children_of s)
+unfolding with_action
+unless_is None k s = refl
+unless_is (Some r) k s = refl
+
+-- a meeting that no early test stops
+pub acts_met : (levels : ℕ) (k : Call) (s u : Space) → None ≡ early_of levels k s → u ≡ acts_or_stops k s → u ≡ meet levels k (after_payment (top_of s) (top_of s)) (children_of s)
+unfolding early_of acts_or_stops conflict_of
+acts_met levels k s u early is =
     let p = after_payment (top_of s) (top_of s) in
+    let seen = seen_of (awaits k) (children_of s) in
+    let first = early_then levels k p seen (sym early) in
+    is ∙ unless_is (last_refusal k p seen) k s ∙ ap (λ o. apply_meeting (unless_refused o p (action k p seen)) (children_of s)) (sym first)
+
+-- and one that an early test stops
+pub stops_met : (levels : ℕ) (k : Call) (s : Space) (r : Refusal) (t u : Top) (cs : Children) → space t cs ≡ s → Some r ≡ early_of levels k s → u ≡ stop (after_payment t t) r.cause r.value
+    → space u cs ≡ meet levels k (after_payment (top_of s) (top_of s)) (children_of s)
+unfolding early_of
+stops_met levels k s r t u cs view early is =
+    let p = after_payment (top_of s) (top_of s) in
+    let seen = seen_of (awaits k) (children_of s) in
+    let first = early_stops levels k p seen r (sym early) in
     ap (λ v. space v cs) is ∙ ap (λ q. space (stop (after_payment (top_of q) (top_of q)) r.cause r.value) (children_of q)) view
-    ∙ ap (λ o. apply_meeting (unless_refused o p (action k p (seen_of (awaits k) (children_of s)))) (children_of s)) first
+    ∙ ap (λ o. apply_meeting (unless_refused o p (action k p seen)) (children_of s)) (sym first)
+
+-- a call that was done found no conflict
+pub acts_free : (k : Call) (s u : Space) → conflict_of k s ≡ None → u ≡ with_action k s → u ≡ acts_or_stops k s
+unfolding acts_or_stops
+acts_free k s u free is = is ∙ ap (λ o. unless_conflict o k s) (sym free)
+
+-- one that was not has left its caller to stop
+pub stops_at : (k : Call) (s : Space) (addr : ℕ) (t u : Top) (cs : Children) → space t cs ≡ s → conflict_of k s ≡ Some (record { cause = Conflict; value = addr }) → u ≡ stop (after_payment t t) Conflict addr
+    → space u cs ≡ acts_or_stops k s
+unfolding acts_or_stops
+stops_at k s addr t u cs view found is =
+    ap (λ v. space v cs) is ∙ ap (λ q. space (stop (after_payment (top_of q) (top_of q)) Conflict addr) (children_of q)) view ∙ ap (λ o. unless_conflict o k s) (sym found)
 
 -- the same call by another name
 pub acted_as : {E : Type 0} (r : Result (Unit {0}) E) (k l : Call) (s u : Space) → k ≡ l → OnOk r (u ≡ with_action k s) → OnOk r (u ≡ with_action l s)

@@ -1,42 +1,66 @@
 -- The parts of Put and Get in the order in which the code does them.
-use Rattle.std.proofs.Common.{◌≡◌, Bool, true, false, refl, ◌∙◌, ap}
-use Rattle.memory_model.specs.Memory.{Memory}
+use Rattle.std.proofs.Common.{◌≡◌, ℕ, Bool, true, false, ◌&&◌, ◌||◌, List, [], ◌∷◌, Option, refl, ◌∙◌, ap}
 use Rattle.instruction_model.specs.Outcome.{Registers}
 use Rattle.call_model.specs.declared.Transfer.{Transfer}
-use Rattle.call_model.specs.Options.{has, regs, copy, zeroing, perm, start, permission}
+use Rattle.call_model.specs.Options.{has, regs, copy, zeroing, merging, perm, start, permission, has_two_changes}
+use Rattle.space_model.specs.declared.Refusal.{Refusal}
 use Rattle.space_model.specs.Space.{Top}
 use Rattle.space_model.specs.Block.{registers_at}
-use Rattle.space_model.specs.Part.{Part, part_if, with_parts, registers_part, zero_part, copy_part, permission_part, start_part, start_limit, block_part, destination_page, source_page, page_count, child_after, caller_after}
-use Rattle.put_get.specs.Ranges.{range_parts}
+use Rattle.space_model.specs.Meeting.{conflict_refusal, refusal_if}
+use Rattle.space_model.specs.Part.{Part, part_if, with_parts, registers_part, zero_part, copy_part, merge_part, permission_part, block_part, start_part, start_limit, source_page, destination_page, page_count, child_after, caller_after}
+use Rattle.put_get.specs.Meetings.{get_conflict}
+use Rattle.put_get.specs.Ranges.{fill_parts, memory_parts}
 
--- registers pass what changes memory alone
+-- registers pass what changes memory and snapshot alone
 abbrev Passes : Part → Type 0
 Passes p = (r : Registers) (t : Top) → registers_part r (p t) ≡ p (registers_part r t)
+
+abbrev AllPass : List (ℕ × Part) → Type 0
+AllPass [] = Unit {0}
+AllPass (p ∷ ps) = Passes p.1 × AllPass ps
 
 passes : (a b : Bool) (p : Part) (r : Registers) (t : Top) → Passes p → part_if a (registers_part r) (part_if b p t) ≡ part_if b p (part_if a (registers_part r) t)
 passes true true p r t h = h r t
 passes true false p r t h = refl
 passes false b p r t h = refl
 
-range_passes : (x : Transfer) (m : Memory) (a : Bool) (r : Registers) (t : Top) → part_if a (registers_part r) (with_parts x.options (range_parts x m) t) ≡ with_parts x.options (range_parts x m) (part_if a (registers_part r) t)
-range_passes x m a r t =
-    let zeroed = part_if (has zeroing x.options) (zero_part (destination_page x) (page_count x)) in
-    let copied = part_if (has copy x.options) (copy_part m (source_page x) (destination_page x) (page_count x)) in
-    let permitted = part_if (has perm x.options) (permission_part (destination_page x) (page_count x) (permission x.options)) in
-    passes a (has perm x.options) (permission_part (destination_page x) (page_count x) (permission x.options)) r (copied (zeroed t)) (λ r t. refl)
-    ∙ ap permitted (passes a (has copy x.options) (copy_part m (source_page x) (destination_page x) (page_count x)) r (zeroed t) (λ r t. refl))
-    ∙ ap (λ u. permitted (copied u)) (passes a (has zeroing x.options) (zero_part (destination_page x) (page_count x)) r t (λ r t. refl))
+all_pass : (options : ℕ) (ps : List (ℕ × Part)) (a : Bool) (r : Registers) (t : Top) → AllPass ps → part_if a (registers_part r) (with_parts options ps t) ≡ with_parts options ps (part_if a (registers_part r) t)
+all_pass options [] a r t h = refl
+all_pass options (p ∷ ps) a r t h =
+    all_pass options ps a r (part_if (has p.0 options) p.1 t) h.1 ∙ ap (with_parts options ps) (passes a (has p.0 options) p.1 r t h.0)
 
--- the parts of a Put, with the registers after the range
-pub put_in_order : (x : Transfer) (t c d e f : Top) → d ≡ with_parts x.options (range_parts x t.memory) c → e ≡ part_if (has regs x.options) (registers_part (registers_at t.memory x.block)) d
+-- the parts of a Put, with the registers after the memory
+pub put_in_order : (x : Transfer) (t c d e f : Top) → d ≡ with_parts x.options (memory_parts x t.memory) c → e ≡ part_if (has regs x.options) (registers_part (registers_at t.memory x.block)) d
     → f ≡ part_if (has start x.options) (start_part (start_limit x)) e → f ≡ child_after x t c
 unfolding child_after
-put_in_order x t c d e f ranged given started =
+put_in_order x t c d e f filled given started =
     let finish = part_if (has start x.options) (start_part (start_limit x)) in
     let registers = part_if (has regs x.options) (registers_part (registers_at t.memory x.block)) in
-    started ∙ ap finish (given ∙ ap registers ranged ∙ range_passes x t.memory (has regs x.options) (registers_at t.memory x.block) c)
+    let order = all_pass x.options (memory_parts x t.memory) (has regs x.options) (registers_at t.memory x.block) c ((λ r u. refl), ((λ r u. refl), ((λ r u. refl), ((λ r u. refl), tt)))) in
+    started ∙ ap finish (given ∙ ap registers filled ∙ order)
 
 -- the parts of a Get
-pub get_in_order : (x : Transfer) (c t u v : Top) → u ≡ with_parts x.options (range_parts x c.memory) t → v ≡ part_if (has regs x.options) (block_part x.block c) u → v ≡ caller_after x c t
+pub get_in_order : (x : Transfer) (c t u v w y : Top) → u ≡ with_parts x.options (fill_parts x c.memory) t → v ≡ part_if (has merging x.options) (merge_part c.snapshot c.memory (destination_page x) (page_count x)) u
+    → w ≡ part_if (has perm x.options) (permission_part (destination_page x) (page_count x) (permission x.options)) v → y ≡ part_if (has regs x.options) (block_part x.block c) w → y ≡ caller_after x c t
 unfolding caller_after
-get_in_order x c t u v ranged written = written ∙ ap (part_if (has regs x.options) (block_part x.block c)) ranged
+get_in_order x c t u v w y filled merged permitted written =
+    let write = part_if (has regs x.options) (block_part x.block c) in
+    let permit = part_if (has perm x.options) (permission_part (destination_page x) (page_count x) (permission x.options)) in
+    let merge = part_if (has merging x.options) (merge_part c.snapshot c.memory (destination_page x) (page_count x)) in
+    written ∙ ap write (permitted ∙ ap permit (merged ∙ ap merge filled))
+
+unfilled : (zero copied merged : Bool) (p q : Part) (t : Top) → ((copied && zero) || ((copied || zero) && merged)) ≡ false → merged ≡ true → part_if copied q (part_if zero p t) ≡ t
+unfilled true true m p q t h e = cc
+unfilled true false m p q t h e = cc
+unfilled false true m p q t h e = cc
+unfilled false false m p q t h e = refl
+
+conflict_if : (merged : Bool) (f : Top → Option Refusal) (t u : Top) → (merged ≡ true → u ≡ t) → refusal_if merged (f u) ≡ refusal_if merged (f t)
+conflict_if true f t u same = ap f (same refl)
+conflict_if false f t u same = refl
+
+-- where Merge is asked for, neither Zero nor Copy is, so the conflict is that of the caller before the call
+pub same_conflict : (x : Transfer) (c t u : Top) → has_two_changes x.options ≡ false → u ≡ with_parts x.options (fill_parts x c.memory) t → get_conflict x u c ≡ get_conflict x t c
+same_conflict x c t u changes filled =
+    conflict_if (has merging x.options) (λ v. conflict_refusal c.snapshot c.memory v.memory (destination_page x) (page_count x)) t u
+    (λ e. filled ∙ unfilled (has zeroing x.options) (has copy x.options) (has merging x.options) (zero_part (destination_page x) (page_count x)) (copy_part c.memory (source_page x) (destination_page x) (page_count x)) t changes e)

@@ -1,27 +1,41 @@
--- What Put and Get do to the destination's range, and when that is one change at most.
+-- What Put and Get change of a memory, from their options, and when that is one change at most.
 -- Our choice: a restatement for proofs.
-use Rattle.std.specs.Prelude.{ℕ, List, [], ◌∷◌, Bool, not, ◌&&◌, ◌||◌, if◌then◌else◌}
+use Rattle.std.specs.Prelude.{ℕ, List, [], ◌∷◌, Bool, true, false, if◌then◌else◌}
 use Rattle.memory_model.specs.Memory.{Memory}
 use Rattle.call_model.specs.declared.Transfer.{Transfer}
-use Rattle.call_model.specs.Options.{has, regs, copy, zeroing, perm, permission}
-use Rattle.space_model.specs.Part.{Part, zero_part, copy_part, permission_part, destination_page, source_page, page_count}
+use Rattle.call_model.specs.Options.{has, regs, copy, zeroing, merging, perm, snap, permission}
+use Rattle.space_model.specs.Part.{Part, zero_part, copy_part, permission_part, snapshot_part, destination_page, source_page, page_count}
 
--- the parts of Put and Get that change a range, from a source
-abbrev pub range_parts : Transfer → Memory → List (ℕ × Part)
-range_parts x source =
+-- Zero and Copy, from a source
+abbrev pub fill_parts : Transfer → Memory → List (ℕ × Part)
+fill_parts x source =
+    (zeroing, zero_part (destination_page x) (page_count x))
+    ∷ (copy, copy_part source (source_page x) (destination_page x) (page_count x))
+    ∷ []
+
+-- what Put changes of a child's memory, and the snapshot that it takes
+abbrev pub memory_parts : Transfer → Memory → List (ℕ × Part)
+memory_parts x source =
     (zeroing, zero_part (destination_page x) (page_count x))
     ∷ (copy, copy_part source (source_page x) (destination_page x) (page_count x))
     ∷ (perm, permission_part (destination_page x) (page_count x) (permission x.options))
+    ∷ (snap, snapshot_part)
     ∷ []
 
--- one of these at most
-abbrev pub one_of_three : Bool → Bool → Bool → Bool
-one_of_three a b c = if a then not (b || c) else not (b && c)
+-- none of these options
+abbrev pub none_of : List ℕ → ℕ → Bool
+none_of [] options = true
+none_of (bits ∷ others) options = if has bits options then false else none_of others options
 
--- one of the changes of a range at most
-abbrev pub one_range : ℕ → Bool
-one_range options = one_of_three (has zeroing options) (has copy options) (has perm options)
+-- one of these options at most
+abbrev pub at_most_one : List ℕ → ℕ → Bool
+at_most_one [] options = true
+at_most_one (bits ∷ others) options = if has bits options then none_of others options else at_most_one others options
 
--- one of them and the register block at most
-abbrev pub one_change : ℕ → Bool
-one_change options = if has regs options then not (has zeroing options || (has copy options || has perm options)) else one_range options
+-- the options with which Put changes a child's memory or takes its snapshot
+abbrev pub put_changes : List ℕ
+put_changes = zeroing ∷ copy ∷ perm ∷ snap ∷ []
+
+-- the options with which Get changes the caller's memory
+abbrev pub get_changes : List ℕ
+get_changes = zeroing ∷ copy ∷ merging ∷ perm ∷ regs ∷ []

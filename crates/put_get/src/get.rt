@@ -1,19 +1,20 @@
-ghost use Rattle.std.specs.Prelude.{◌≡◌, ◌+◌, OnOk, OnErr, true, option_map};
+ghost use Rattle.std.specs.Prelude.{◌≡◌, ◌+◌, OnOk, OnErr, IfErr, None, true, option_map};
 ghost use Rattle.call_model.specs.Options as options_of;
 ghost use Rattle.call_model.specs.declared.Call.TheVariants.{Get};
 ghost use Rattle.call_model.specs.Reading.{IsTransfer};
 ghost use Rattle.space_model.specs.Event.{MayPay};
 ghost use Rattle.space_model.specs.Beginning.{fresh_top};
 ghost use Rattle.space_model.specs.Meeting.{or_fresh};
-ghost use Rattle.space_model.specs.Part.{part_if, block_part, caller_after};
+ghost use Rattle.space_model.specs.Part.{part_if, block_part, merge_part, destination_page, page_count, caller_after};
 ghost use Rattle.space_model.specs.Space.{children_from, children_of, find, top_of};
-ghost use Rattle.put_get.specs.Meetings.{with_action};
-ghost use Rattle.put_get.specs.Ranges.{one_change};
+ghost use Rattle.put_get.specs.Meetings.{with_action, get_conflict, conflict_of, MayStop};
+ghost use Rattle.put_get.specs.Ranges.{at_most_one, get_changes};
 
 use crate::caller::succeed;
-use crate::options::{has_copy, has_perm, has_regs, has_zero};
-use crate::ranges::{change_range, is_one_range};
+use crate::options::{has_copy, has_merge, has_perm, has_regs, has_zero};
+use crate::ranges::{destination, fill, permit};
 use crate::registers::block;
+use snapshot::{MergeError, merge};
 use space_tree::{Space, Top};
 use std::alloc::{AllocError, Global};
 use std::collections::BTreeMap;
@@ -36,33 +37,65 @@ fn take_registers(x: &Transfer, child: &Top, caller: &mut Top) -> Result<(), All
         .write_bytes(x.block, &write_block(&block(child)))
 }
 
-// One of the changes of the destination's range and the register block at most is asked for.
-fn is_one_change(x: &Transfer) -> bool
-    ensures { result ≡ one_change x.now.options }
+// Merge: what the child has changed in the destination's range since its snapshot goes into it, where that is asked for. The error is
+// the least conflict, or want of memory.
+#[tactic(auto, using(crate::proofs::Places::merged_pages))]
+fn merge_range(x: &Transfer, child: &Top, caller: &mut Top) -> Result<(), MergeError>
+    requires { IsTransfer x.now }
+    ensures ok { OnOk result (caller.new ≡ part_if (options_of.has options_of.merging x.now.options) (merge_part child.now.snapshot child.now.memory (destination_page x.now) (page_count x.now)) caller.old) }
+    ensures sure { OnOk result (get_conflict x.now caller.old child.now ≡ None) }
+    ensures conflict { IfErr result (MayStop (get_conflict x.now caller.old child.now)) }
+    ensures err { OnErr result (caller.new ≡ caller.old) }
+    ensures asked { OnErr result (options_of.has options_of.merging x.now.options ≡ true) }
+    ensures kept { record caller.new { memory = caller.old.memory } ≡ caller.old }
 {
-    if has_regs(x) {
-        !(has_zero(x) || has_copy(x) || has_perm(x))
+    if !has_merge(x) {
+        return Ok(());
+    }
+    let Some(snapshot) = &child.snapshot else {
+        return Ok(());
+    };
+    merge(&mut caller.memory, &child.memory, snapshot, destination(x))
+}
+
+// One of the changes of the caller's memory at most is asked for.
+fn is_one_change(x: &Transfer) -> bool
+    ensures { result ≡ at_most_one get_changes x.now.options }
+{
+    if has_zero(x) {
+        !(has_copy(x) || has_merge(x) || has_perm(x) || has_regs(x))
+    } else if has_copy(x) {
+        !(has_merge(x) || has_perm(x) || has_regs(x))
+    } else if has_merge(x) {
+        !(has_perm(x) || has_regs(x))
     } else {
-        is_one_range(x)
+        !(has_perm(x) && has_regs(x))
     }
 }
 
 // Changes the caller as the options ask. At an error some of the changes may be there; where there is one, nothing is changed.
-#[tactic(auto, using(crate::proofs::Parts::get_in_order))]
-fn change(x: &Transfer, child: &Top, caller: &mut Top) -> Result<(), AllocError>
+#[tactic(auto, using(crate::proofs::Parts::get_in_order, crate::proofs::Parts::same_conflict))]
+fn change(x: &Transfer, child: &Top, caller: &mut Top) -> Result<(), MergeError>
     requires { IsTransfer x.now }
     ensures ok { OnOk result (caller.new ≡ caller_after x.now child.now caller.old) }
-    ensures err { OnErr result (one_change x.now.options ≡ true → caller.new ≡ caller.old) }
+    ensures sure { OnOk result (get_conflict x.now caller.old child.now ≡ None) }
+    ensures conflict { IfErr result (MayStop (get_conflict x.now caller.old child.now)) }
+    ensures err { OnErr result (at_most_one get_changes x.now.options ≡ true → caller.new ≡ caller.old) }
     ensures kept { record caller.new { memory = caller.old.memory } ≡ caller.old }
 {
-    change_range(x, &child.memory, caller)?;
-    take_registers(x, child, caller)
+    fill(x, child, caller)?;
+    merge_range(x, child, caller)?;
+    permit(x, caller)?;
+    take_registers(x, child, caller)?;
+    Ok(())
 }
 
 // Changes the caller by what the child has. At an error it is as it was.
-fn take_top(x: &Transfer, child: &Top, caller: &mut Top) -> Result<(), AllocError>
+fn take_top(x: &Transfer, child: &Top, caller: &mut Top) -> Result<(), MergeError>
     requires { IsTransfer x.now }
     ensures ok { OnOk result (caller.new ≡ caller_after x.now child.now caller.old) }
+    ensures sure { OnOk result (get_conflict x.now caller.old child.now ≡ None) }
+    ensures conflict { IfErr result (MayStop (get_conflict x.now caller.old child.now)) }
     ensures err { OnErr result (caller.new ≡ caller.old) }
 {
     if is_one_change(x) {
@@ -78,9 +111,11 @@ fn take_top(x: &Transfer, child: &Top, caller: &mut Top) -> Result<(), AllocErro
 }
 
 // The same of a child that has never run.
-fn take_fresh(alloc: Global, x: &Transfer, caller: &mut Top) -> Result<(), AllocError>
+fn take_fresh(alloc: Global, x: &Transfer, caller: &mut Top) -> Result<(), MergeError>
     requires { IsTransfer x.now }
     ensures ok { OnOk result (caller.new ≡ caller_after x.now (fresh_top (caller.old.fuel + caller.old.used)) caller.old) }
+    ensures sure { OnOk result (get_conflict x.now caller.old (fresh_top (caller.old.fuel + caller.old.used)) ≡ None) }
+    ensures conflict { IfErr result (MayStop (get_conflict x.now caller.old (fresh_top (caller.old.fuel + caller.old.used)))) }
     ensures err { OnErr result (caller.new ≡ caller.old) }
 {
     let child = Top::fresh(alloc, caller.total_fuel());
@@ -94,9 +129,11 @@ fn take_child(
     x: &Transfer,
     caller: &mut Top,
     children: &BTreeMap<u16, Space>,
-) -> Result<(), AllocError>
+) -> Result<(), MergeError>
     requires { IsTransfer x.now }
     ensures ok { let child = or_fresh caller.old (option_map top_of (find x.now.child (children_from children.now.entries))) in OnOk result (caller.new ≡ caller_after x.now child caller.old) }
+    ensures sure { let child = or_fresh caller.old (option_map top_of (find x.now.child (children_from children.now.entries))) in OnOk result (get_conflict x.now caller.old child ≡ None) }
+    ensures conflict { let child = or_fresh caller.old (option_map top_of (find x.now.child (children_from children.now.entries))) in IfErr result (MayStop (get_conflict x.now caller.old child)) }
     ensures err { OnErr result (caller.new ≡ caller.old) }
 {
     match children.get(&x.child) {
@@ -105,14 +142,20 @@ fn take_child(
     }
 }
 
-// What Get does that no test stops, of a caller that has not paid yet. At an error nothing is changed.
-pub fn get(alloc: Global, x: &Transfer, space: &mut Space) -> Result<(), AllocError>
+// What Get does that no test but the conflict stops, of a caller that has not paid yet. At an error nothing is changed.
+pub fn get(alloc: Global, x: &Transfer, space: &mut Space) -> Result<(), MergeError>
     requires transfer { IsTransfer x.now }
     requires pays { MayPay (top_of space.old) }
     ensures ok { OnOk result (space.new ≡ with_action (Get x.now) space.old) }
+    ensures sure { OnOk result (conflict_of (Get x.now) space.old ≡ None) }
+    ensures conflict { IfErr result (MayStop (conflict_of (Get x.now) space.old)) }
     ensures err { OnErr result (space.new ≡ space.old) }
 {
-    take_child(alloc, x, &mut space.top, &space.children)?;
-    succeed(&mut space.top);
-    Ok(())
+    match take_child(alloc, x, &mut space.top, &space.children) {
+        Ok(()) => {
+            succeed(&mut space.top);
+            Ok(())
+        }
+        Err(error) => Err(error),
+    }
 }

@@ -1,4 +1,4 @@
-//! Put and Get: what they do once the child that they name has stopped.
+//! Put and Get: what they do once the children that they name are ready.
 #![tactic(auto)]
 
 mod caller;
@@ -9,5 +9,6 @@ mod put;
 mod ranges;
 mod refusal;
 mod registers;
+mod tree;
 
 pub use meeting::apply;

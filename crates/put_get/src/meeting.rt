@@ -1,37 +1,70 @@
-ghost use Rattle.std.specs.Prelude.{◌≡◌, ◌-◌, ◌≤◌, ℕ, Bool, OnOk, OnErr};
+ghost use Rattle.std.specs.Prelude.{◌≡◌, ◌-◌, ◌≤◌, ℕ, Bool, OnOk, OnErr, IfErr, None};
 ghost use Rattle.space_model.specs.Change.{after_payment};
 ghost use Rattle.space_model.specs.Event.{MayPay};
 ghost use Rattle.space_model.specs.Meeting.{MayMeet, meet};
 ghost use Rattle.space_model.specs.Sound.{IsSoundAt};
 ghost use Rattle.space_model.specs.Space.{children_of, top_of};
-ghost use Rattle.put_get.specs.Meetings.{with_action};
+ghost use Rattle.put_get.specs.Meetings.{with_action, acts_or_stops, conflict_of, MayStop, IsPutOrGet};
 
 use crate::caller::trap;
 use crate::refusal::refusal;
-use crate::{get, put};
-use space_tree::Space;
+use crate::{get, put, tree};
+use snapshot::MergeError;
+use space_model::Refusal;
+use space_tree::{Cause, Space};
 use std::alloc::{AllocError, Global};
 use trap_ret::{AcceptedCall, Call};
 
-// What a call does that no test stops. At an error nothing is changed.
-fn act(alloc: Global, call: AcceptedCall, depth: u8, space: &mut Space) -> Result<(), AllocError>
-    requires depth { depth ≤ 8 }
-    requires may_meet { MayMeet (8 - depth) call }
+// What a call does that no test but the conflict stops. At an error nothing is changed.
+fn act(alloc: Global, call: AcceptedCall, space: &mut Space) -> Result<(), MergeError>
+    requires is_call { IsPutOrGet call }
     requires may_pay { MayPay (top_of space.old) }
     ensures ok { OnOk result (space.new ≡ with_action call space.old) }
+    ensures sure { OnOk result (conflict_of call space.old ≡ None) }
+    ensures conflict { IfErr result (MayStop (conflict_of call space.old)) }
     ensures err { OnErr result (space.new ≡ space.old) }
 {
     match call.call() {
-        Call::Put(x) => put::put(alloc, &x, space),
-        Call::Get(x) => get::get(alloc, &x, space),
-        Call::Ret { .. } | Call::ConsoleOut { .. } => unreachable!(),
+        Call::Put(x) => put::put(alloc, &x, space)?,
+        Call::Get(x) => get::get(alloc, &x, space)?,
+        Call::PutTree { child, from, to } => tree::put_tree(alloc, child, from, to, space)?,
+        Call::GetTree { child, from, to } => tree::get_tree(alloc, child, from, to, space)?,
+        _ => unreachable!(),
+    }
+    Ok(())
+}
+
+// The same, where a conflict stops the caller.
+fn act_or_stop(alloc: Global, call: AcceptedCall, space: &mut Space) -> Result<(), AllocError>
+    requires is_call { IsPutOrGet call }
+    requires may_pay { MayPay (top_of space.old) }
+    ensures ok { OnOk result (space.new ≡ acts_or_stops call space.old) }
+    ensures err { OnErr result (space.new ≡ space.old) }
+{
+    match act(alloc, call, space) {
+        Ok(()) => Ok(()),
+        Err(MergeError::Conflict { addr }) => {
+            let refusal = Refusal {
+                cause: Cause::Conflict,
+                value: addr,
+            };
+            trap(&mut space.top, refusal);
+            Ok(())
+        }
+        Err(MergeError::Memory) => Err(AllocError),
     }
 }
 
-/// What Put or Get does of a caller at this depth, at most 8, that has not paid yet, once the child that it names is ready
-/// (OSDI 2010, "Efficient System-Enforced Deterministic Parallelism", the section on the kernel interface). The caller pays one
-/// unit and goes on with a0 = 0; it stops instead, at the least such address, where Put names a register block that it may not
-/// read (`LoadFault`) or Get one that it may not write (`StoreFault`). The one error is want of memory: nothing is changed then.
+/// What Put or Get does, with Tree or without, of a caller at this depth, at most 8, that has not paid yet, once the children that it waits
+/// for are ready (OSDI 2010, "Efficient System-Enforced Deterministic Parallelism", the section on the kernel interface). The caller pays
+/// one unit and goes on with a0 = 0. It stops instead, with nothing else changed, at the first of these:
+///
+/// - Merge of a child without a snapshot (`Badcall` 5);
+/// - Tree of a child so high that the copy would be deeper than 8 (`Badcall` 8);
+/// - a register block that Put may not read (`LoadFault`) or Get may not write (`StoreFault`), at the least such address;
+/// - Merge where both sides have changed a byte of the range since the child's snapshot (`Conflict`), at the least such address.
+///
+/// The one error is want of memory: nothing is changed then.
 pub fn apply(
     alloc: Global,
     call: AcceptedCall,
@@ -39,6 +72,7 @@ pub fn apply(
     space: &mut Space,
 ) -> Result<(), AllocError>
     requires depth { depth ≤ 8 }
+    requires is_call { IsPutOrGet call }
     requires may_meet { MayMeet (8 - depth) call }
     requires may_pay { MayPay (top_of space.old) }
     ensures ok { OnOk result (space.new ≡ meet (8 - depth) call (after_payment (top_of space.old) (top_of space.old)) (children_of space.old)) }
@@ -50,6 +84,6 @@ pub fn apply(
             trap(&mut space.top, refusal);
             Ok(())
         }
-        None => act(alloc, call, depth, space),
+        None => act_or_stop(alloc, call, space),
     }
 }

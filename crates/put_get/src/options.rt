@@ -2,7 +2,7 @@ ghost use Rattle.std.specs.Prelude.{◌≡◌, ◌<◌};
 ghost use Rattle.call_model.specs.Options as options_of;
 
 use trap_ret::Transfer;
-use trap_ret::options::{COPY, LIMIT, PERM, REGS, START, ZERO, has};
+use trap_ret::options::{COPY, LIMIT, MERGE, PERM, REGS, SNAP, START, ZERO, has};
 
 // The register block goes along: into the child with Put, out of it with Get.
 pub fn has_regs(x: &Transfer) -> bool
@@ -25,11 +25,25 @@ pub fn has_zero(x: &Transfer) -> bool
     has(x.options, ZERO)
 }
 
+// What the child has changed in the destination's range since its snapshot goes into it.
+pub fn has_merge(x: &Transfer) -> bool
+    ensures { result ≡ options_of.has options_of.merging x.now.options }
+{
+    has(x.options, MERGE)
+}
+
 // The destination's range gets the permission.
 pub fn has_perm(x: &Transfer) -> bool
     ensures { result ≡ options_of.has options_of.perm x.now.options }
 {
     has(x.options, PERM)
+}
+
+// The child's memory is kept as its snapshot.
+pub fn has_snap(x: &Transfer) -> bool
+    ensures { result ≡ options_of.has options_of.snap x.now.options }
+{
+    has(x.options, SNAP)
 }
 
 // The child runs.

@@ -1,4 +1,4 @@
-ghost use Rattle.std.specs.Prelude.{◌≡◌, ◌+◌, IfOk, OnOk, OnErr, option_map};
+ghost use Rattle.std.specs.Prelude.{◌≡◌, ◌+◌, IfOk, OnOk, OnErr, option_map, true};
 ghost use Rattle.call_model.specs.Options as options_of;
 ghost use Rattle.call_model.specs.declared.Call.TheVariants.{Put};
 ghost use Rattle.call_model.specs.Reading.{IsTransfer};
@@ -7,15 +7,16 @@ ghost use Rattle.space_model.specs.Call.{edit, change};
 ghost use Rattle.space_model.specs.Event.{MayPay};
 ghost use Rattle.space_model.specs.Beginning.{fresh_top};
 ghost use Rattle.space_model.specs.Meeting.{or_fresh};
-ghost use Rattle.space_model.specs.Part.{part_if, with_parts, registers_part, start_part, start_limit, child_after};
+ghost use Rattle.space_model.specs.Part.{part_if, with_parts, registers_part, snapshot_part, start_part, start_limit, child_after};
 ghost use Rattle.space_model.specs.Space.{space, none, children_from, children_of, find, top_of};
 ghost use Rattle.put_get.specs.Meetings.{with_action};
-ghost use Rattle.put_get.specs.Ranges.{range_parts};
+ghost use Rattle.put_get.specs.Ranges.{memory_parts, at_most_one, put_changes};
 
 use crate::caller::succeed;
-use crate::options::{has_limit, has_regs, has_start};
-use crate::ranges::{change_range, is_one_range};
+use crate::options::{has_copy, has_limit, has_perm, has_regs, has_snap, has_start, has_zero};
+use crate::ranges::{fill, permit};
 use crate::registers::read_registers;
+use snapshot::take;
 use space_tree::{Space, Status, Top};
 use std::alloc::{AllocError, Global};
 use std::collections::BTreeMap;
@@ -42,18 +43,58 @@ fn start(x: &Transfer, child: &mut Top)
     }
 }
 
-// Changes the destination's range in the child. At an error it is as it was.
-fn give_range(x: &Transfer, caller: &Top, child: &mut Top) -> Result<(), AllocError>
+// Snap: the child's memory is kept as its snapshot, where that is asked for.
+fn snap(x: &Transfer, child: &mut Top) -> Result<(), AllocError>
+    ensures ok { OnOk result (child.new ≡ part_if (options_of.has options_of.snap x.now.options) snapshot_part child.old) }
+    ensures err { OnErr result (child.new ≡ child.old) }
+    ensures asked { OnErr result (options_of.has options_of.snap x.now.options ≡ true) }
+{
+    if !has_snap(x) {
+        return Ok(());
+    }
+    let snapshot = take(&mut child.memory)?;
+    child.snapshot = Some(snapshot);
+    Ok(())
+}
+
+// One of the changes of the child's memory and of its snapshot at most is asked for.
+fn is_one_change(x: &Transfer) -> bool
+    ensures { result ≡ at_most_one put_changes x.now.options }
+{
+    if has_zero(x) {
+        !(has_copy(x) || has_perm(x) || has_snap(x))
+    } else if has_copy(x) {
+        !(has_perm(x) || has_snap(x))
+    } else {
+        !(has_perm(x) && has_snap(x))
+    }
+}
+
+// Changes the child's memory as the options ask, and takes its snapshot. At an error some of the changes of memory may be there; where
+// there is one change, nothing is changed.
+fn change_memory(x: &Transfer, caller: &Top, child: &mut Top) -> Result<(), AllocError>
     requires { IsTransfer x.now }
-    ensures ok { OnOk result (child.new ≡ with_parts x.now.options (range_parts x.now caller.now.memory) child.old) }
+    ensures ok { OnOk result (child.new ≡ with_parts x.now.options (memory_parts x.now caller.now.memory) child.old) }
+    ensures err { OnErr result (at_most_one put_changes x.now.options ≡ true → child.new ≡ child.old) }
+    ensures kept { OnErr result (record child.new { memory = child.old.memory } ≡ child.old) }
+{
+    fill(x, caller, child)?;
+    permit(x, child)?;
+    snap(x, child)
+}
+
+// The same. At an error the child is as it was.
+fn give_memory(x: &Transfer, caller: &Top, child: &mut Top) -> Result<(), AllocError>
+    requires { IsTransfer x.now }
+    ensures ok { OnOk result (child.new ≡ with_parts x.now.options (memory_parts x.now caller.now.memory) child.old) }
     ensures err { OnErr result (child.new ≡ child.old) }
 {
-    if is_one_range(x) {
-        return change_range(x, &caller.memory, child);
+    if is_one_change(x) {
+        return change_memory(x, caller, child);
     }
     // Of several changes a later one may fail.
     let before = child.memory.frozen()?;
-    if let Err(error) = change_range(x, &caller.memory, child) {
+    if let Err(error) = change_memory(x, caller, child) {
         child.memory = before;
         return Err(error);
     }
@@ -66,8 +107,8 @@ fn give(x: &Transfer, caller: &Top, child: &mut Top) -> Result<(), AllocError>
     ensures ok { OnOk result (child.new ≡ child_after x.now caller.now child.old) }
     ensures err { OnErr result (child.new ≡ child.old) }
 {
-    // What may fail comes first; registers and range pass one another.
-    give_range(x, caller, child)?;
+    // What may fail comes first; registers and memory pass one another.
+    give_memory(x, caller, child)?;
     give_registers(x, caller, child);
     start(x, child);
     Ok(())

@@ -1,13 +1,15 @@
-ghost use Rattle.std.specs.Prelude.{◌≡◌, ◌-◌, ◌≤◌};
+ghost use Rattle.std.specs.Prelude.{◌≡◌, ◌-◌, ◌≤◌, Some, is_none};
 ghost use Rattle.memory_model.specs.Memory.{may_read, may_write};
 ghost use Rattle.call_model.specs.Reading.{IsTransfer};
-ghost use Rattle.space_model.specs.Meeting.{block_refusal};
+ghost use Rattle.space_model.specs.Meeting.{block_refusal, test_refusal, height_refusal};
+ghost use Rattle.space_model.specs.Space.{children_from, find};
 ghost use Rattle.space_model.specs.declared.Cause.TheVariants.{LoadFault, StoreFault};
-ghost use Rattle.put_get.specs.Meetings.{refusal_of};
+ghost use Rattle.put_get.specs.Meetings.{early_of, early_get, snapshot_in, IsPutOrGet};
 
-use crate::options::has_regs;
+use crate::options::{has_merge, has_regs};
 use space_model::Refusal;
-use space_tree::{Cause, Space, Top};
+use space_tree::{Cause, Space, Top, height};
+use std::collections::BTreeMap;
 use trap_ret::{AcceptedCall, Call, Transfer};
 
 // The bytes of a register block.
@@ -45,15 +47,61 @@ fn unwritable_block(x: &Transfer, caller: &Top) -> Option<Refusal>
     })
 }
 
-// The first test of a call that stops its caller, at this depth, if one does.
-#[tactic(auto, using(crate::proofs::Meetings::put_test, crate::proofs::Meetings::get_test), unfolding(crate::specs::Meetings::refusal_of))]
-pub fn refusal(call: AcceptedCall, space: &Space, depth: u8) -> Option<Refusal>
+// The failed test of this number.
+fn failed_test(value: u32) -> Refusal
+    ensures { Some result ≡ test_refusal value }
+{
+    Refusal {
+        cause: Cause::Badcall,
+        value,
+    }
+}
+
+// Test 5: whether the child of that number lacks a snapshot; one that is missing does.
+fn lacks_snapshot(children: &BTreeMap<u16, Space>, number: u16) -> bool
+    ensures { result ≡ is_none (snapshot_in (find number (children_from children.now.entries))) }
+{
+    match children.get(&number) {
+        Some(child) => child.top.snapshot.is_none(),
+        None => true,
+    }
+}
+
+// The first test of a Get that stops its caller before a conflict may.
+fn get_refusal(x: &Transfer, caller: &Space) -> Option<Refusal>
+    requires { IsTransfer x.now }
+    ensures { result ≡ early_get x.now caller.now }
+{
+    if has_merge(x) && lacks_snapshot(&caller.children, x.child) {
+        return Some(failed_test(5));
+    }
+    unwritable_block(x, &caller.top)
+}
+
+// Test 8 of a space that is copied to a child's child of a caller at this depth.
+fn tree_refusal(children: &BTreeMap<u16, Space>, from: u16, depth: u8) -> Option<Refusal>
     requires { depth ≤ 8 }
-    ensures { result ≡ refusal_of (8 - depth) call space.now }
+    ensures { result ≡ height_refusal (8 - depth) (find from (children_from children.now.entries)) }
+{
+    let copied = children.get(&from)?;
+    if height(copied).saturating_add(2) > 8 - depth {
+        return Some(failed_test(8));
+    }
+    None
+}
+
+// The first test of a call that stops its caller before a conflict may, at this depth, if one does.
+#[tactic(auto, using(crate::proofs::Tests::get_test, crate::proofs::Tests::get_tree_test))]
+pub fn refusal(call: AcceptedCall, space: &Space, depth: u8) -> Option<Refusal>
+    requires depth { depth ≤ 8 }
+    requires is_call { IsPutOrGet call }
+    ensures { result ≡ early_of (8 - depth) call space.now }
 {
     match call.call() {
         Call::Put(x) => unreadable_block(&x, &space.top),
-        Call::Get(x) => unwritable_block(&x, &space.top),
-        Call::Ret { .. } | Call::ConsoleOut { .. } => None,
+        Call::Get(x) => get_refusal(&x, space),
+        Call::PutTree { from, .. } => tree_refusal(&space.children, from, depth),
+        Call::GetTree { .. } => None,
+        _ => unreachable!(),
     }
 }

@@ -10,8 +10,8 @@ pub returns-in-Some-clause-sound : goal.returns-in-Some-clause-sound
 returns-in-Some-clause-sound c = met_sound (8 - c.args.depth) c.args.call c.args.space.now _ c.requires.may_meet c.requires.may_pay (returns-in-Some-clause-ok c)
 
 pub returns-in-None-clause-ok : goal.returns-in-None-clause-ok
-returns-in-None-clause-ok c = on_ok_weaker c.act.result (acts_met (8 - c.args.depth) c.args.call c.args.space.now c.act.new.space c.in-None.ensures) c.act.ensures.ok
+returns-in-None-clause-ok c = on_ok_weaker c.act_or_stop.result (acts_met (8 - c.args.depth) c.args.call c.args.space.now c.act_or_stop.new.space c.in-None.ensures) c.act_or_stop.ensures.ok
 
 pub returns-in-None-clause-sound : goal.returns-in-None-clause-sound
 returns-in-None-clause-sound c =
-    stays_sound c.act.result (8 - c.args.depth) c.args.call c.args.space.now c.act.new.space c.requires.may_meet c.requires.may_pay (returns-in-None-clause-ok c) c.act.ensures.err
+    stays_sound c.act_or_stop.result (8 - c.args.depth) c.args.call c.args.space.now c.act_or_stop.new.space c.requires.may_meet c.requires.may_pay (returns-in-None-clause-ok c) c.act_or_stop.ensures.err
