@@ -1,4 +1,5 @@
-//! Tests of one machine: instruction words, the processor, pages, memories, and how a call is read from registers.
+//! Tests of one machine: instruction words, the processor, pages, memories and their merge, and how a call is read from
+//! registers.
 #![tactic(auto)]
 
 #[cfg(test)]
@@ -9,5 +10,7 @@ mod decoding;
 mod instructions;
 #[cfg(test)]
 mod memories;
+#[cfg(test)]
+mod merges;
 #[cfg(test)]
 mod pages;
