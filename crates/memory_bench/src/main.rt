@@ -1,9 +1,10 @@
 //! `memory_bench ROUNDS`: measures loads, stores and fetches of words, and calls over the whole memory, of memories of
-//! 9, 1,000 and 10,000 pages. Each line has the best of so many rounds.
+//! 9, 1,000 and 10,000 pages, and a merge of 4,096 pages. Each line has the best of so many rounds.
 #![tactic(auto)]
 
 mod accesses;
 mod measure;
+mod merges;
 mod walks;
 mod whole;
 

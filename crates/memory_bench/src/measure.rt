@@ -2,8 +2,10 @@ ghost use Rattle.std.specs.Prelude.{◌≡◌, ◌<◌, ◌≤◌, IfOk};
 ghost use Rattle.memory_model.specs.Memory.{no_memory, with_permissions};
 
 use crate::accesses::{Access, pass};
+use crate::merges::{MERGED, child_of, time_of_compare, time_of_merge};
 use crate::walks::{Order, WALK, WordAddress, walk};
 use crate::whole::{Call, time_of};
+use snapshot::take;
 use space_mem::{Mem, Pages};
 use std::alloc::{AllocError, Global};
 use std::io;
@@ -108,8 +110,26 @@ fn calls(
     Ok(())
 }
 
+// Measures a merge of pages of which a child changed ten, and beside it the plain comparison of each page with its snapshot's.
+fn merges(rt: &(impl Clock + Print), alloc: Global, rounds: u32) -> io::Result<u32> {
+    let mut mem = memory_of(alloc, MERGED)?;
+    let snapshot = take(&mut mem)?;
+    let child = child_of(&mut mem)?;
+    let mut sum: u32 = 0;
+    let mut best_compare = Duration::MAX;
+    let mut best_merge = Duration::MAX;
+    for _round in 0..rounds {
+        best_compare = best_compare.min(time_of_compare(rt, &child, &snapshot, &mut sum)?);
+        let mut parent = take(&mut mem)?;
+        best_merge = best_merge.min(time_of_merge(rt, &mut parent, &child, &snapshot)?);
+    }
+    print_line(rt, "compare, a page", MERGED, MERGED, best_compare)?;
+    print_line(rt, "merge, a page", MERGED, MERGED, best_merge)?;
+    Ok(sum)
+}
+
 /// Measures memories of 9, 1,000 and 10,000 pages that may be read and written, and prints a line for each operation: what, how many
-/// pages, how many operations a round has, and the nanoseconds of one in the best of the rounds.
+/// pages, how many operations a round has, and the nanoseconds of one in the best of the rounds. Then it measures a merge.
 pub fn all(rt: &(impl Clock + Print), alloc: Global, rounds: u32) -> io::Result<()> {
     println!(rt; "what                pages operations ns an operation")?;
     let mut sum: u32 = 0;
@@ -118,5 +138,6 @@ pub fn all(rt: &(impl Clock + Print), alloc: Global, rounds: u32) -> io::Result<
         sum = sum.wrapping_add(passes(rt, alloc, rounds, pages, &mut mem)?);
         calls(rt, alloc, rounds, pages, &mut mem)?;
     }
+    sum = sum.wrapping_add(merges(rt, alloc, rounds)?);
     println!(rt; "sum of what was read: {sum}")
 }
