@@ -40,11 +40,11 @@ fn numbers_and_options(rt: HostRuntime) -> Result<(), Fail> {
     // no call number
     first_failing(&rt, [0, 0, 0, 0, 0, 0, 0, 0], [1, 1, 1]);
     first_failing(&rt, [0, 0, 0, 0, 0, 0, 0, 5], [1, 1, 1]);
-    first_failing(&rt, [8, 65_536, 0, 0, 0, 0, 0, 16], [1, 1, 1]);
+    first_failing(&rt, [8, 65_536, 0, 0, 0, 0, 0, 15], [1, 1, 1]);
+    first_failing(&rt, [8, 65_536, 0, 0, 0, 0, 0, 20], [1, 1, 1]);
     // options that are not known
-    first_failing(&rt, [8, 0, 0, 0, 0, 0, 0, 2], [2, 2, 2]);
-    first_failing(&rt, [32, 0, 0, 0, 0, 0, 0, 1], [2, 2, 2]);
-    first_failing(&rt, [256, 0, 0, 0, 0, 0, 0, 1], [2, 2, 2]);
+    first_failing(&rt, [512, 0, 0, 0, 0, 0, 0, 2], [2, 2, 2]);
+    first_failing(&rt, [0x8000_0000, 0, 0, 0, 0, 0, 0, 1], [2, 2, 2]);
     first_failing(&rt, [0x4010, 0, 0, 0, 0, 0, 0, 1], [2, 2, 2]);
     // options that do not stand together
     first_failing(&rt, [0x1000, 0, 0, 0, 0, 0, 0, 1], [2, 2, 2]);
@@ -53,6 +53,16 @@ fn numbers_and_options(rt: HostRuntime) -> Result<(), Fail> {
     first_failing(&rt, [128, 0, 0, 0, 0, 0, 0, 2], [2, 2, 2]);
     first_failing(&rt, [128, 0, 0, 0, 0, 0, 0, 1], [2, 2, 2]);
     first_failing(&rt, [192, 0, 0, 0, 0, 0, 0, 1], [0, 0, 8]);
+    first_failing(&rt, [10, 0, 0, 0, 0, 0, 0, 2], [2, 2, 2]);
+    first_failing(&rt, [12, 0, 0, 0, 0, 0, 0, 2], [2, 2, 2]);
+    first_failing(&rt, [8, 0, 0, 0, 0, 0, 0, 2], [0, 0, 0]);
+    first_failing(&rt, [8, 0, 0, 0, 0, 0, 0, 1], [2, 2, 2]);
+    first_failing(&rt, [32, 0, 0, 0, 0, 0, 0, 1], [0, 0, 8]);
+    first_failing(&rt, [32, 0, 0, 0, 0, 0, 0, 2], [2, 2, 2]);
+    first_failing(&rt, [256, 0, 0, 0, 0, 0, 0, 1], [0, 8, 8]);
+    first_failing(&rt, [256, 0, 0, 0, 0, 0, 0, 2], [0, 0, 0]);
+    first_failing(&rt, [257, 0, 2, 0, 0, 0, 0, 1], [2, 2, 2]);
+    first_failing(&rt, [272, 0, 0, 0, 0, 0, 0, 2], [2, 2, 2]);
     first_failing(&rt, [128, 65_536, 0, 0, 0, 0, 0, 1], [2, 2, 2]);
     Ok(())
 }
@@ -63,7 +73,18 @@ fn children_and_ranges(rt: HostRuntime) -> Result<(), Fail> {
     first_failing(&rt, [0, 65_535, 0, 0, 0, 0, 0, 2], [0, 0, 0]);
     first_failing(&rt, [0, 65_536, 0, 0, 0, 0, 0, 2], [3, 3, 3]);
     first_failing(&rt, [2, 65_536, 0, 0, 0, 1, 0, 1], [3, 3, 3]);
+    first_failing(&rt, [256, 65_536, 0, 0, 0, 0, 0, 2], [3, 3, 3]);
+    first_failing(&rt, [256, 0, 0, 65_536, 0, 0, 0, 2], [3, 3, 3]);
+    first_failing(&rt, [256, 0, 0, 0, 65_536, 0, 0, 1], [3, 3, 3]);
+    first_failing(&rt, [0, 0, 0, 65_536, 65_536, 0, 0, 2], [0, 0, 0]);
+    first_failing(&rt, [0, 65_536, 0, 0, 0, 0, 0, 16], [3, 3, 3]);
+    first_failing(&rt, [0, 65_536, 0, 0, 0, 0, 0, 17], [3, 3, 3]);
+    first_failing(&rt, [0, 65_536, 0, 0, 0, 0, 0, 18], [3, 3, 3]);
+    first_failing(&rt, [0, 65_536, 0, 0, 0, 0, 0, 19], [3, 3, 3]);
     // ranges
+    first_failing(&rt, [8, 0, 0, 1, 0xFFFF_F000, 0x1000, 0, 2], [0, 0, 0]);
+    first_failing(&rt, [8, 0, 0, 0, 0xFFFF_F000, 0x2000, 0, 2], [4, 4, 4]);
+    first_failing(&rt, [256, 0, 0, 1, 1, 1, 0, 2], [0, 0, 0]);
     first_failing(&rt, [4, 0, 0, 1, 0xFFFF_F000, 0x1000, 0, 2], [0, 0, 0]);
     first_failing(&rt, [4, 0, 0, 0, 0xFFFF_F000, 0x2000, 0, 2], [4, 4, 4]);
     first_failing(&rt, [2, 0, 0, 0xFFFF_F000, 0, 0x2000, 0, 2], [4, 4, 4]);
@@ -82,8 +103,12 @@ fn console_depth_and_blocks(rt: HostRuntime) -> Result<(), Fail> {
     first_failing(&rt, [0, 0, 65_536, 0, 0, 0, 0, 4], [0, 6, 6]);
     first_failing(&rt, [0, 0, 65_537, 0, 0, 0, 0, 4], [7, 6, 6]);
     first_failing(&rt, [0, 0xFFFF_0000, 65_537, 0, 0, 0, 0, 4], [4, 4, 4]);
-    // Put at depth 8
+    // Put at depth 8, with Tree at depth 7 too; forks at depth 8
     first_failing(&rt, [0, 0, 0, 0, 0, 0, 0, 1], [0, 0, 8]);
+    first_failing(&rt, [0, 9, 0, 0, 0, 0, 0, 16], [0, 0, 8]);
+    first_failing(&rt, [0, 9, 0, 0, 0, 0, 0, 17], [0, 0, 0]);
+    first_failing(&rt, [0, 9, 0, 0, 0, 0, 0, 18], [0, 0, 8]);
+    first_failing(&rt, [0, 9, 0, 0, 0, 0, 0, 19], [0, 0, 0]);
     first_failing(&rt, [1, 0, 2, 0, 0, 0, 0, 1], [9, 9, 8]);
     // a register block
     first_failing(&rt, [1, 0, 0xFFFF_FF78, 0, 0, 0, 0, 2], [0, 0, 0]);
@@ -126,6 +151,21 @@ fn calls(rt: HostRuntime) -> Result<(), Fail> {
     let out = Call::ConsoleOut { addr: 1, len: 2 };
     reads(&rt, [7, 1, 2, 0, 0, 0, 0, 4], Ok(out));
     reads(&rt, [1, 0, 2, 0, 0, 0, 0, 1], Err(Badcall(9)));
+    Ok(())
+}
+
+#[test]
+fn calls_of_trees_and_runtime(rt: HostRuntime) -> Result<(), Fail> {
+    let (child, from, to) = (1, 3, 4);
+    let put_tree = Ok(Call::PutTree { child, from, to });
+    let get_tree = Ok(Call::GetTree { child, from, to });
+    reads(&rt, [256, 1, 0, 3, 4, 0, 0, 2], get_tree);
+    reads(&rt, [256, 1, 0, 3, 4, 0, 0, 1], Err(Badcall(8)));
+    assert_eq!(rt; read([256, 1, 0, 3, 4, 0, 0, 1], false, 6), put_tree);
+    reads(&rt, [7, 1, 0, 3, 4, 0, 0, 16], Ok(Call::Fork { child }));
+    reads(&rt, [7, 1, 0, 3, 4, 0, 0, 17], Ok(Call::Wait { child }));
+    reads(&rt, [7, 1, 0, 3, 4, 0, 0, 18], Ok(Call::Tfork { child }));
+    reads(&rt, [7, 1, 0, 3, 4, 0, 0, 19], Ok(Call::Tjoin { child }));
     Ok(())
 }
 
