@@ -54,6 +54,16 @@ pub record Input : Type 0 where
   pub faults_before : ℕ
   pub faults_after : ℕ
 
+-- a loader before and after a call, by what it tells of itself
+abbrev pub input_of : {L : Type 0} → (L → List ℕ → Option (List ℕ)) → (L → List (List ℕ)) → (L → ℕ) → L → L → Input
+input_of told asked faults old new = record {
+  told = told old;
+  asked_before = asked old;
+  asked_after = asked new;
+  faults_before = faults old;
+  faults_after = faults new;
+}
+
 -- bytes that a file may have: those that are told, where they are told
 abbrev pub Agrees : Option (List ℕ) → List ℕ → Type 0
 Agrees told bytes = IfSome told (λ known. bytes ≡ known)

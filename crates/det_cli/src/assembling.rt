@@ -2,6 +2,8 @@ ghost use Rattle.std.specs.Prelude.{◌≡◌, ◌≤◌, Some, IfOk};
 ghost use Rattle.source_model.specs.Source.{source_of};
 ghost use Rattle.command_line.specs.Line.{asm};
 ghost use Rattle.det_cli.specs.Commands.{bad_source, expected_of_bytes, expected_of_source, steps_of, whole_of};
+ghost use Rattle.det_cli.specs.Files.{input_of};
+ghost use Rattle.det_cli.specs.Writing.{output_of};
 ghost use Rattle.det_cli.specs.Stages.{Judged, Reads};
 ghost use Rattle.det_cli.specs.Answers.{Course};
 
@@ -36,13 +38,7 @@ fn image_of_text(alloc: Global, text: &[u8]) -> Result<Vec<u8>, End>
 // The bytes of the image of a source file, which is loaded once.
 fn image_of_source<L: Loader>(alloc: Global, source: &str, files: &mut L) -> Result<Vec<u8>, End>
     ensures reads { Reads (λ v. expected_of_bytes v.items) (steps_of (asm source.now)) (whole_of (asm source.now))
-        (record {
-          told = L.told files.old;
-          asked_before = L.asked files.old;
-          asked_after = L.asked files.new;
-          faults_before = L.faults files.old;
-          faults_after = L.faults files.new;
-        }) result }
+        (input_of L.told L.asked L.faults files.old files.new) result }
     ensures later { L.faults files.old ≤ L.faults files.new }
 {
     let text = match load(alloc, files, source, SOURCE_ROOM) {
@@ -61,25 +57,9 @@ pub(crate) fn assemble_source<L: Loader, O: Sink, E: Sink>(
     err: &mut E,
 ) -> End
     ensures course { Course (asm source.now)
-        (record {
-          told = L.told files.old;
-          asked_before = L.asked files.old;
-          asked_after = L.asked files.new;
-          faults_before = L.faults files.old;
-          faults_after = L.faults files.new;
-        })
-        (record {
-          taken_before = O.taken out.old;
-          taken_after = O.taken out.new;
-          faults_before = O.faults out.old;
-          faults_after = O.faults out.new;
-        })
-        (record {
-          taken_before = E.taken err.old;
-          taken_after = E.taken err.new;
-          faults_before = E.faults err.old;
-          faults_after = E.faults err.new;
-        }) result }
+        (input_of L.told L.asked L.faults files.old files.new)
+        (output_of O.taken O.faults out.old out.new)
+        (output_of E.taken E.faults err.old err.new) result }
     ensures files_later { L.faults files.old ≤ L.faults files.new }
     ensures out_later { O.faults out.old ≤ O.faults out.new }
     ensures err_later { E.faults err.old ≤ E.faults err.new }

@@ -1,5 +1,7 @@
 ghost use Rattle.std.specs.Prelude.{◌≤◌, map, string_bytes};
 ghost use Rattle.command_line.specs.Line.{line_of, IsInRange};
+ghost use Rattle.det_cli.specs.Files.{input_of};
+ghost use Rattle.det_cli.specs.Writing.{output_of};
 ghost use Rattle.det_cli.specs.Answers.{Answers, Course};
 
 use crate::assembling::assemble_source;
@@ -19,25 +21,9 @@ fn carry_out<L: Loader, O: Sink, E: Sink>(
 ) -> End
     requires { IsInRange (line_of command) }
     ensures course { Course (line_of command.entry)
-        (record {
-          told = L.told files.old;
-          asked_before = L.asked files.old;
-          asked_after = L.asked files.new;
-          faults_before = L.faults files.old;
-          faults_after = L.faults files.new;
-        })
-        (record {
-          taken_before = O.taken out.old;
-          taken_after = O.taken out.new;
-          faults_before = O.faults out.old;
-          faults_after = O.faults out.new;
-        })
-        (record {
-          taken_before = E.taken err.old;
-          taken_after = E.taken err.new;
-          faults_before = E.faults err.old;
-          faults_after = E.faults err.new;
-        }) result }
+        (input_of L.told L.asked L.faults files.old files.new)
+        (output_of O.taken O.faults out.old out.new)
+        (output_of E.taken E.faults err.old err.new) result }
     ensures files_later { L.faults files.old ≤ L.faults files.new }
     ensures out_later { O.faults out.old ≤ O.faults out.new }
     ensures err_later { E.faults err.old ≤ E.faults err.new }
@@ -67,25 +53,9 @@ pub fn det_main<R: AllocGlobal, L: Loader, O: Sink, E: Sink, G: Gate>(
 ) -> End
     ensures { Answers (record {
       words = map string_bytes words.now;
-      input = record {
-        told = L.told files.old;
-        asked_before = L.asked files.old;
-        asked_after = L.asked files.new;
-        faults_before = L.faults files.old;
-        faults_after = L.faults files.new;
-      };
-      out = record {
-        taken_before = O.taken out.old;
-        taken_after = O.taken out.new;
-        faults_before = O.faults out.old;
-        faults_after = O.faults out.new;
-      };
-      err = record {
-        taken_before = E.taken err.old;
-        taken_after = E.taken err.new;
-        faults_before = E.faults err.old;
-        faults_after = E.faults err.new;
-      };
+      input = input_of L.told L.asked L.faults files.old files.new;
+      out = output_of O.taken O.faults out.old out.new;
+      err = output_of E.taken E.faults err.old err.new;
       end = result;
     }) }
 {

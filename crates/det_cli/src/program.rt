@@ -1,5 +1,7 @@
 ghost use Rattle.std.specs.Prelude.{◌≡◌, ◌≤◌, ◌⊎◌, map, string_bytes};
 ghost use Rattle.det_cli.specs.Status.{status_of};
+ghost use Rattle.det_cli.specs.Files.{input_of};
+ghost use Rattle.det_cli.specs.Writing.{output_of};
 ghost use Rattle.det_cli.specs.Answers.{Says, Program};
 
 use crate::end::{End, status};
@@ -17,12 +19,7 @@ pub struct Exit {
 
 // Writes the line of an end. Where that finds no memory, that is the end.
 fn say<E: Sink>(alloc: Global, ended: End, err: &mut E) -> End
-    ensures line { Says (record {
-      taken_before = E.taken err.old;
-      taken_after = E.taken err.new;
-      faults_before = E.faults err.old;
-      faults_after = E.faults err.new;
-    }) result }
+    ensures line { Says (output_of E.taken E.faults err.old err.new) result }
     ensures end { (result ≡ ended) ⊎ (result ≡ End.NoMemory) }
     ensures later { E.faults err.old ≤ E.faults err.new }
 {
@@ -43,25 +40,9 @@ pub fn det_program<R: AllocGlobal, L: Loader, O: Sink, E: Sink, G: Gate>(
 ) -> Exit
     ensures answers { Program (record {
       words = map string_bytes words.now;
-      input = record {
-        told = L.told files.old;
-        asked_before = L.asked files.old;
-        asked_after = L.asked files.new;
-        faults_before = L.faults files.old;
-        faults_after = L.faults files.new;
-      };
-      out = record {
-        taken_before = O.taken out.old;
-        taken_after = O.taken out.new;
-        faults_before = O.faults out.old;
-        faults_after = O.faults out.new;
-      };
-      err = record {
-        taken_before = E.taken err.old;
-        taken_after = E.taken err.new;
-        faults_before = E.faults err.old;
-        faults_after = E.faults err.new;
-      };
+      input = input_of L.told L.asked L.faults files.old files.new;
+      out = output_of O.taken O.faults out.old out.new;
+      err = output_of E.taken E.faults err.old err.new;
       end = result.end;
     }) }
     ensures status { result.status ≡ status_of result.end }

@@ -2,7 +2,7 @@ ghost use Rattle.std.specs.Prelude.{◌≡◌, ◌≤◌, ◌<◌, ◌^◌, ◌�
 ghost use Rattle.image_model.specs.Reading.{image_of};
 ghost use Rattle.command_line.specs.Line.{run};
 ghost use Rattle.det_cli.specs.Status.{IsDone};
-ghost use Rattle.det_cli.specs.Files.{Expected};
+ghost use Rattle.det_cli.specs.Files.{Expected, input_of};
 ghost use Rattle.det_cli.specs.Commands.{bad_image, bad_script, expected_of_root, script_step, settled_root, steps_of, whole_of};
 ghost use Rattle.det_cli.specs.Stages.{Loaded, Judged, Reads};
 
@@ -27,13 +27,7 @@ pub(crate) fn load<L: Loader>(
 ) -> Result<Vec<u8>, End>
     requires { room < 2 ^ 32 }
     ensures loaded { Loaded (λ v. v.items) name.now room
-        (record {
-          told = L.told files.old;
-          asked_before = L.asked files.old;
-          asked_after = L.asked files.new;
-          faults_before = L.faults files.old;
-          faults_after = L.faults files.new;
-        }) result }
+        (input_of L.told L.asked L.faults files.old files.new) result }
     ensures later { L.faults files.old ≤ L.faults files.new }
     ensures told { (other : List ℕ) → L.told files.new other ≡ L.told files.old other }
 {
@@ -68,13 +62,7 @@ fn parse_script(bytes: &[u8]) -> Result<(), End>
 // Loads a script and reads it. Where it is not refused, what is expected is what the files before it make.
 fn read_script<L: Loader>(alloc: Global, files: &mut L, script: &str) -> Result<(), End>
     ensures reads { (e : Expected) → IsDone e.end → Reads (λ _. e) (script_step script.now ∷ []) (λ _. Some e)
-        (record {
-          told = L.told files.old;
-          asked_before = L.asked files.old;
-          asked_after = L.asked files.new;
-          faults_before = L.faults files.old;
-          faults_after = L.faults files.new;
-        }) result }
+        (input_of L.told L.asked L.faults files.old files.new) result }
     ensures later { L.faults files.old ≤ L.faults files.new }
 {
     let bytes = match load(alloc, files, script, SCRIPT_ROOM) {
@@ -94,13 +82,7 @@ pub(crate) fn read_run<L: Loader>(
 ) -> Result<Image, End>
     ensures reads { (fuel : ℕ) → Reads (λ i. expected_of_root (settled_root i fuel))
         (steps_of (run fuel image.now script.now)) (whole_of (run fuel image.now script.now))
-        (record {
-          told = L.told files.old;
-          asked_before = L.asked files.old;
-          asked_after = L.asked files.new;
-          faults_before = L.faults files.old;
-          faults_after = L.faults files.new;
-        }) result }
+        (input_of L.told L.asked L.faults files.old files.new) result }
     ensures later { L.faults files.old ≤ L.faults files.new }
 {
     let image_bytes = match load(alloc, files, image, IMAGE_ROOM) {

@@ -2,6 +2,8 @@ ghost use Rattle.std.specs.Prelude.{◌≡◌, ◌≤◌, true, IfOk};
 ghost use Rattle.space_model.specs.Space.{is_settled};
 ghost use Rattle.command_line.specs.Line.{run};
 ghost use Rattle.det_cli.specs.Commands.{end_of, expected_of_root, settled_root};
+ghost use Rattle.det_cli.specs.Files.{input_of};
+ghost use Rattle.det_cli.specs.Writing.{output_of};
 ghost use Rattle.det_cli.specs.Answers.{Course, Writes};
 
 use crate::end::End;
@@ -52,18 +54,8 @@ pub(crate) fn write_end(error: SinkError) -> End
 fn write_root<O: Sink, E: Sink>(alloc: Global, space: &Space, out: &mut O, err: &mut E) -> End
     requires { is_settled space.now ≡ true }
     ensures writes { Writes (expected_of_root space.now)
-        (record {
-          taken_before = O.taken out.old;
-          taken_after = O.taken out.new;
-          faults_before = O.faults out.old;
-          faults_after = O.faults out.new;
-        })
-        (record {
-          taken_before = E.taken err.old;
-          taken_after = E.taken err.new;
-          faults_before = E.faults err.old;
-          faults_after = E.faults err.new;
-        }) result }
+        (output_of O.taken O.faults out.old out.new)
+        (output_of E.taken E.faults err.old err.new) result }
     ensures out_later { O.faults out.old ≤ O.faults out.new }
     ensures err_later { E.faults err.old ≤ E.faults err.new }
 {
@@ -89,18 +81,8 @@ fn settle_and_write<O: Sink, E: Sink>(
 ) -> End
     requires { 1 ≤ fuel }
     ensures writes { Writes (expected_of_root (settled_root image.now fuel))
-        (record {
-          taken_before = O.taken out.old;
-          taken_after = O.taken out.new;
-          faults_before = O.faults out.old;
-          faults_after = O.faults out.new;
-        })
-        (record {
-          taken_before = E.taken err.old;
-          taken_after = E.taken err.new;
-          faults_before = E.faults err.old;
-          faults_after = E.faults err.new;
-        }) result }
+        (output_of O.taken O.faults out.old out.new)
+        (output_of E.taken E.faults err.old err.new) result }
     ensures out_later { O.faults out.old ≤ O.faults out.new }
     ensures err_later { E.faults err.old ≤ E.faults err.new }
 {
@@ -122,25 +104,9 @@ pub(crate) fn run_image<L: Loader, O: Sink, E: Sink>(
 ) -> End
     requires { 1 ≤ fuel }
     ensures course { Course (run fuel image.now script.now)
-        (record {
-          told = L.told files.old;
-          asked_before = L.asked files.old;
-          asked_after = L.asked files.new;
-          faults_before = L.faults files.old;
-          faults_after = L.faults files.new;
-        })
-        (record {
-          taken_before = O.taken out.old;
-          taken_after = O.taken out.new;
-          faults_before = O.faults out.old;
-          faults_after = O.faults out.new;
-        })
-        (record {
-          taken_before = E.taken err.old;
-          taken_after = E.taken err.new;
-          faults_before = E.faults err.old;
-          faults_after = E.faults err.new;
-        }) result }
+        (input_of L.told L.asked L.faults files.old files.new)
+        (output_of O.taken O.faults out.old out.new)
+        (output_of E.taken E.faults err.old err.new) result }
     ensures files_later { L.faults files.old ≤ L.faults files.new }
     ensures out_later { O.faults out.old ≤ O.faults out.new }
     ensures err_later { E.faults err.old ≤ E.faults err.new }
