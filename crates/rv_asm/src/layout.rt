@@ -3,6 +3,7 @@ ghost use Rattle.rv_asm.specs.Sound.{IsStatement, IsNear};
 ghost use Rattle.source_model.specs.Layout as layouts;
 
 use crate::line::statement_in;
+use memory_model::{GREATEST_PERMISSION, PAGE_SIZE};
 use source_model::{Layout, Statement};
 
 /// How many bytes a statement has.
@@ -50,7 +51,9 @@ fn bytes_misplaced(here: Layout, count: u64) -> bool
 fn segment_misplaced(here: Layout, address: u32, permission: u8) -> bool
     ensures { result ≡ layouts.segment_misplaced here address permission }
 {
-    permission > 3 || u64::from(address / 4096 * 4096) < here.used || here.begun >= 64
+    permission > GREATEST_PERMISSION
+        || u64::from(address / PAGE_SIZE * PAGE_SIZE) < here.used
+        || here.begun >= 64
 }
 
 /// Whether a statement's bytes or its segment cannot stand here.
