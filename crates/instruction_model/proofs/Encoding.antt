@@ -13,7 +13,7 @@ use Rattle.instruction_model.specs.declared.Instruction.{Instruction}
 use Rattle.instruction_model.specs.declared.Instruction.TheVariants.{Lui, Auipc, Jal, Jalr, Branch, Load, Store, OperateImmediate, Operate, Fence, Ecall, Ebreak}
 use Rattle.instruction_model.specs.Word.{opcode, rd, funct3, rs1, rs2, funct7, immediate_i, immediate_s, immediate_b, immediate_u, immediate_j}
 use Rattle.instruction_model.specs.Form.{HasFields, IsImmediateOf, IsSigned}
-use Rattle.instruction_model.specs.Instruction.{spelled, IsSpelled}
+use Rattle.instruction_model.specs.Instruction.{instruction_of, IsSpelled}
 use Rattle.instruction_model.specs.Encoding.{r_form, i_form, s_form, b_form, u_form, j_form, operation_funct3, operation_funct7, comparison_funct3, load_funct3, store_funct3, immediate_word, word_of}
 
 -- ---- the numbers of the listing fit their fields
@@ -98,10 +98,10 @@ j_form-has d v hd h e = (omega arith, omega arith, omega arith, grind (arith, na
 -- ---- a word with an instruction's fields spells it
 
 abbrev IsWordOf : ℕ → Instruction → Type 0
-IsWordOf w i = (w < 2 ^ 32) × (spelled w ≡ Some i)
+IsWordOf w i = (w < 2 ^ 32) × (instruction_of w ≡ Some i)
 
 operate : (o : Operation) (w d a b : ℕ) → Has w 0b0110011 d (operation_funct3 o) a b (operation_funct7 o) → IsWordOf w (Operate o d a b)
-unfolding spelled
+unfolding instruction_of
 operate Add w d a b h = (h.0, rw h.1 (rw h.2 (rw h.3 cc)))
 operate Sub w d a b h = (h.0, rw h.1 (rw h.2 (rw h.3 cc)))
 operate Sll w d a b h = (h.0, rw h.1 (rw h.2 (rw h.3 cc)))
@@ -114,7 +114,7 @@ operate Or w d a b h = (h.0, rw h.1 (rw h.2 (rw h.3 cc)))
 operate And w d a b h = (h.0, rw h.1 (rw h.2 (rw h.3 cc)))
 
 load : (k : LoadKind) (w d a v : ℕ) → HasImmediate w 0b0000011 d (load_funct3 k) a v → IsWordOf w (Load k d a v)
-unfolding spelled
+unfolding instruction_of
 load Lb w d a v h = (h.0, rw h.1 (rw h.2 cc))
 load Lh w d a v h = (h.0, rw h.1 (rw h.2 cc))
 load Lw w d a v h = (h.0, rw h.1 (rw h.2 cc))
@@ -122,13 +122,13 @@ load Lbu w d a v h = (h.0, rw h.1 (rw h.2 cc))
 load Lhu w d a v h = (h.0, rw h.1 (rw h.2 cc))
 
 store : (width : Width) (w d a b g v : ℕ) → Has w 0b0100011 d (store_funct3 width) a b g → immediate_s w ≡ v → IsWordOf w (Store width a b v)
-unfolding spelled
+unfolding instruction_of
 store One w d a b g v h e = (h.0, rw h.1 (rw h.2 cc))
 store Two w d a b g v h e = (h.0, rw h.1 (rw h.2 cc))
 store Four w d a b g v h e = (h.0, rw h.1 (rw h.2 cc))
 
 branch : (c : Comparison) (w d a b g v : ℕ) → Has w 0b1100011 d (comparison_funct3 c) a b g → immediate_b w ≡ v → IsWordOf w (Branch c a b v)
-unfolding spelled
+unfolding instruction_of
 branch Beq w d a b g v h e = (h.0, rw h.1 (rw h.2 cc))
 branch Bne w d a b g v h e = (h.0, rw h.1 (rw h.2 cc))
 branch Blt w d a b g v h e = (h.0, rw h.1 (rw h.2 cc))
@@ -137,37 +137,37 @@ branch Bltu w d a b g v h e = (h.0, rw h.1 (rw h.2 cc))
 branch Bgeu w d a b g v h e = (h.0, rw h.1 (rw h.2 cc))
 
 upper : (w d v : ℕ) → HasUpper w 0b0110111 d v → IsWordOf w (Lui d v)
-unfolding spelled
+unfolding instruction_of
 upper w d v h = (h.0, rw h.1 cc)
 
 upper_of_counter : (w d v : ℕ) → HasUpper w 0b0010111 d v → IsWordOf w (Auipc d v)
-unfolding spelled
+unfolding instruction_of
 upper_of_counter w d v h = (h.0, rw h.1 cc)
 
 jump : (w d v : ℕ) → HasJump w d v → IsWordOf w (Jal d v)
-unfolding spelled
+unfolding instruction_of
 jump w d v h = (h.0, rw h.1 cc)
 
 jump_to_register : (w d a v : ℕ) → HasImmediate w 0b1100111 d 0b000 a v → IsWordOf w (Jalr d a v)
-unfolding spelled
+unfolding instruction_of
 jump_to_register w d a v h = (h.0, rw h.1 (rw h.2 cc))
 
 fence : IsWordOf 0x0ff0000f Fence
-unfolding spelled
+unfolding instruction_of
 fence = (omega arith, refl)
 
 call : IsWordOf 0x00000073 Ecall
-unfolding spelled
+unfolding instruction_of
 call = (omega arith, refl)
 
 break : IsWordOf 0x00100073 Ebreak
-unfolding spelled
+unfolding instruction_of
 break = (omega arith, refl)
 
 -- ---- operations with an immediate
 
 operate_immediate : (o : Operation) (d a v : ℕ) → d < 32 → a < 32 → IsImmediateOf o v → IsWordOf (immediate_word o d a v) (OperateImmediate o d a v)
-unfolding spelled
+unfolding instruction_of
 operate_immediate Add d a v hd ha h = let e = i_form-has 0b0010011 d 0b000 a v (omega arith) hd (omega arith) ha h in (e.0, rw e.1 (rw e.2 cc))
 operate_immediate Sub d a v hd ha h = absurd h
 operate_immediate Sll d a v hd ha h = let e = r_form-has 0b0010011 d 0b001 a v 0b0000000 (omega arith) hd (omega arith) ha h (omega arith) in (e.0, rw e.1 (rw e.2 (rw e.3 cc)))
@@ -201,7 +201,7 @@ word-is Ecall h = call
 word-is Ebreak h = break
 
 -- it spells the instruction
-pub word_of_spells : (i : Instruction) → HasFields i → spelled (word_of i) ≡ Some i
+pub word_of_spells : (i : Instruction) → HasFields i → instruction_of (word_of i) ≡ Some i
 word_of_spells i h = (word-is i h).1
 
 -- registers and immediates of its format: all that an instruction needs so that some word spells it

@@ -3,7 +3,7 @@ use Rattle.std.proofs.Common.{◌≡◌, ℕ, ◌<◌, ◌^◌, ◌%◌, true, f
 use Rattle.std.proofs.lemmas.Bool.Decides.{nat_tests}
 use Rattle.instruction_model.specs.Word.{rd, rs1, rs2, immediate_i, immediate_s, immediate_b, immediate_u, immediate_j}
 use Rattle.instruction_model.specs.declared.Instruction.{Instruction}
-use Rattle.instruction_model.specs.Instruction.{Row, takes, listing, first_of, spelled, IsSpelled}
+use Rattle.instruction_model.specs.Instruction.{Row, takes, listing, first_of, instruction_of, IsSpelled}
 use Rattle.instruction_model.specs.Form.{HasFields, IsSigned}
 
 infixr 40 ◌&◌
@@ -78,9 +78,9 @@ unfolding AllRows
 at_word [] w h all = tt
 at_word (r ∷ rows) w h all = (all.0 w h, at_word rows w h all.1)
 
-spelled-fields : (w : ℕ) → w < 2 ^ 32 → IfSome (spelled w) HasFields
-unfolding spelled
-spelled-fields w h = first_has HasFields listing w (at_word listing w h rows_make)
+instruction_of-fields : (w : ℕ) → w < 2 ^ 32 → IfSome (instruction_of w) HasFields
+unfolding instruction_of
+instruction_of-fields w h = first_has HasFields listing w (at_word listing w h rows_make)
 
 pub has_fields : (i : Instruction) → IsSpelled i → HasFields i
-has_fields i s = let f = spelled-fields s.0 s.1 in let e : spelled s.0 ≡ Some i = s.2 in let P : Option Instruction → Type 0 = λ o. IfSome o HasFields in subst P e f
+has_fields i s = let f = instruction_of-fields s.0 s.1 in let e : instruction_of s.0 ≡ Some i = s.2 in let P : Option Instruction → Type 0 = λ o. IfSome o HasFields in subst P e f

@@ -3,7 +3,7 @@ use Rattle.std.proofs.Common.{◌≡◌, ℕ, ◌%◌, ◌↔◌, ◌⊎◌, inl
 use Rattle.std.proofs.lemmas.Bool.Decides.{nat_tests}
 use Rattle.instruction_model.specs.Word.{opcode, funct3, funct7}
 use Rattle.instruction_model.specs.declared.Instruction.{Instruction}
-use Rattle.instruction_model.specs.Instruction.{Form, by_opcode, by_funct3, by_funct7, by_word, Row, takes, listing, first_of, spelled, SpelledAmong, Spells}
+use Rattle.instruction_model.specs.Instruction.{Form, by_opcode, by_funct3, by_funct7, by_word, Row, takes, listing, first_of, instruction_of, SpelledAmong, Spells}
 
 abbrev opcode_of : Form → ℕ
 opcode_of (by_opcode o) = o
@@ -126,6 +126,6 @@ some_row (r ∷ rows) w i h =
     elim (at_head (takes r.form w) (r.makes w) i (first_of rows w) h) [ inl t ↦ inl t | inr t ↦ inr (some_row rows w i t) ]
 
 -- a row makes an instruction of a word exactly where the word spells it
-pub spells_is_spelled : (w : ℕ) (i : Instruction) → Spells w i ↔ (spelled w ≡ Some i)
-unfolding Spells spelled
+pub spells_is_spelled : (w : ℕ) (i : Instruction) → Spells w i ↔ (instruction_of w ≡ Some i)
+unfolding Spells instruction_of
 spells_is_spelled w i = (only_row listing w i listing_apart, some_row listing w i)

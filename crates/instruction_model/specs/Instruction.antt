@@ -105,12 +105,12 @@ first_of [] w = None
 first_of (r ∷ rows) w = if takes r.form w then Some (r.makes w) else first_of rows w
 
 -- the instruction that a word spells
-unfoldable pub spelled : ℕ → Option Instruction
-spelled w = first_of listing w
+unfoldable pub instruction_of : ℕ → Option Instruction
+instruction_of w = first_of listing w
 
 -- some word spells it
 abbrev pub IsSpelled : Instruction → Type 0
-IsSpelled i = (w : ℕ) × (w < 2 ^ 32) × (spelled w ≡ Some i)
+IsSpelled i = (w : ℕ) × (w < 2 ^ 32) × (instruction_of w ≡ Some i)
 
 abbrev pub SpelledAmong : List Row → ℕ → Instruction → Type 0
 SpelledAmong [] w i = ⊥

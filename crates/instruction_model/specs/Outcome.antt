@@ -7,8 +7,8 @@ use Rattle.memory_model.specs.Memory.{Memory, byte_at, may_fetch, may_read, may_
 use Rattle.memory_model.specs.declared.Width.{Width}
 use Rattle.memory_model.specs.declared.Width.TheVariants.{One, Two, Four}
 use Rattle.instruction_model.specs.Word.{sign_extended}
-use Rattle.instruction_model.specs.Arithmetic.{operated, compares}
-use Rattle.instruction_model.specs.Instruction.{spelled}
+use Rattle.instruction_model.specs.Arithmetic.{operation_result, compares}
+use Rattle.instruction_model.specs.Instruction.{instruction_of}
 use Rattle.instruction_model.specs.declared.LoadKind.{LoadKind}
 use Rattle.instruction_model.specs.declared.LoadKind.TheVariants.{Lb, Lh, Lw, Lbu, Lhu}
 use Rattle.instruction_model.specs.declared.Instruction.{Instruction}
@@ -68,8 +68,8 @@ abbrev pub jumps : Registers → ℕ → Outcome
 jumps s target = if target % 4 == 0 then goes (record s { pc = target }) else traps 0 target
 
 -- the address of the next instruction goes into a register
-abbrev pub linked : Registers → ℕ → Registers
-linked s r = with_register s r (next_pc s)
+abbrev pub with_link : Registers → ℕ → Registers
+with_link s r = with_register s r (next_pc s)
 
 -- bit 0 cleared
 abbrev pub even : ℕ → ℕ
@@ -85,18 +85,18 @@ loaded_width Lw = Four
 loaded_width Lbu = One
 loaded_width Lhu = Two
 
-abbrev pub extended : LoadKind → ℕ → ℕ
-extended Lb v = sign_extended 8 v
-extended Lh v = sign_extended 16 v
-extended Lw v = v
-extended Lbu v = v
-extended Lhu v = v
+abbrev pub extension_of : LoadKind → ℕ → ℕ
+extension_of Lb v = sign_extended 8 v
+extension_of Lh v = sign_extended 16 v
+extension_of Lw v = v
+extension_of Lbu v = v
+extension_of Lhu v = v
 
 -- a load into x0 reads too
 abbrev pub loads : LoadKind → View → Registers → ℕ → ℕ → Outcome
 loads l m s r a =
     if a % width_bytes (loaded_width l) == 0 then
-    (if m.may_read a then goes (results s r (extended l (number_from m.byte (loaded_width l) a)))
+    (if m.may_read a then goes (results s r (extension_of l (number_from m.byte (loaded_width l) a)))
     else traps 5 a)
     else traps 4 a
 
@@ -110,13 +110,13 @@ writes width m s a v =
 abbrev pub perform : Instruction → View → Registers → Outcome
 perform (Lui r v) m s = goes (results s r v)
 perform (Auipc r v) m s = goes (results s r (offset s.pc v))
-perform (Jal r v) m s = jumps (linked s r) (offset s.pc v)
-perform (Jalr r a v) m s = jumps (linked s r) (even (offset (register s a) v))
+perform (Jal r v) m s = jumps (with_link s r) (offset s.pc v)
+perform (Jalr r a v) m s = jumps (with_link s r) (even (offset (register s a) v))
 perform (Branch c a b v) m s = branches (compares c (register s a) (register s b)) s (offset s.pc v)
 perform (Load l r a v) m s = loads l m s r (offset (register s a) v)
 perform (Store width a b v) m s = writes width m s (offset (register s a) v) (register s b)
-perform (OperateImmediate o r a v) m s = goes (results s r (operated o (register s a) v))
-perform (Operate o r a b) m s = goes (results s r (operated o (register s a) (register s b)))
+perform (OperateImmediate o r a v) m s = goes (results s r (operation_result o (register s a) v))
+perform (Operate o r a b) m s = goes (results s r (operation_result o (register s a) (register s b)))
 perform Fence m s = goes (onward s)
 perform Ecall m s = calls
 perform Ebreak m s = traps 3 s.pc
@@ -129,6 +129,6 @@ perform_word w (Some i) m s = perform i m s
 unfoldable pub outcome : View → Registers → Outcome
 outcome m s =
     if s.pc % 4 == 0 then
-    (if m.may_fetch s.pc then perform_word (number_from m.byte Four s.pc) (spelled (number_from m.byte Four s.pc)) m s
+    (if m.may_fetch s.pc then perform_word (number_from m.byte Four s.pc) (instruction_of (number_from m.byte Four s.pc)) m s
     else traps 1 s.pc)
     else traps 0 s.pc

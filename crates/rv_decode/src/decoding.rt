@@ -1,6 +1,6 @@
 ghost use Rattle.std.specs.Prelude.{◌≡◌, ◌<◌, ◌^◌, ◌%◌, ◌/◌, Option, Some, None};
 ghost use Rattle.instruction_model.specs.Word as word_fields;
-ghost use Rattle.instruction_model.specs.Instruction.{spelled};
+ghost use Rattle.instruction_model.specs.Instruction.{instruction_of};
 
 use crate::fields::{
     immediate_b, immediate_i, immediate_j, immediate_s, immediate_u, rd, rs1, rs2,
@@ -8,10 +8,10 @@ use crate::fields::{
 use instruction_model::{Comparison, Instruction, LoadKind, Operation, Width};
 
 #[inline(always)]
-#[tactic(auto, unfolding(instruction_model::specs::Instruction::spelled))]
+#[tactic(auto, unfolding(instruction_model::specs::Instruction::instruction_of))]
 fn decode_jump_to_register(word: u32) -> Option<Instruction>
     requires { word_fields.opcode word ≡ 0b1100111 }
-    ensures { result ≡ spelled word }
+    ensures { result ≡ instruction_of word }
 {
     match word / 4096 % 8 {
         0b000 => Some(Instruction::Jalr {
@@ -24,10 +24,10 @@ fn decode_jump_to_register(word: u32) -> Option<Instruction>
 }
 
 #[inline(always)]
-#[tactic(auto, unfolding(instruction_model::specs::Instruction::spelled))]
+#[tactic(auto, unfolding(instruction_model::specs::Instruction::instruction_of))]
 fn decode_branch(word: u32) -> Option<Instruction>
     requires { word_fields.opcode word ≡ 0b1100011 }
-    ensures { result ≡ spelled word }
+    ensures { result ≡ instruction_of word }
 {
     let comparison = match word / 4096 % 8 {
         0b000 => Comparison::Beq,
@@ -47,10 +47,10 @@ fn decode_branch(word: u32) -> Option<Instruction>
 }
 
 #[inline(always)]
-#[tactic(auto, unfolding(instruction_model::specs::Instruction::spelled))]
+#[tactic(auto, unfolding(instruction_model::specs::Instruction::instruction_of))]
 fn decode_load(word: u32) -> Option<Instruction>
     requires { word_fields.opcode word ≡ 0b0000011 }
-    ensures { result ≡ spelled word }
+    ensures { result ≡ instruction_of word }
 {
     let kind = match word / 4096 % 8 {
         0b000 => LoadKind::Lb,
@@ -69,10 +69,10 @@ fn decode_load(word: u32) -> Option<Instruction>
 }
 
 #[inline(always)]
-#[tactic(auto, unfolding(instruction_model::specs::Instruction::spelled))]
+#[tactic(auto, unfolding(instruction_model::specs::Instruction::instruction_of))]
 fn decode_store(word: u32) -> Option<Instruction>
     requires { word_fields.opcode word ≡ 0b0100011 }
-    ensures { result ≡ spelled word }
+    ensures { result ≡ instruction_of word }
 {
     let width = match word / 4096 % 8 {
         0b000 => Width::One,
@@ -89,11 +89,11 @@ fn decode_store(word: u32) -> Option<Instruction>
 }
 
 #[inline(always)]
-#[tactic(auto, unfolding(instruction_model::specs::Instruction::spelled))]
+#[tactic(auto, unfolding(instruction_model::specs::Instruction::instruction_of))]
 fn decode_shift_immediate(word: u32) -> Option<Instruction>
     requires opcode { word_fields.opcode word ≡ 0b0010011 }
     requires funct3 { word_fields.funct3 word % 4 ≡ 1 }
-    ensures { result ≡ spelled word }
+    ensures { result ≡ instruction_of word }
 {
     let operation = match (word / 33_554_432, word / 4096 % 8) {
         (0b000_0000, 0b001) => Operation::Sll,
@@ -110,10 +110,10 @@ fn decode_shift_immediate(word: u32) -> Option<Instruction>
 }
 
 #[inline(always)]
-#[tactic(auto, unfolding(instruction_model::specs::Instruction::spelled))]
+#[tactic(auto, unfolding(instruction_model::specs::Instruction::instruction_of))]
 fn decode_operate_immediate(word: u32) -> Option<Instruction>
     requires { word_fields.opcode word ≡ 0b0010011 }
-    ensures { result ≡ spelled word }
+    ensures { result ≡ instruction_of word }
 {
     let operation = match word / 4096 % 8 {
         0b000 => Operation::Add,
@@ -133,10 +133,10 @@ fn decode_operate_immediate(word: u32) -> Option<Instruction>
 }
 
 #[inline(always)]
-#[tactic(auto, unfolding(instruction_model::specs::Instruction::spelled))]
+#[tactic(auto, unfolding(instruction_model::specs::Instruction::instruction_of))]
 fn decode_operate(word: u32) -> Option<Instruction>
     requires { word_fields.opcode word ≡ 0b0110011 }
-    ensures { result ≡ spelled word }
+    ensures { result ≡ instruction_of word }
 {
     let operation = match (word / 33_554_432, word / 4096 % 8) {
         (0b000_0000, 0b000) => Operation::Add,
@@ -160,10 +160,10 @@ fn decode_operate(word: u32) -> Option<Instruction>
 }
 
 #[inline(always)]
-#[tactic(auto, unfolding(instruction_model::specs::Instruction::spelled))]
+#[tactic(auto, unfolding(instruction_model::specs::Instruction::instruction_of))]
 fn decode_fence(word: u32) -> Option<Instruction>
     requires { word_fields.opcode word ≡ 0b0001111 }
-    ensures { result ≡ spelled word }
+    ensures { result ≡ instruction_of word }
 {
     match word / 4096 % 8 {
         0b000 => Some(Instruction::Fence),
@@ -172,10 +172,10 @@ fn decode_fence(word: u32) -> Option<Instruction>
 }
 
 #[inline(always)]
-#[tactic(auto, unfolding(instruction_model::specs::Instruction::spelled))]
+#[tactic(auto, unfolding(instruction_model::specs::Instruction::instruction_of))]
 fn decode_environment(word: u32) -> Option<Instruction>
     requires { word_fields.opcode word ≡ 0b1110011 }
-    ensures { result ≡ spelled word }
+    ensures { result ≡ instruction_of word }
 {
     match word {
         0x0000_0073 => Some(Instruction::Ecall),
@@ -185,9 +185,9 @@ fn decode_environment(word: u32) -> Option<Instruction>
 }
 
 #[inline(always)]
-#[tactic(auto, unfolding(instruction_model::specs::Instruction::spelled))]
+#[tactic(auto, unfolding(instruction_model::specs::Instruction::instruction_of))]
 pub(crate) fn instruction_of(word: u32) -> Option<Instruction>
-    ensures { result ≡ spelled word }
+    ensures { result ≡ instruction_of word }
 {
     match word % 128 {
         0b0110111 => Some(Instruction::Lui {

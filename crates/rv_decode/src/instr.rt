@@ -1,7 +1,7 @@
 ghost use Rattle.std.specs.Prelude.{◌≡◌, ◌↔◌, ◌<◌, ◌^◌, Option, Some, None};
 ghost use Rattle.instruction_model.specs.Encoding as encoding;
 ghost use Rattle.instruction_model.specs.Form.{HasFields};
-ghost use Rattle.instruction_model.specs.Instruction.{spelled, Spells};
+ghost use Rattle.instruction_model.specs.Instruction.{instruction_of, Spells};
 ghost use Rattle.instruction_model.specs.declared.Instruction.{Instruction};
 
 use crate::decoding::instruction_of;
@@ -54,7 +54,7 @@ impl Instr {
 #[inline(always)]
 #[tactic(auto, using(instruction_model::proofs::Listing::spells_is_spelled))]
 pub fn decode(word: u32) -> Option<Instr>
-    ensures value { result ≡ spelled word }
+    ensures value { result ≡ instruction_of word }
     ensures row { (i : Instruction) → Spells word i ↔ (result ≡ Some i) }
 {
     match instruction_of(word) {
@@ -68,7 +68,7 @@ pub fn decode(word: u32) -> Option<Instr>
 #[tactic(auto, using(instruction_model::proofs::Encoding::word_of_spells))]
 pub fn encode(instr: Instr) -> u32
     ensures word { result ≡ encoding.word_of instr }
-    ensures spelled { spelled result ≡ Some instr }
+    ensures spelled { instruction_of result ≡ Some instr }
 {
     word_of(instr.instruction())
 }

@@ -13,8 +13,8 @@ fn is_less(a: u32, b: u32) -> bool
 }
 
 #[inline(always)]
-pub(crate) fn operated(operation: Operation, a: u32, b: u32) -> u32
-    ensures { result ≡ arithmetic.operated operation a b }
+pub(crate) fn operation_result(operation: Operation, a: u32, b: u32) -> u32
+    ensures { result ≡ arithmetic.operation_result operation a b }
 {
     match operation {
         Operation::Add => a.wrapping_add(b),
@@ -68,9 +68,9 @@ pub(crate) fn loaded_width(kind: LoadKind) -> Width
 
 // A number of the kind's width as a register holds it.
 #[inline(always)]
-pub(crate) fn extended(kind: LoadKind, value: u32) -> u32
+pub(crate) fn extension_of(kind: LoadKind, value: u32) -> u32
     requires { value < 2 ^ (8 * memory.width_bytes (outcome.loaded_width kind)) }
-    ensures { result ≡ outcome.extended kind value }
+    ensures { result ≡ outcome.extension_of kind value }
 {
     match kind {
         LoadKind::Lb => arithmetic_shift(value << 24, 24),

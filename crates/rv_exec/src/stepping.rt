@@ -4,7 +4,7 @@ ghost use Rattle.instruction_model.specs.Outcome as outcome;
 ghost use Rattle.instruction_model.specs.Outcome.{Outcome, goes};
 ghost use Rattle.rv_exec.specs.Steps.{Moves, Steps};
 
-use crate::arithmetic::{compares, extended, loaded_width, operated, width_bytes};
+use crate::arithmetic::{compares, extension_of, loaded_width, operation_result, width_bytes};
 use crate::bus::{Bus, StoreFault};
 use crate::regs::Regs;
 use rv_decode::{Instruction, LoadKind, Width, decode};
@@ -46,7 +46,7 @@ fn load<B: Bus>(
     match bus.load(at, width) {
         Ok(value) => {
             regs.advance();
-            regs.set_register(rd, extended(kind, value));
+            regs.set_register(rd, extension_of(kind, value));
             Ok(Stepped::Next)
         }
         Err(fault) => trap(fault.cause, fault.addr),
@@ -80,7 +80,7 @@ fn store<B: Bus>(
 #[inline(always)]
 fn jump(regs: &mut Regs, rd: u8, target: u32) -> Result<Stepped, AllocError>
     requires { rd < 32 }
-    ensures { Moves (outcome.jumps (outcome.linked regs.old rd) target) result regs.old regs.new }
+    ensures { Moves (outcome.jumps (outcome.with_link regs.old rd) target) result regs.old regs.new }
 {
     if target % 4 != 0 {
         return trap(0, target);
@@ -176,7 +176,7 @@ pub fn perform<B: Bus>(
             rs1,
             immediate,
         } => {
-            let value = operated(operation, regs.register(rs1), immediate);
+            let value = operation_result(operation, regs.register(rs1), immediate);
             finish(regs, rd, value)
         }
         Instruction::Operate {
@@ -185,7 +185,7 @@ pub fn perform<B: Bus>(
             rs1,
             rs2,
         } => {
-            let value = operated(operation, regs.register(rs1), regs.register(rs2));
+            let value = operation_result(operation, regs.register(rs1), regs.register(rs2));
             finish(regs, rd, value)
         }
         Instruction::Fence => {

@@ -8,7 +8,7 @@ use Rattle.memory_model.specs.declared.Width.{Width}
 use Rattle.memory_model.specs.declared.Width.TheVariants.{One, Two, Four}
 use Rattle.memory_model.specs.Memory.{Memory, byte_at, number_from, width_bytes, with_number}
 use Rattle.instruction_model.specs.declared.Instruction.{Instruction}
-use Rattle.instruction_model.specs.Instruction.{spelled}
+use Rattle.instruction_model.specs.Instruction.{instruction_of}
 use Rattle.instruction_model.specs.Outcome.{View, view_of, outcome}
 use Rattle.rv_exec.specs.Access.{stored_byte}
 use Rattle.space_mem.specs.Stored.{byte_stored, may_fetch_stored}
@@ -41,7 +41,7 @@ stored_agrees m es a w v aligned agrees lacks = (
   agrees.0,
   λ k d h whole.
       let old = agrees.1 k d h whole in
-      (old.0, (may_fetch_stored m a w v _ ∙ old.1.0, ap spelled (word_stays m a w v _ aligned whole (lacks k d h)) ∙ old.1.1)),
+      (old.0, (may_fetch_stored m a w v _ ∙ old.1.0, ap instruction_of (word_stays m a w v _ aligned whole (lacks k d h)) ∙ old.1.1)),
 )
 
 -- an instruction that is known stands there

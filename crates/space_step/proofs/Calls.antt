@@ -5,7 +5,7 @@ use Rattle.memory_model.specs.Memory.{number_from, width_bytes}
 use Rattle.instruction_model.specs.declared.Instruction.{Instruction}
 use Rattle.instruction_model.specs.declared.Instruction.TheVariants.{Lui, Auipc, Jal, Jalr, Branch, Load, Store, OperateImmediate, Operate, Fence, Ecall, Ebreak}
 use Rattle.instruction_model.specs.declared.LoadKind.{LoadKind}
-use Rattle.instruction_model.specs.Outcome.{Registers, View, Outcome, goes, stores, traps, perform, jumps, branches, loads, writes, loaded_width, extended, results, onward, linked, offset, even, register}
+use Rattle.instruction_model.specs.Outcome.{Registers, View, Outcome, goes, stores, traps, perform, jumps, branches, loads, writes, loaded_width, extension_of, results, onward, with_link, offset, even, register}
 use Rattle.instruction_model.specs.Arithmetic.{compares}
 use Rattle.space_step.specs.Stretch.{is_call}
 
@@ -22,7 +22,7 @@ no_branch_calls false s target = refl
 
 no_load_calls : (l : LoadKind) (m : View) (s : Registers) (r a : ℕ) → is_call (loads l m s r a) ≡ false
 no_load_calls l m s r a =
-    let read = results s r (extended l (number_from m.byte (loaded_width l) a)) in
+    let read = results s r (extension_of l (number_from m.byte (loaded_width l) a)) in
     neither (a % width_bytes (loaded_width l) == 0) (if m.may_read a then goes read else traps 5 a) (traps 4 a)
     (neither (m.may_read a) (goes read) (traps 5 a) refl refl) refl
 
@@ -34,8 +34,8 @@ no_store_calls width m s a v =
 pub no_other_calls : (i : Instruction) (m : View) (s : Registers) → (i ≡ Ecall → ⊥) → is_call (perform i m s) ≡ false
 no_other_calls (Lui r v) m s h = refl
 no_other_calls (Auipc r v) m s h = refl
-no_other_calls (Jal r v) m s h = no_jump_calls (linked s r) (offset s.pc v)
-no_other_calls (Jalr r a v) m s h = no_jump_calls (linked s r) (even (offset (register s a) v))
+no_other_calls (Jal r v) m s h = no_jump_calls (with_link s r) (offset s.pc v)
+no_other_calls (Jalr r a v) m s h = no_jump_calls (with_link s r) (even (offset (register s a) v))
 no_other_calls (Branch c a b v) m s h = no_branch_calls (compares c (register s a) (register s b)) s (offset s.pc v)
 no_other_calls (Load l r a v) m s h = no_load_calls l m s r (offset (register s a) v)
 no_other_calls (Store width a b v) m s h = no_store_calls width m s (offset (register s a) v) (register s b)

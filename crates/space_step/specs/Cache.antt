@@ -3,7 +3,7 @@
 use Rattle.std.specs.Prelude.{◌≡◌, ℕ, ◌*◌, ◌/◌, ◌%◌, ◌<◌, true, List, length, slice_index_or, None, Some}
 use Rattle.memory_model.specs.Memory.{number_from}
 use Rattle.memory_model.specs.declared.Width.TheVariants.{Four}
-use Rattle.instruction_model.specs.Instruction.{spelled}
+use Rattle.instruction_model.specs.Instruction.{instruction_of}
 use Rattle.instruction_model.specs.declared.Instruction.{Instruction}
 use Rattle.instruction_model.specs.Outcome.{View}
 use Rattle.space_step.specs.declared.decode_cache.Entry.{Entry}
@@ -15,7 +15,7 @@ place a = a / 4 % ENTRIES
 
 -- the word at an address may be fetched, and spells this instruction
 abbrev pub IsKnown : View → ℕ → Instruction → Type 0
-IsKnown v a i = (v.may_fetch a ≡ true) × (spelled (number_from v.byte Four a) ≡ Some i)
+IsKnown v a i = (v.may_fetch a ≡ true) × (instruction_of (number_from v.byte Four a) ≡ Some i)
 
 -- an entry whose tag is a multiple of 4 stands at the place of its tag, and its instruction is that of its tag; another keeps nothing
 abbrev pub Holds : View → ℕ → Entry → Type 0
@@ -34,4 +34,4 @@ Lacks es a = (k : ℕ) (d : Entry) → k < ENTRIES → (slice_index_or es k d).t
 
 -- no instruction stands at an address
 abbrev pub HasNone : View → ℕ → Type 0
-HasNone v a = a % 4 ≡ 0 → v.may_fetch a ≡ true → spelled (number_from v.byte Four a) ≡ None
+HasNone v a = a % 4 ≡ 0 → v.may_fetch a ≡ true → instruction_of (number_from v.byte Four a) ≡ None
