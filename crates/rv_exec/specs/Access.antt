@@ -11,12 +11,12 @@ use Rattle.rv_exec.specs.declared.bus.StoreFault.{StoreFault}
 use Rattle.rv_exec.specs.declared.bus.StoreFault.TheVariants.{Fault as Refused, Memory}
 
 -- the word at an address, or a fetch fault
-abbrev pub fetched : View → ℕ → Result ℕ Fault
-fetched m a = if m.may_fetch a then Ok (number_from m.byte Four a) else Err (record { cause = 1; addr = a })
+abbrev pub fetch_result : View → ℕ → Result ℕ Fault
+fetch_result m a = if m.may_fetch a then Ok (number_from m.byte Four a) else Err (record { cause = 1; addr = a })
 
 -- the number at an address, or a load fault
-abbrev pub loaded : View → ℕ → Width → Result ℕ Fault
-loaded m a width = if m.may_read a then Ok (number_from m.byte width a) else Err (record { cause = 5; addr = a })
+abbrev pub load_result : View → ℕ → Width → Result ℕ Fault
+load_result m a width = if m.may_read a then Ok (number_from m.byte width a) else Err (record { cause = 5; addr = a })
 
 -- a store: done where the address may be written, unless memory is wanted; else a store fault; where it is not done, nothing
 -- changes

@@ -2,7 +2,7 @@ ghost use Rattle.std.specs.Prelude.{◌≡◌, ℕ, ◌<◌, ◌*◌, ◌%◌, �
 ghost use Rattle.instruction_model.specs.Outcome.{View};
 ghost use Rattle.memory_model.specs.Memory.{width_bytes};
 ghost use Rattle.memory_model.specs.declared.Width.{Width};
-ghost use Rattle.rv_exec.specs.Access.{fetched, loaded, IsStored, stored_byte};
+ghost use Rattle.rv_exec.specs.Access.{fetch_result, load_result, IsStored, stored_byte};
 
 use rv_decode::Width;
 
@@ -34,12 +34,12 @@ pub trait Bus {
     /// The word at a multiple of 4.
     fn fetch(&self, at: u32) -> Result<u32, Fault>
         requires { at % 4 ≡ 0 }
-        ensures { result ≡ fetched (view self.now) at };
+        ensures { result ≡ fetch_result (view self.now) at };
 
     /// The number of this width at a multiple of the width, zero extended.
     fn load(&self, at: u32, width: Width) -> Result<u32, Fault>
         requires { at % width_bytes width ≡ 0 }
-        ensures value { result ≡ loaded (view self.now) at width }
+        ensures value { result ≡ load_result (view self.now) at width }
         ensures zero_extended { IfOk result (λ v. v < 2 ^ (8 * width_bytes width)) };
 
     /// Stores the lowest bytes of `value` at a multiple of the width.
