@@ -1,9 +1,9 @@
 -- A call fails exactly where its number is among those that fail: numbers are counted from 1, whatever the calls answer.
 use Rattle.std.proofs.Common.{◌≡◌, ◌≤◌, ℕ, ◌+◌, ◌-◌, ◌^◌, min, List, [], ◌∷◌, length, Bool, true, false, nat_eq, refl, ap, lit≤, ◌∙◌, arith}
 use Rattle.std.specs.List.{list_any}
-use Rattle.det_host.specs.Held.{Calls, counted, after, after_calls, no_calls, FailsAt}
+use Rattle.det_host.specs.Held.{Calls, next_count, after, after_calls, no_calls, FailsAt}
 
-step_done : (c : Calls) (is_fault : Bool) → (after c is_fault).done ≡ counted c.done
+step_done : (c : Calls) (is_fault : Bool) → (after c is_fault).done ≡ next_count c.done
 step_done c true = refl
 step_done c false = refl
 
@@ -26,6 +26,6 @@ pub fails_at : (numbers : List ℕ) → FailsAt numbers (no_calls numbers)
 fails_at numbers before =
     let c = after_calls (no_calls numbers) before in
     let done : c.done ≡ min (length before) (2 ^ 64 - 1) = omega (arith, done_after (no_calls numbers) before (lit≤ tt)) in
-    let next : counted c.done ≡ min (length before + 1) (2 ^ 64 - 1) = omega (arith, done) in
+    let next : next_count c.done ≡ min (length before + 1) (2 ^ 64 - 1) = omega (arith, done) in
     ap (λ (k : ℕ). list_any (λ n. nat_eq n k) c.failing) next
     ∙ ap (λ (ns : List ℕ). list_any (λ n. nat_eq n (min (length before + 1) (2 ^ 64 - 1))) ns) (failing_after (no_calls numbers) before)

@@ -12,12 +12,12 @@ use Rattle.det_host.specs.declared.sink.SinkError.{SinkError}
 use Rattle.det_host.specs.declared.sink.SinkError.TheVariants.{Failed as NotWritten, Memory as NoRoom}
 
 -- a name and its bytes
-abbrev pub Named : Type 0
-Named = List ℕ × List ℕ
+abbrev pub NamedFile : Type 0
+NamedFile = List ℕ × List ℕ
 
 -- a count of 64 bits that stays at its end
-abbrev pub counted : ℕ → ℕ
-counted n = min (n + 1) (2 ^ 64 - 1)
+abbrev pub next_count : ℕ → ℕ
+next_count n = min (n + 1) (2 ^ 64 - 1)
 
 -- the numbers of the calls that fail, from 1, and how many calls and faults there were
 pub record Calls : Type 0 where
@@ -34,13 +34,13 @@ no_calls failing = record { failing = failing; done = 0; faults = 0 }
 
 -- whether the next call fails
 abbrev pub is_failing : Calls → Bool
-is_failing c = list_any (λ n. nat_eq n (counted c.done)) c.failing
+is_failing c = list_any (λ n. nat_eq n (next_count c.done)) c.failing
 
 abbrev pub after_call : Calls → Calls
-after_call c = record c { done = counted c.done }
+after_call c = record c { done = next_count c.done }
 
 abbrev pub with_fault : Calls → Calls
-with_fault c = record c { faults = counted c.faults }
+with_fault c = record c { faults = next_count c.faults }
 
 -- a call, and a fault where it is one
 abbrev pub after : Calls → Bool → Calls
@@ -57,24 +57,24 @@ FailsAt numbers c = (before : List Bool) → is_failing (after_calls c before) �
 
 -- files by name, the names asked for, and the calls
 pub record Files : Type 0 where
-  pub files : List Named
+  pub files : List NamedFile
   pub asked : List (List ℕ)
   pub calls : Calls
 
 abbrev pub coded_files : Coded Files
-coded_files = code_by (List Named × (List (List ℕ) × Calls))
+coded_files = code_by (List NamedFile × (List (List ℕ) × Calls))
     (coded× (coded_list (coded× (coded_list coded_ℕ) (coded_list coded_ℕ))) (coded× (coded_list (coded_list coded_ℕ)) coded_calls))
     (λ f. (f.files, (f.asked, f.calls)))
     (λ p. record { files = p.0; asked = p.1.0; calls = p.1.1 })
     (λ _. refl)
 
-abbrev pub named : String Global × Vec ℕ Global → Named
-named f = (string_bytes f.0, f.1.items)
+abbrev pub named_file : String Global × Vec ℕ Global → NamedFile
+named_file f = (string_bytes f.0, f.1.items)
 
 -- the bytes of the first file of a name
-abbrev pub held : List Named → List ℕ → Option (List ℕ)
-held [] name = None
-held (f ∷ fs) name = cond (pointwise nat_eq f.0 name) (Some f.1) (held fs name)
+abbrev pub file_bytes : List NamedFile → List ℕ → Option (List ℕ)
+file_bytes [] name = None
+file_bytes (f ∷ fs) name = cond (pointwise nat_eq f.0 name) (Some f.1) (file_bytes fs name)
 
 -- the bytes of a file, where it is there and there is room
 abbrev pub in_room : ℕ → Option (List ℕ) → Result (List ℕ) LoadError
@@ -83,7 +83,7 @@ in_room room (Some bytes) = if nat_lt room (length bytes) then Err (TooLarge (ro
 
 -- what the next call answers, memory aside
 abbrev pub answer : Files → List ℕ → ℕ → Result (List ℕ) LoadError
-answer f name room = if is_failing f.calls then Err Failed else in_room room (held f.files name)
+answer f name room = if is_failing f.calls then Err Failed else in_room room (file_bytes f.files name)
 
 -- a name more was asked for
 abbrev pub with_name : Files → List ℕ → Files
@@ -106,10 +106,6 @@ pub record Taking : Type 0 where
 abbrev pub coded_taking : Coded Taking
 coded_taking = code_by (ℕ × (List ℕ × Calls)) (coded× coded_ℕ (coded× (coded_list coded_ℕ) coded_calls)) (λ s. (s.most, (s.taken, s.calls)))
     (λ p. record { most = p.0; taken = p.1.0; calls = p.1.1 }) (λ _. refl)
-
--- what the next write answers, memory aside
-abbrev pub written : Taking → List ℕ → Result ℕ SinkError
-written s piece = if is_failing s.calls then Err NotWritten else Ok (min (length piece) s.most)
 
 -- taking none of a piece that is not empty
 abbrev pub is_nothing : ℕ → List ℕ → Bool

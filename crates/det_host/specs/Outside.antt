@@ -28,8 +28,8 @@ abbrev pub Takes : Option (List ℕ) → Option (List ℕ) → List ℕ → Type
 Takes old new bytes = IfSome old (λ before. new ≡ Some (before ++ bytes))
 
 -- n bytes of a reader were put behind those that were there; a reader that tells what it has left has lost them
-abbrev pub Gained : Option (List ℕ) → Option (List ℕ) → List ℕ → List ℕ → ℕ → Type 0
-Gained old new before after n = (got : List ℕ) × (length got ≡ n) × (after ≡ before ++ got) × Consumes old new got
+abbrev pub Gains : Option (List ℕ) → Option (List ℕ) → List ℕ → List ℕ → ℕ → Type 0
+Gains old new before after n = (got : List ℕ) × (length got ≡ n) × (after ≡ before ++ got) × Consumes old new got
 
 -- a reader that tells what it has left has lost some of its first bytes, so many at most
 abbrev pub LosesAtMost : ℕ → Option (List ℕ) → Option (List ℕ) → Type 0

@@ -1,5 +1,5 @@
 ghost use Rattle.std.specs.Prelude.{◌≡◌, ◌≤◌, ◌<◌, ◌^◌, List, [], ℕ, Option, Some, None, map, IfOk, IfErr, IfSome, IsNone, IsErrOf, ◌⊎◌, Ok, Err, IsTrue, false};
-ghost use Rattle.det_host.specs.Held.{held, named, answer, in_room, no_calls, after_load, FailsAt};
+ghost use Rattle.det_host.specs.Held.{file_bytes, named_file, answer, in_room, no_calls, after_load, FailsAt};
 ghost use Rattle.det_host.specs.Outside.{Rose, Loads, Asks};
 ghost use Rattle.det_host.specs.declared.loader.LoadError.{LoadError};
 
@@ -18,19 +18,19 @@ pub struct MemLoader {
 
 impl Model for MemLoader {
     ghost use Rattle.std.specs.Prelude.{map, string_bytes};
-    ghost use Rattle.det_host.specs.Held.{Files, coded_files, named};
+    ghost use Rattle.det_host.specs.Held.{Files, coded_files, named_file};
 
     ghost Value = { Files };
 
     ghost coded = { coded_files };
 
-    ghost view = { λ l. record { files = map named l.files.items; asked = map string_bytes l.asked.items; calls = l.calls } };
+    ghost view = { λ l. record { files = map named_file l.files.items; asked = map string_bytes l.asked.items; calls = l.calls } };
 }
 
 impl MemLoader {
     /// A loader of these files, which fails at the calls of these numbers, from 1. Of files of one name the first is loaded.
     pub fn new(alloc: Global, files: Vec<(String, Vec<u8>)>, failing: Vec<u64>) -> MemLoader
-        ensures holds { result ≡ record { files = map named files.items; asked = []; calls = no_calls failing.items } }
+        ensures holds { result ≡ record { files = map named_file files.items; asked = []; calls = no_calls failing.items } }
         ensures numbered { FailsAt failing.items result.calls }
     {
         MemLoader {
@@ -50,8 +50,8 @@ impl MemLoader {
     ) -> Result<Vec<u8>, LoadError>
         requires { room < 2 ^ 32 }
         ensures failing { IsTrue fails → result ≡ Err LoadError.Failed }
-        ensures ok { fails ≡ false → IfOk result (λ v. in_room room (held self.now.files name.now) ≡ Ok v.items) }
-        ensures err { fails ≡ false → IfErr result (λ e. (e ≡ LoadError.Memory) ⊎ (in_room room (held self.now.files name.now) ≡ Err e)) }
+        ensures ok { fails ≡ false → IfOk result (λ v. in_room room (file_bytes self.now.files name.now) ≡ Ok v.items) }
+        ensures err { fails ≡ false → IfErr result (λ e. (e ≡ LoadError.Memory) ⊎ (in_room room (file_bytes self.now.files name.now) ≡ Err e)) }
     {
         if fails {
             return Err(LoadError::Failed);
@@ -65,8 +65,8 @@ impl MemLoader {
 
 // The bytes of the first file of a name.
 fn find<'a>(files: &'a [(String, Vec<u8>)], name: &str) -> Option<&'a Vec<u8>>
-    ensures none { IsNone result → held (map named files.now) name.now ≡ None }
-    ensures some { IfSome result (λ v. held (map named files.now) name.now ≡ Some v.now.items) }
+    ensures none { IsNone result → file_bytes (map named_file files.now) name.now ≡ None }
+    ensures some { IfSome result (λ v. file_bytes (map named_file files.now) name.now ≡ Some v.now.items) }
 {
     for file in files {
         if file.0.as_str() == name {
@@ -93,7 +93,7 @@ fn copy_in_room(bytes: &[u8], alloc: Global, room: u64) -> Result<Vec<u8>, LoadE
 }
 
 impl Loader for MemLoader {
-    ghost told = { λ l name. held l.files name };
+    ghost told = { λ l name. file_bytes l.files name };
 
     ghost asked = { λ l. l.asked };
 
@@ -101,10 +101,10 @@ impl Loader for MemLoader {
 
     fn load(&mut self, alloc: Global, name: &str, room: u64) -> Result<Vec<u8>, LoadError>
         requires { room < 2 ^ 32 }
-        ensures loads { Loads (λ v. v.items) (held self.old.files name.now) room result }
+        ensures loads { Loads (λ v. v.items) (file_bytes self.old.files name.now) room result }
         ensures failed { IsErrOf result LoadError.Failed → Rose self.old.calls.faults self.new.calls.faults }
         ensures later { self.old.calls.faults ≤ self.new.calls.faults }
-        ensures told { (other : List ℕ) → held self.new.files other ≡ held self.old.files other }
+        ensures told { (other : List ℕ) → file_bytes self.new.files other ≡ file_bytes self.old.files other }
         ensures asked { Asks self.old.asked self.new.asked name.now result }
         ensures ok { IfOk result (λ v. answer self.old name.now room ≡ Ok v.items) }
         ensures err { IfErr result (λ e. (e ≡ LoadError.Memory) ⊎ (answer self.old name.now room ≡ Err e)) }

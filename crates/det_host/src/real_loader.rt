@@ -1,6 +1,6 @@
 ghost use Rattle.std.specs.Prelude.{◌≡◌, ◌≤◌, ◌<◌, ◌^◌, ◌+◌, List, [], ℕ, Option, None, map, string_bytes, vec_len, length, IfOk, OnErr, IfSome, IsErrOf, Ok};
 ghost use Rattle.std.specs.Io.KnownBytes.{IsAtEnd};
-ghost use Rattle.det_host.specs.Outside.{Gained, LosesAtMost};
+ghost use Rattle.det_host.specs.Outside.{Gains, LosesAtMost};
 
 use crate::{LoadError, Loader};
 use std::alloc::Global;
@@ -44,7 +44,7 @@ fn read_piece<R: Read>(
     bytes: &mut Vec<u8>,
 ) -> Result<usize, ReadStop>
     requires { (1 ≤ wanted) × (wanted ≤ 4096) }
-    ensures ok { IfOk result (λ n. Gained (R.remaining reader.old) (R.remaining reader.new) bytes.old.items bytes.new.items n) }
+    ensures ok { IfOk result (λ n. Gains (R.remaining reader.old) (R.remaining reader.new) bytes.old.items bytes.new.items n) }
     ensures most { IfOk result (λ n. n ≤ wanted) }
     ensures end { result ≡ Ok 0 → IsAtEnd (R.remaining reader.new) }
     ensures loses { LosesAtMost wanted (R.remaining reader.old) (R.remaining reader.new) }
