@@ -20,7 +20,7 @@ use Rattle.clap.specs.declared.builder.value_parser.ValueParser.TheVariants as v
 use Rattle.clap.specs.declared.error.kind.ErrorKind.TheVariants as kind
 use Rattle.clap.specs.declared.parser.matches.ValueSource.TheVariants.{DefaultValue}
 use Rattle.command_line.specs.declared.command.Command.{Command}
-use Rattle.command_line.specs.Line.{IsRefused, asm, asm_app, asm_line, Line, command_line, line_of, fuel_rule, line, needed, number_in, number_of, program_app, run_app, run_line, run_of}
+use Rattle.command_line.specs.Line.{IsRefused, asm, asm_app, asm_line, Line, command_line, line_of, fuel_rule, line, required_rule, number_in, number_of, program_app, run_app, run_line, run_of}
 use Rattle.command_line.proofs.Kept.{AreOurs, Fits, Good, GoodRows, IsOurs, found_is, level_good, or_else_none, with_values_good}
 
 -- ---- what rows have
@@ -77,10 +77,10 @@ abbrev fuel_filled : Rule
 fuel_filled = with_index 1 (filled fuel_rule)
 
 abbrev image_filled : Rule
-image_filled = with_index 1 (filled (needed (codes "image")))
+image_filled = with_index 1 (filled (required_rule (codes "image")))
 
 abbrev script_filled : Rule
-script_filled = with_index 2 (filled (needed (codes "script")))
+script_filled = with_index 2 (filled (required_rule (codes "script")))
 
 abbrev help_filled : Rule
 help_filled = with_index 3 (filled help_rule)
@@ -173,7 +173,7 @@ run_accepted words e =
 -- ---- `asm`
 
 abbrev source_filled : Rule
-source_filled = with_index 1 (filled (needed (codes "source")))
+source_filled = with_index 1 (filled (required_rule (codes "source")))
 
 abbrev asm_built : Shape
 asm_built = record (new_shape (codes "asm")) { rules = source_filled ∷ help_filled ∷ []; disable_help_subcommand = true; is_built = true }

@@ -24,8 +24,8 @@ abbrev pub number : Text → ℕ → ℕ → Text → Rule
 number id low high value = record (new_rule id) { long = Some id; defaults = value ∷ []; parser = Some (vp.Unsigned low high) }
 
 -- a word that has to be there
-abbrev pub needed : Text → Rule
-needed id = record (new_rule id) { required = true }
+abbrev pub required_rule : Text → Rule
+required_rule id = record (new_rule id) { required = true }
 
 abbrev pub with_rules : App → List Rule → App
 with_rules a [] = a
@@ -36,10 +36,10 @@ abbrev pub fuel_rule : Rule
 fuel_rule = number (codes "limit") 1 4294967295 (codes "1000000")
 
 unfoldable pub run_app : App
-run_app = with_rules (new_app (codes "run")) (fuel_rule ∷ needed (codes "image") ∷ needed (codes "script") ∷ [])
+run_app = with_rules (new_app (codes "run")) (fuel_rule ∷ required_rule (codes "image") ∷ required_rule (codes "script") ∷ [])
 
 unfoldable pub asm_app : App
-asm_app = with_rules (new_app (codes "asm")) (needed (codes "source") ∷ [])
+asm_app = with_rules (new_app (codes "asm")) (required_rule (codes "source") ∷ [])
 
 -- a command has to follow the program's name, and none of them is called `help`
 abbrev pub start : App

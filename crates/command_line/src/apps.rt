@@ -2,7 +2,7 @@
 
 ghost use Rattle.std.specs.Prelude.{IfOk};
 ghost use Rattle.command_line.specs.Line.{IsApp, IsRule, asm_app, program_app, run_app};
-ghost use Rattle.command_line.specs.Line.{needed as needed_rule, number as number_rule};
+ghost use Rattle.command_line.specs.Line.{required_rule, number as number_rule};
 
 use clap::builder::ValueParser;
 use clap::{Arg, Command};
@@ -17,8 +17,8 @@ fn number<'a>(alloc: Global, id: &'a str, low: u64, high: u64, value: &'a str) -
         .value_parser(ValueParser::unsigned(low, high))
 }
 
-fn needed<'a>(alloc: Global, id: &'a str) -> Arg<'a>
-    ensures { IsRule result (needed_rule id.entry.now) }
+fn required_argument<'a>(alloc: Global, id: &'a str) -> Arg<'a>
+    ensures { IsRule result (required_rule id.entry.now) }
 {
     Arg::new(alloc, id).required(true)
 }
@@ -27,8 +27,8 @@ fn run_command<'a>(alloc: Global) -> Result<Command<'a>, AllocError>
     ensures { IfOk result (λ c. IsApp c run_app) }
 {
     let fuel = number(alloc, "limit", 1, 4_294_967_295, "1000000");
-    let image = needed(alloc, "image");
-    let script = needed(alloc, "script");
+    let image = required_argument(alloc, "image");
+    let script = required_argument(alloc, "script");
     Command::new(alloc, "run")
         .arg(fuel)?
         .arg(image)?
@@ -38,7 +38,7 @@ fn run_command<'a>(alloc: Global) -> Result<Command<'a>, AllocError>
 fn asm_command<'a>(alloc: Global) -> Result<Command<'a>, AllocError>
     ensures { IfOk result (λ c. IsApp c asm_app) }
 {
-    let source = needed(alloc, "source");
+    let source = required_argument(alloc, "source");
     Command::new(alloc, "asm").arg(source)
 }
 

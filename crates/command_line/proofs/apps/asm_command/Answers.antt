@@ -7,4 +7,4 @@ use Rattle.command_line.proofs.apps.asm_command.Goals as goal
 
 pub returns : goal.returns
 unfolding asm_app
-returns c = IfOk-weaker c.arg.result _ _ (λ r adds. arg_added _ r (new_app (codes "asm")) _ _ adds (c.new.ensures.app, c.new.ensures.local) c.needed-source.ensures) c.arg.ensures
+returns c = IfOk-weaker c.arg.result _ _ (λ r adds. arg_added _ r (new_app (codes "asm")) _ _ adds (c.new.ensures.app, c.new.ensures.local) c.required_argument-source.ensures) c.arg.ensures
