@@ -6,11 +6,11 @@ use Rattle.space_model.specs.Stop.{is_stopped}
 use Rattle.space_model.specs.Space.{Space, space, Top, children_from, is_settled, are_settled}
 use Rattle.space_model.specs.Encoding.{size_of, sizes}
 use Rattle.report_model.specs.Report.{report_of, reports_of, line, path_text, state_text}
-use Rattle.det_report.specs.Paths.{steps_of, shown}
+use Rattle.det_report.specs.Paths.{steps_of, path_in_line}
 
-pub shown_steps : (path : List ℕ) → shown (steps_of path) ≡ path_text path
-shown_steps [] = refl
-shown_steps (n ∷ ns) = refl
+pub path_in_line_steps : (path : List ℕ) → path_in_line (steps_of path) ≡ path_text path
+path_in_line_steps [] = refl
+path_in_line_steps (n ∷ ns) = refl
 
 pub steps_of_child : (path : List ℕ) (n : ℕ) → steps_of path ++ 47 ∷ decimal n ≡ steps_of (path ++ n ∷ [])
 steps_of_child [] n = sym (append-nil (47 ∷ decimal n))
@@ -33,12 +33,12 @@ line_first : (t : Top) (es : List (ℕ × Space)) (path old : List ℕ) → (old
 unfolding report_of
 line_first t es path old = append_assoc old (line path t) (reports_of path (children_from es))
 
-pub left_first : (t : Top) (s : Space) (es : List (ℕ × Space)) (steps old text : List ℕ) → space t (children_from es) ≡ s → is_settled s ≡ true → text ≡ old ++ (shown steps ++ state_text t) → IsLeft steps old s text es
+pub left_first : (t : Top) (s : Space) (es : List (ℕ × Space)) (steps old text : List ℕ) → space t (children_from es) ≡ s → is_settled s ≡ true → text ≡ old ++ (path_in_line steps ++ state_text t) → IsLeft steps old s text es
 unfolding size_of
 left_first t s es steps old text e h is = subst (λ r. IsLeft steps old r text es) e record {
   settled = (both _ _ (ap is_settled e ∙ h)).1;
   below = omega arith;
-  rest = λ path same. ap (λ v. v ++ reports_of path (children_from es)) (is ∙ ap (λ v. old ++ (v ++ state_text t)) (ap shown same ∙ shown_steps path)) ∙ line_first t es path old;
+  rest = λ path same. ap (λ v. v ++ reports_of path (children_from es)) (is ∙ ap (λ v. old ++ (v ++ state_text t)) (ap path_in_line same ∙ path_in_line_steps path)) ∙ line_first t es path old;
 }
 
 pub left_child : (e : ℕ × Space) (es : List (ℕ × Space)) (steps old text : List ℕ) (s : Space) → IsLeft steps old s text (e ∷ es) → (size_of e.1 < size_of s) × (is_settled e.1 ≡ true)

@@ -9,6 +9,6 @@ abbrev pub steps_of : List ℕ → List ℕ
 steps_of path = flat_map (λ k. 47 ∷ decimal k) path
 
 -- as a line shows them: no steps as a slash
-abbrev pub shown : List ℕ → List ℕ
-shown [] = 47 ∷ []
-shown (c ∷ cs) = c ∷ cs
+abbrev pub path_in_line : List ℕ → List ℕ
+path_in_line [] = 47 ∷ []
+path_in_line (c ∷ cs) = c ∷ cs

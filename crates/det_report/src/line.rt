@@ -1,7 +1,7 @@
 ghost use Rattle.std.specs.Prelude.{◌≡◌, ◌++◌, IfOk, OnOk, true, string_bytes};
 ghost use Rattle.space_model.specs.Stop.{cause_word, is_stopped};
 ghost use Rattle.report_model.specs.Report.{state_text};
-ghost use Rattle.det_report.specs.Paths.{shown};
+ghost use Rattle.det_report.specs.Paths.{path_in_line};
 
 use space_tree::{Cause, Status, Top};
 use std::alloc::{AllocError, Global};
@@ -45,8 +45,8 @@ fn state_text(alloc: Global, top: &Top) -> Result<String, AllocError>
 }
 
 // A path as its line shows it: the root, which has no steps, as `/`.
-fn shown(steps: &str) -> &str
-    ensures { result.now ≡ shown steps.now }
+fn path_in_line(steps: &str) -> &str
+    ensures { result.now ≡ path_in_line steps.now }
 {
     if steps.is_empty() { "/" } else { steps }
 }
@@ -59,9 +59,9 @@ pub(crate) fn push_line(
     text: &mut Vec<u8>,
 ) -> Result<(), AllocError>
     requires { is_stopped top.now.status ≡ true }
-    ensures { OnOk result (text.new.items ≡ text.old.items ++ (shown steps.now ++ state_text top.now)) }
+    ensures { OnOk result (text.new.items ≡ text.old.items ++ (path_in_line steps.now ++ state_text top.now)) }
 {
     let state = state_text(alloc, top)?;
-    text.extend_from_slice(shown(steps).as_bytes())?;
+    text.extend_from_slice(path_in_line(steps).as_bytes())?;
     text.extend_from_slice(state.as_bytes())
 }
