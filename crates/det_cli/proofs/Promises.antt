@@ -5,30 +5,30 @@ use Rattle.command_line.specs.Line.{Line, line, IsRefused}
 use Rattle.det_cli.specs.declared.end.End.{End}
 use Rattle.det_cli.specs.declared.end.End.TheVariants.{NoMemory}
 use Rattle.det_cli.specs.Status.{status_of, IsDone}
-use Rattle.det_cli.specs.Writing.{Output, Untouched, Wrote}
-use Rattle.det_cli.specs.Files.{Expected, Input, told_files}
-use Rattle.det_cli.specs.Commands.{steps_of, whole_of, made, expect}
-use Rattle.det_cli.specs.Answers.{Writes, Ends, Course, NoCourse, Unasked, CourseOf, Answers, Later, Says, until, since, Program}
+use Rattle.det_cli.specs.Writing.{Output, IsUntouched, Wrote}
+use Rattle.det_cli.specs.Files.{Expectation, Input, told_files}
+use Rattle.det_cli.specs.Commands.{steps_of, whole_of, expectation_of_files, expectation_of_told}
+use Rattle.det_cli.specs.Answers.{Writes, Ends, Course, NoCourse, IsUnasked, CourseOf, Answers, Later, Says, until, since, Program}
 use Rattle.det_cli.proofs.Courses.{kind_of, not_usage, read_fault, write_fault, early, memory_after, memory_of, no_memory}
 use Rattle.det_cli.proofs.Told.{decides_all, asked_most}
 
 -- what the files that are told decide is what a command comes to, or it could not read them
-expected : (l : Line) (i : Input) (out err : Output) (end : End) (e : Expected) → Course l i out err end → expect l i.told ≡ Some e → Ends (Some e) i out err end ⊎ Ends None i out err end
-expected l i out err end e h p = elim (decides_all (steps_of l) (whole_of l) i.told h.found e h.files.as_told p) [
-  | inl none ↦ inr (subst (λ (o : Option Expected). Ends o i out err end) none h.ends)
-  | inr some ↦ inl (subst (λ (o : Option Expected). Ends o i out err end) some h.ends)
+expected : (l : Line) (i : Input) (out err : Output) (end : End) (e : Expectation) → Course l i out err end → expectation_of_told l i.told ≡ Some e → Ends (Some e) i out err end ⊎ Ends None i out err end
+expected l i out err end e h p = elim (decides_all (steps_of l) (whole_of l) i.told h.contents e h.files.as_told p) [
+  | inl none ↦ inr (subst (λ (o : Option Expectation). Ends o i out err end) none h.ends)
+  | inr some ↦ inl (subst (λ (o : Option Expectation). Ends o i out err end) some h.ends)
 ]
 
 abbrev pub Quiet : Input → Output → Output → Type 0
 Quiet i out err = Rose i.faults_before i.faults_after ⊎ Rose out.faults_before out.faults_after ⊎ Rose err.faults_before err.faults_after → ⊥
 
-complete_writing : (e : Expected) (i : Input) (out err : Output) (end : End) → Quiet i out err → Writes e out err end → ((end ≡ e.end) × Wrote out e.out × Wrote err e.err) ⊎ (end ≡ NoMemory)
+complete_writing : (e : Expectation) (i : Input) (out err : Output) (end : End) → Quiet i out err → Writes e out err end → ((end ≡ e.end) × Wrote out e.out × Wrote err e.err) ⊎ (end ≡ NoMemory)
 complete_writing e i out err end quiet (inl h) = inl h
 complete_writing e i out err end quiet (inr (inl (f, inl h))) = absurd (quiet (inr (inl h.0.1)))
 complete_writing e i out err end quiet (inr (inl (f, inr h))) = absurd (quiet (inr (inr h.1.1)))
 complete_writing e i out err end quiet (inr (inr h)) = inr h.0
 
-complete : (e : Expected) (i : Input) (out err : Output) (end : End) → IsDone e.end → Quiet i out err → Ends (Some e) i out err end ⊎ Ends None i out err end
+complete : (e : Expectation) (i : Input) (out err : Output) (end : End) → IsDone e.end → Quiet i out err → Ends (Some e) i out err end ⊎ Ends None i out err end
     → ((end ≡ e.end) × Wrote out e.out × Wrote err e.err) ⊎ (end ≡ NoMemory)
 complete e i out err end done quiet (inl (inl h)) = complete_writing e i out err end quiet h.1
 complete e i out err end done quiet (inl (inr h)) = absurd (omega (arith, done, h.0))
@@ -39,7 +39,7 @@ complete e i out err end done quiet (inr (u, w, inr m)) = inr m
 pub command_answers : (words : List (List ℕ)) (l : Line) (i : Input) (out err : Output) (end : End) → line words ≡ Some l → (IsRefused words → ⊥) → Course l i out err end → Later i out err
     → Answers (record { words = words; input = i; out = out; err = err; end = end })
 command_answers words l i out err end is good h later =
-    let kinds = kind_of (made l h.found) i out err end h.ends in
+    let kinds = kind_of (expectation_of_files l h.contents) i out err end h.ends in
     let same : (m : Line) → line words ≡ Some m → l ≡ m = λ m e. cc in
     record {
       usage = λ k. absurd (not_usage i out err end kinds k);
@@ -48,7 +48,7 @@ command_answers words l i out err end is good h later =
       expected = λ m e x p. expected m i out err end x (subst (λ (n : Line). Course n i out err end) (same m e) h) p;
       asked = λ m e j x p.
           let k : Course m i out err end = subst (λ (n : Line). Course n i out err end) (same m e) h in
-          asked_most (steps_of m) (whole_of m) k.found i j x k.files p;
+          asked_most (steps_of m) (whole_of m) k.contents i j x k.files p;
       complete = λ m e x p done quiet. complete x i out err end done quiet (expected m i out err end x (subst (λ (n : Line). Course n i out err end) (same m e) h) p);
       read_fault = read_fault i out err end kinds;
       write_fault = write_fault i out err end kinds;
@@ -74,8 +74,8 @@ no_answers words i out err end is bad h later = record {
 
 -- memory ran out behind a call that went so
 memory_answers : (words : List (List ℕ)) (i : Input) (out err : Output) → CourseOf (line words) i out err NoMemory
-    → ((l : Line) → line words ≡ Some l → (e : Expected) → expect l i.told ≡ Some e → Ends (Some e) i out err NoMemory ⊎ Ends None i out err NoMemory)
-    → ((l : Line) → line words ≡ Some l → (j : ℕ) (e : Expected) → made l (take j (told_files (steps_of l) i.told)) ≡ Some e → length i.asked_after ≤ length i.asked_before + j)
+    → ((l : Line) → line words ≡ Some l → (e : Expectation) → expectation_of_told l i.told ≡ Some e → Ends (Some e) i out err NoMemory ⊎ Ends None i out err NoMemory)
+    → ((l : Line) → line words ≡ Some l → (j : ℕ) (e : Expectation) → expectation_of_files l (take j (told_files (steps_of l) i.told)) ≡ Some e → length i.asked_after ≤ length i.asked_before + j)
     → Later i out err → Answers (record { words = words; input = i; out = out; err = err; end = NoMemory })
 memory_answers words i out err course told asked later = record {
   usage = λ k. cc;
@@ -91,7 +91,7 @@ memory_answers words i out err course told asked later = record {
 }
 
 -- memory ran out before the words were read
-pub unread_answers : (words : List (List ℕ)) (i : Input) (out err : Output) → Unasked i → Untouched out → Untouched err → Later i out err
+pub unread_answers : (words : List (List ℕ)) (i : Input) (out err : Output) → IsUnasked i → IsUntouched out → IsUntouched err → Later i out err
     → Answers (record { words = words; input = i; out = out; err = err; end = NoMemory })
 unread_answers words i out err none u w later =
     memory_answers words i out err (no_memory (line words) i out err none u w) (λ m e x p. inr (u, w, inr refl)) (λ m e j x p. omega (arith, ap length none.0)) later

@@ -5,15 +5,15 @@ use Rattle.det_host.specs.Outside.{Rose}
 use Rattle.det_cli.specs.declared.end.End.{End}
 use Rattle.det_cli.specs.declared.end.End.TheVariants.{Ret, Trapped, TooLarge, ReadFault, NoMemory}
 use Rattle.det_cli.specs.Status.{IsDone, IsBad}
-use Rattle.det_cli.specs.Files.{Expected, Step, Input, Agrees, AsTold, names_of, refusal_at, decided, judge}
+use Rattle.det_cli.specs.Files.{Expectation, Step, Input, Agrees, AsTold, names_of, refusal_at, refusal_or, judge}
 use Rattle.image_model.specs.declared.ImageError.{ImageError}
 use Rattle.image_model.specs.Image.{Image}
 use Rattle.image_model.specs.Reading.{image_of}
 use Rattle.space_model.specs.Space.{Space, top_of}
 use Rattle.space_model.specs.Stop.{has_returned}
 use Rattle.command_line.specs.Line.{run}
-use Rattle.det_cli.specs.Commands.{image_room, bad_image, image_step, script_step, expected_of_root, expected_of_image, settled_root, steps_of, whole_of}
-use Rattle.det_cli.specs.Stages.{LoadFault, Loaded, Judged, Led, Reads}
+use Rattle.det_cli.specs.Commands.{image_room, bad_image, image_step, script_step, expectation_of_root, expectation_of_image, settled_root, steps_of, whole_of}
+use Rattle.det_cli.specs.Stages.{LoadFault, LoadsFile, GivesRefusal, GivesExpectation, Reads}
 
 take_none : (j : ℕ) → take {A = List ℕ} j [] ≡ []
 take_none zero = refl
@@ -29,31 +29,31 @@ asks old new name names (inl e) = (0, (lit≤ tt, e ∙ sym (append-nil old)))
 asks old new name names (inr e) = (1, (lit≤ tt, e))
 
 -- before the first file is read nothing is decided
-pub open_at_start : (s : Step) (ss : List Step) (whole : List (List ℕ) → Option Expected) (j : ℕ) → judge (s ∷ ss) whole (take j []) ≡ None
+pub open_at_start : (s : Step) (ss : List Step) (whole : List (List ℕ) → Option Expectation) (j : ℕ) → judge (s ∷ ss) whole (take j []) ≡ None
 open_at_start s ss whole j = ap (λ (fs : List (List ℕ)). judge (s ∷ ss) whole fs) (take_none j)
 
-open_at_first : (s : Step) (ss : List Step) (whole : List (List ℕ) → Option Expected) (fs : List (List ℕ)) (k j : ℕ) → k ≤ 1 → j < k → judge (s ∷ ss) whole (take j fs) ≡ None
+open_at_first : (s : Step) (ss : List Step) (whole : List (List ℕ) → Option Expectation) (fs : List (List ℕ)) (k j : ℕ) → k ≤ 1 → j < k → judge (s ∷ ss) whole (take j fs) ≡ None
 open_at_first s ss whole fs k zero le lt = refl
 open_at_first s ss whole fs k (suc j) le lt = absurd (omega (arith, le, lt))
 
-not_read : {V : Type 0} (shows : V → Expected) (s : Step) (ss : List Step) (whole : List (List ℕ) → Option Expected) (i : Input) (f : End)
+not_read : {V : Type 0} (shows : V → Expectation) (s : Step) (ss : List Step) (whole : List (List ℕ) → Option Expectation) (i : Input) (f : End)
     → (i.asked_after ≡ i.asked_before) ⊎ (i.asked_after ≡ i.asked_before ++ s.name ∷ []) → ((f ≡ ReadFault) × Rose i.faults_before i.faults_after) ⊎ (f ≡ NoMemory)
     → Reads shows (s ∷ ss) whole i (Err f)
-not_read shows s ss whole i f asked led =
+not_read shows s ss whole i f asked gives =
     let a = asks i.asked_before i.asked_after s.name (names_of ss) asked in
     record {
-      found = [];
+      contents = [];
       files = record { as_told = tt; count = a.0; asked = a.1.1; most = a.1.0; in_order = λ j lt. open_at_start s ss whole j };
-      led = led;
+      gives = gives;
     }
 
-first_refused : {V : Type 0} (shows : V → Expected) (s : Step) (ss : List Step) (whole : List (List ℕ) → Option Expected) (i : Input) (f : End) (bytes : List ℕ)
+first_refused : {V : Type 0} (shows : V → Expectation) (s : Step) (ss : List Step) (whole : List (List ℕ) → Option Expectation) (i : Input) (f : End) (bytes : List ℕ)
     → (i.asked_after ≡ i.asked_before) ⊎ (i.asked_after ≡ i.asked_before ++ s.name ∷ []) → Agrees (i.told s.name) bytes → refusal_at s bytes ≡ Some f → IsBad f
     → Reads shows (s ∷ ss) whole i (Err f)
 first_refused shows s ss whole i f bytes asked agrees e bad =
     let a = asks i.asked_before i.asked_after s.name (names_of ss) asked in
     record {
-      found = bytes ∷ [];
+      contents = bytes ∷ [];
       files = record {
         as_told = (agrees, none_told ss i.told);
         count = a.0;
@@ -61,7 +61,7 @@ first_refused shows s ss whole i f bytes asked agrees e bad =
         most = omega (arith, a.1.0);
         in_order = λ j lt. open_at_first s ss whole (bytes ∷ []) a.0 j a.1.0 lt;
       };
-      led = subst (λ (r : Option End). Led shows (decided r (judge ss (λ rest. whole (bytes ∷ rest)) [])) i (Err f)) (sym e) (bad, inl refl);
+      gives = subst (λ (r : Option End). GivesExpectation shows (refusal_or r (judge ss (λ rest. whole (bytes ∷ rest)) [])) i (Err f)) (sym e) (bad, inl refl);
     }
 
 within : (s : Step) (bytes : List ℕ) → nat_lt s.room (length bytes) ≡ false → refusal_at s bytes ≡ s.refuse bytes
@@ -71,24 +71,24 @@ above : (s : Step) (bytes : List ℕ) → nat_lt s.room (length bytes) ≡ true 
 above s bytes large = ap (λ (b : Bool). cond b (Some (TooLarge (s.room + 1))) (s.refuse bytes)) large
 
 -- the first file could not be loaded
-pub load_stopped : {V : Type 0} (shows : V → Expected) (s : Step) (ss : List Step) (whole : List (List ℕ) → Option Expected) (i : Input) (f : End)
+pub load_stopped : {V : Type 0} (shows : V → Expectation) (s : Step) (ss : List Step) (whole : List (List ℕ) → Option Expectation) (i : Input) (f : End)
     → ((i.asked_after ≡ i.asked_before) ⊎ (i.asked_after ≡ i.asked_before ++ s.name ∷ [])) × LoadFault s.name s.room i f → Reads shows (s ∷ ss) whole i (Err f)
 load_stopped shows s ss whole i f (asked, inl (e, (bytes, (agrees, large)))) =
     first_refused shows s ss whole i f bytes asked agrees (above s bytes large ∙ ap (λ (x : End). Some x) (sym e)) (subst IsBad (sym e) refl)
-load_stopped shows s ss whole i f (asked, inr led) = not_read shows s ss whole i f asked led
+load_stopped shows s ss whole i f (asked, inr gives) = not_read shows s ss whole i f asked gives
 
 -- the first file is refused, or memory runs out while it is read
-pub text_stopped : {V W : Type 0} (items : W → List ℕ) (shows : V → Expected) (s : Step) (ss : List Step) (whole : List (List ℕ) → Option Expected) (i : Input) (v : W) (text : List ℕ) (f : End)
-    → Loaded items s.name s.room i (Ok v) → text ≡ items v → ((s.refuse text ≡ Some f) × IsBad f) ⊎ (f ≡ NoMemory) → Reads shows (s ∷ ss) whole i (Err f)
+pub text_stopped : {V W : Type 0} (items : W → List ℕ) (shows : V → Expectation) (s : Step) (ss : List Step) (whole : List (List ℕ) → Option Expectation) (i : Input) (v : W) (text : List ℕ) (f : End)
+    → LoadsFile items s.name s.room i (Ok v) → text ≡ items v → ((s.refuse text ≡ Some f) × IsBad f) ⊎ (f ≡ NoMemory) → Reads shows (s ∷ ss) whole i (Err f)
 text_stopped items shows s ss whole i v text f loaded same (inl (e, bad)) =
     first_refused shows s ss whole i f (items v) (inr loaded.0) loaded.1 (within s (items v) loaded.2 ∙ ap s.refuse (sym same) ∙ e) bad
 text_stopped items shows s ss whole i v text f loaded same (inr e) = not_read shows s ss whole i f (inr loaded.0) (inr e)
 
 -- the last file was read: all is
-pub all_read : {V W : Type 0} (items : W → List ℕ) (shows : V → Expected) (s : Step) (whole : List (List ℕ) → Option Expected) (i : Input) (v : W) (x : V)
-    → Loaded items s.name s.room i (Ok v) → s.refuse (items v) ≡ None → whole (items v ∷ []) ≡ Some (shows x) → IsDone (shows x).end → Reads shows (s ∷ []) whole i (Ok x)
+pub all_read : {V W : Type 0} (items : W → List ℕ) (shows : V → Expectation) (s : Step) (whole : List (List ℕ) → Option Expectation) (i : Input) (v : W) (x : V)
+    → LoadsFile items s.name s.room i (Ok v) → s.refuse (items v) ≡ None → whole (items v ∷ []) ≡ Some (shows x) → IsDone (shows x).end → Reads shows (s ∷ []) whole i (Ok x)
 all_read items shows s whole i v x loaded kept made done = record {
-  found = items v ∷ [];
+  contents = items v ∷ [];
   files = record {
     as_told = (loaded.1, tt);
     count = 1;
@@ -96,11 +96,11 @@ all_read items shows s whole i v x loaded kept made done = record {
     most = lit≤ tt;
     in_order = λ j lt. open_at_first s [] whole (items v ∷ []) 1 j (lit≤ tt) lt;
   };
-  led = subst (λ (r : Option End). Led shows (decided r (whole (items v ∷ []))) i (Ok x)) (sym (within s (items v) loaded.2 ∙ kept))
-      (subst (λ (o : Option Expected). Led shows o i (Ok x)) (sym made) (refl, done));
+  gives = subst (λ (r : Option End). GivesExpectation shows (refusal_or r (whole (items v ∷ []))) i (Ok x)) (sym (within s (items v) loaded.2 ∙ kept))
+      (subst (λ (o : Option Expectation). GivesExpectation shows o i (Ok x)) (sym made) (refl, done));
 }
 
-same_told : (ss : List Step) (now told : List ℕ → Option (List ℕ)) (found : List (List ℕ)) → ((name : List ℕ) → now name ≡ told name) → AsTold ss now found → AsTold ss told found
+same_told : (ss : List Step) (now told : List ℕ → Option (List ℕ)) (contents : List (List ℕ)) → ((name : List ℕ) → now name ≡ told name) → AsTold ss now contents → AsTold ss told contents
 same_told [] now told [] same h = tt
 same_told [] now told (f ∷ fs) same h = absurd h
 same_told (s ∷ ss) now told [] same h = tt
@@ -109,24 +109,24 @@ same_told (s ∷ ss) now told (f ∷ fs) same h = (subst (λ (t : Option (List �
 rose_earlier : (old mid new : ℕ) → old ≤ mid → Rose mid new → Rose old new
 rose_earlier old mid new le h = omega (arith, h)
 
-led_earlier : {V : Type 0} (shows : V → Expected) (o : Option Expected) (i j : Input) (r : Result V End)
-    → (Rose j.faults_before j.faults_after → Rose i.faults_before i.faults_after) → Led shows o j r → Led shows o i r
-led_earlier shows None i j (Ok v) rose h = absurd h
-led_earlier shows None i j (Err f) rose (inl h) = inl (h.0, rose h.1)
-led_earlier shows None i j (Err f) rose (inr h) = inr h
-led_earlier shows (Some e) i j (Ok v) rose h = h
-led_earlier shows (Some e) i j (Err f) rose h = h
+gives_earlier : {V : Type 0} (shows : V → Expectation) (o : Option Expectation) (i j : Input) (r : Result V End)
+    → (Rose j.faults_before j.faults_after → Rose i.faults_before i.faults_after) → GivesExpectation shows o j r → GivesExpectation shows o i r
+gives_earlier shows None i j (Ok v) rose h = absurd h
+gives_earlier shows None i j (Err f) rose (inl h) = inl (h.0, rose h.1)
+gives_earlier shows None i j (Err f) rose (inr h) = inr h
+gives_earlier shows (Some e) i j (Ok v) rose h = h
+gives_earlier shows (Some e) i j (Err f) rose h = h
 
-open_behind : (s : Step) (ss : List Step) (whole : List (List ℕ) → Option Expected) (b : List ℕ) (found : List (List ℕ)) (k : ℕ) → refusal_at s b ≡ None
-    → ((j : ℕ) → j < k → judge ss (λ rest. whole (b ∷ rest)) (take j found) ≡ None) → (j : ℕ) → j < suc k → judge (s ∷ ss) whole (take j (b ∷ found)) ≡ None
-open_behind s ss whole b found k kept order zero lt = refl
-open_behind s ss whole b found k kept order (suc j) lt =
-    ap (λ (r : Option End). decided r (judge ss (λ rest. whole (b ∷ rest)) (take j found))) kept ∙ order j (omega (arith, lt))
+open_behind : (s : Step) (ss : List Step) (whole : List (List ℕ) → Option Expectation) (b : List ℕ) (contents : List (List ℕ)) (k : ℕ) → refusal_at s b ≡ None
+    → ((j : ℕ) → j < k → judge ss (λ rest. whole (b ∷ rest)) (take j contents) ≡ None) → (j : ℕ) → j < suc k → judge (s ∷ ss) whole (take j (b ∷ contents)) ≡ None
+open_behind s ss whole b contents k kept order zero lt = refl
+open_behind s ss whole b contents k kept order (suc j) lt =
+    ap (λ (r : Option End). refusal_or r (judge ss (λ rest. whole (b ∷ rest)) (take j contents))) kept ∙ order j (omega (arith, lt))
 
 -- the first file was read, and then the others
-pub then_read : {V W : Type 0} (items : W → List ℕ) (shows : V → Expected) (s : Step) (ss : List Step) (whole : List (List ℕ) → Option Expected)
+pub then_read : {V W : Type 0} (items : W → List ℕ) (shows : V → Expectation) (s : Step) (ss : List Step) (whole : List (List ℕ) → Option Expectation)
     (told now : List ℕ → Option (List ℕ)) (a b c : List (List ℕ)) (x y z : ℕ) (v : W) (r : Result V End)
-    → Loaded items s.name s.room (record { told = told; asked_before = a; asked_after = b; faults_before = x; faults_after = y }) (Ok v) → s.refuse (items v) ≡ None
+    → LoadsFile items s.name s.room (record { told = told; asked_before = a; asked_after = b; faults_before = x; faults_after = y }) (Ok v) → s.refuse (items v) ≡ None
     → ((name : List ℕ) → now name ≡ told name) → x ≤ y
     → Reads shows ss (λ rest. whole (items v ∷ rest)) (record { told = now; asked_before = b; asked_after = c; faults_before = y; faults_after = z }) r
     → Reads shows (s ∷ ss) whole (record { told = told; asked_before = a; asked_after = c; faults_before = x; faults_after = z }) r
@@ -134,18 +134,18 @@ then_read items shows s ss whole told now a b c x y z v r loaded kept same le h 
     let none : refusal_at s (items v) ≡ None = within s (items v) loaded.2 ∙ kept in
     let k = h.files.count in
     record {
-      found = items v ∷ h.found;
+      contents = items v ∷ h.contents;
       files = record {
-        as_told = (loaded.1, same_told ss now told h.found same h.files.as_told);
+        as_told = (loaded.1, same_told ss now told h.contents same h.files.as_told);
         count = suc k;
         asked = h.files.asked ∙ ap (λ (l : List (List ℕ)). l ++ take k (names_of ss)) loaded.0 ∙ append_assoc a (s.name ∷ []) (take k (names_of ss));
         most = omega (arith, h.files.most);
-        in_order = open_behind s ss whole (items v) h.found k none h.files.in_order;
+        in_order = open_behind s ss whole (items v) h.contents k none h.files.in_order;
       };
-      led = subst (λ (d : Option End). Led shows (decided d (judge ss (λ rest. whole (items v ∷ rest)) h.found))
+      gives = subst (λ (d : Option End). GivesExpectation shows (refusal_or d (judge ss (λ rest. whole (items v ∷ rest)) h.contents))
           (record { told = told; asked_before = a; asked_after = c; faults_before = x; faults_after = z }) r) (sym none)
-          (led_earlier shows (judge ss (λ rest. whole (items v ∷ rest)) h.found) (record { told = told; asked_before = a; asked_after = c; faults_before = x; faults_after = z })
-          (record { told = now; asked_before = b; asked_after = c; faults_before = y; faults_after = z }) r (rose_earlier x y z le) h.led);
+          (gives_earlier shows (judge ss (λ rest. whole (items v ∷ rest)) h.contents) (record { told = told; asked_before = a; asked_after = c; faults_before = x; faults_after = z })
+          (record { told = now; asked_before = b; asked_after = c; faults_before = y; faults_after = z }) r (rose_earlier x y z le) h.gives);
     }
 
 -- a file that is too large has bytes, those that are told where they are told
@@ -158,8 +158,8 @@ too_large None room h = (replicate (room + 1) 0, (tt, grind (arith, long (room +
 too_large (Some bytes) room h = (bytes, (refl, grind (arith, h)))
 
 -- the last file is loaded, and read or not
-pub last_stage : {V W : Type 0} (items : W → List ℕ) (shows : V → Expected) (s : Step) (whole : List (List ℕ) → Option Expected) (i : Input) (v : W) (text : List ℕ) (r : Result V End)
-    → Loaded items s.name s.room i (Ok v) → text ≡ items v → Judged (s.refuse text) r → IfOk r (λ x. whole (text ∷ []) ≡ Some (shows x)) → ((x : V) → IsDone (shows x).end)
+pub last_stage : {V W : Type 0} (items : W → List ℕ) (shows : V → Expectation) (s : Step) (whole : List (List ℕ) → Option Expectation) (i : Input) (v : W) (text : List ℕ) (r : Result V End)
+    → LoadsFile items s.name s.room i (Ok v) → text ≡ items v → GivesRefusal (s.refuse text) r → IfOk r (λ x. whole (text ∷ []) ≡ Some (shows x)) → ((x : V) → IsDone (shows x).end)
     → Reads shows (s ∷ []) whole i r
 last_stage items shows s whole i v text (Ok x) loaded same judged made done =
     all_read items shows s whole i v x loaded (ap s.refuse (sym same) ∙ judged) (ap (λ (t : List ℕ). whole (t ∷ [])) (sym same) ∙ made) (done x)
@@ -169,19 +169,19 @@ done_by : (b : Bool) → IsDone (cond b Ret Trapped)
 done_by true = lit< tt
 done_by false = lit< tt
 
-pub root_done : (x : Space) → IsDone (expected_of_root x).end
+pub root_done : (x : Space) → IsDone (expectation_of_root x).end
 root_done x = done_by (has_returned (top_of x).status)
 
-pub kept_by : {V : Type 0} (e : Expected) (r : Result V End) → IfOk r (λ _. Some e ≡ Some e)
+pub kept_by : {V : Type 0} (e : Expectation) (r : Result V End) → IfOk r (λ _. Some e ≡ Some e)
 kept_by e (Ok x) = refl
 kept_by e (Err f) = tt
 
 -- what was read before is answered in place of nothing
-led_by : {U V : Type 0} (shows : V → Expected) (o : Option Expected) (i : Input) (u : U) (v : V) → Led (λ _. shows v) o i (Ok u) → Led shows o i (Ok v)
-led_by shows None i u v h = h
-led_by shows (Some e) i u v h = h
+gives_by : {U V : Type 0} (shows : V → Expectation) (o : Option Expectation) (i : Input) (u : U) (v : V) → GivesExpectation (λ _. shows v) o i (Ok u) → GivesExpectation shows o i (Ok v)
+gives_by shows None i u v h = h
+gives_by shows (Some e) i u v h = h
 
-stopped_by : {V : Type 0} (U : Type 0) (e : Expected) (shows : V → Expected) (o : Option Expected) (i : Input) (f : End) → Led {V = U} (λ _. e) o i (Err f) → Led shows o i (Err f)
+stopped_by : {V : Type 0} (U : Type 0) (e : Expectation) (shows : V → Expectation) (o : Option Expectation) (i : Input) (f : End) → GivesExpectation {V = U} (λ _. e) o i (Err f) → GivesExpectation shows o i (Err f)
 stopped_by U e shows None i f h = h
 stopped_by U e shows (Some x) i f h = h
 
@@ -190,25 +190,25 @@ abbrev pub ReadAs : {U V : Type 0} → V → Result U End → Result V End → T
 ReadAs v (Ok u) r = r ≡ Ok v
 ReadAs v (Err f) r = r ≡ Err f
 
-reads_as : {U V : Type 0} (shows : V → Expected) (steps : List Step) (whole : List (List ℕ) → Option Expected) (i : Input) (v : V) (q : Result U End) (r : Result V End)
+reads_as : {U V : Type 0} (shows : V → Expectation) (steps : List Step) (whole : List (List ℕ) → Option Expectation) (i : Input) (v : V) (q : Result U End) (r : Result V End)
     → ReadAs v q r → Reads (λ _. shows v) steps whole i q → Reads shows steps whole i r
 reads_as shows steps whole i v (Ok u) r e h =
-    record { found = h.found; files = h.files; led = subst (λ x. Led shows (judge steps whole h.found) i x) (sym e) (led_by shows (judge steps whole h.found) i u v h.led) }
+    record { contents = h.contents; files = h.files; gives = subst (λ x. GivesExpectation shows (judge steps whole h.contents) i x) (sym e) (gives_by shows (judge steps whole h.contents) i u v h.gives) }
 reads_as shows steps whole i v (Err f) r e h =
-    record { found = h.found; files = h.files; led = subst (λ x. Led shows (judge steps whole h.found) i x) (sym e) (stopped_by _ (shows v) shows (judge steps whole h.found) i f h.led) }
+    record { contents = h.contents; files = h.files; gives = subst (λ x. GivesExpectation shows (judge steps whole h.contents) i x) (sym e) (stopped_by _ (shows v) shows (judge steps whole h.contents) i f h.gives) }
 
 -- the image is read, and then the script
 pub image_then_script : {U W : Type 0} (items : W → List ℕ) (fuel : ℕ) (image script : List ℕ)
     (told now : List ℕ → Option (List ℕ)) (a b c : List (List ℕ)) (x y z : ℕ) (v : W) (text : List ℕ) (parsed : Image) (q : Result U End) (r : Result Image End)
-    → Loaded items image image_room (record { told = told; asked_before = a; asked_after = b; faults_before = x; faults_after = y }) (Ok v) → text ≡ items v → image_of text ≡ Ok parsed
+    → LoadsFile items image image_room (record { told = told; asked_before = a; asked_after = b; faults_before = x; faults_after = y }) (Ok v) → text ≡ items v → image_of text ≡ Ok parsed
     → ((name : List ℕ) → now name ≡ told name) → x ≤ y → ReadAs parsed q r
-    → ((e : Expected) → IsDone e.end → Reads (λ _. e) (script_step script ∷ []) (λ _. Some e) (record { told = now; asked_before = b; asked_after = c; faults_before = y; faults_after = z }) q)
-    → Reads (λ i. expected_of_root (settled_root i fuel)) (steps_of (run fuel image script)) (whole_of (run fuel image script))
+    → ((e : Expectation) → IsDone e.end → Reads (λ _. e) (script_step script ∷ []) (λ _. Some e) (record { told = now; asked_before = b; asked_after = c; faults_before = y; faults_after = z }) q)
+    → Reads (λ i. expectation_of_root (settled_root i fuel)) (steps_of (run fuel image script)) (whole_of (run fuel image script))
     (record { told = told; asked_before = a; asked_after = c; faults_before = x; faults_after = z }) r
 image_then_script items fuel image script told now a b c x y z v text parsed q r loaded e read same le becomes h =
-    let shows : Image → Expected = λ i. expected_of_root (settled_root i fuel) in
+    let shows : Image → Expectation = λ i. expectation_of_root (settled_root i fuel) in
     let is : image_of (items v) ≡ Ok parsed = ap image_of (sym e) ∙ read in
     let later : Input = record { told = now; asked_before = b; asked_after = c; faults_before = y; faults_after = z } in
     let rest = reads_as shows (script_step script ∷ []) (λ _. Some (shows parsed)) later parsed q r becomes (h (shows parsed) (root_done (settled_root parsed fuel))) in
     then_read items shows (image_step image) (script_step script ∷ []) (whole_of (run fuel image script)) told now a b c x y z v r loaded (ap bad_image is) same le
-    (subst (λ (p : Result Image ImageError). Reads shows (script_step script ∷ []) (λ _. expected_of_image fuel p) later r) (sym is) rest)
+    (subst (λ (p : Result Image ImageError). Reads shows (script_step script ∷ []) (λ _. expectation_of_image fuel p) later r) (sym is) rest)

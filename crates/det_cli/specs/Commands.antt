@@ -14,7 +14,7 @@ use Rattle.run_model.specs.Demand.{settle_tree}
 use Rattle.report_model.specs.Report.{console_of, report}
 use Rattle.det_cli.specs.declared.end.End.{End}
 use Rattle.det_cli.specs.declared.end.End.TheVariants.{Ret, Trapped, BadImage, BadScript, BadSource}
-use Rattle.det_cli.specs.Files.{Expected, Step, judge, told_files}
+use Rattle.det_cli.specs.Files.{Expectation, Step, judge, told_files}
 
 -- the most bytes of an image file, of a script and of a source
 abbrev pub image_room : ℕ
@@ -57,28 +57,28 @@ abbrev pub end_of : Space → End
 end_of s = let t = top_of s in cond (has_returned t.status) Ret Trapped
 
 -- a settled root is shown by its console and its report
-abbrev pub expected_of_root : Space → Expected
-expected_of_root s = record { out = console_of s; err = report s; end = end_of s }
+abbrev pub expectation_of_root : Space → Expectation
+expectation_of_root s = record { out = console_of s; err = report s; end = end_of s }
 
 -- an image is written as it is spelled
-abbrev pub expected_of_bytes : List ℕ → Expected
-expected_of_bytes bytes = record { out = bytes; err = []; end = Ret }
+abbrev pub expectation_of_bytes : List ℕ → Expectation
+expectation_of_bytes bytes = record { out = bytes; err = []; end = Ret }
 
-abbrev pub expected_of_image : ℕ → Result Image ImageError → Option Expected
-expected_of_image fuel (Ok image) = Some (expected_of_root (settled_root image fuel))
-expected_of_image fuel (Err e) = None
+abbrev pub expectation_of_image : ℕ → Result Image ImageError → Option Expectation
+expectation_of_image fuel (Ok image) = Some (expectation_of_root (settled_root image fuel))
+expectation_of_image fuel (Err e) = None
 
-abbrev pub expected_of_source : Result Image AsmError → Option Expected
-expected_of_source (Ok image) = Some (expected_of_bytes (image_bytes image))
-expected_of_source (Err e) = None
+abbrev pub expectation_of_source : Result Image AsmError → Option Expectation
+expectation_of_source (Ok image) = Some (expectation_of_bytes (image_bytes image))
+expectation_of_source (Err e) = None
 
-abbrev pub run_whole : ℕ → List (List ℕ) → Option Expected
+abbrev pub run_whole : ℕ → List (List ℕ) → Option Expectation
 run_whole fuel [] = None
-run_whole fuel (image ∷ rest) = expected_of_image fuel (image_of image)
+run_whole fuel (image ∷ rest) = expectation_of_image fuel (image_of image)
 
-abbrev pub asm_whole : List (List ℕ) → Option Expected
+abbrev pub asm_whole : List (List ℕ) → Option Expectation
 asm_whole [] = None
-asm_whole (source ∷ rest) = expected_of_source (source_of source)
+asm_whole (source ∷ rest) = expectation_of_source (source_of source)
 
 -- the files of a command, in the order of the words
 abbrev pub steps_of : Line → List Step
@@ -86,14 +86,14 @@ steps_of (run fuel image script) = image_step image ∷ script_step script ∷ [
 steps_of (asm source) = source_step source ∷ []
 
 -- what all files of a command make, where none is refused
-abbrev pub whole_of : Line → List (List ℕ) → Option Expected
+abbrev pub whole_of : Line → List (List ℕ) → Option Expectation
 whole_of (run fuel image script) files = run_whole fuel files
 whole_of (asm source) files = asm_whole files
 
 -- what a command makes of its first files
-abbrev pub made : Line → List (List ℕ) → Option Expected
-made l files = judge (steps_of l) (whole_of l) files
+abbrev pub expectation_of_files : Line → List (List ℕ) → Option Expectation
+expectation_of_files l files = judge (steps_of l) (whole_of l) files
 
 -- what is expected of a command and of the files that are told; nothing where a file that counts is not told
-abbrev pub expect : Line → (List ℕ → Option (List ℕ)) → Option Expected
-expect l told = made l (told_files (steps_of l) told)
+abbrev pub expectation_of_told : Line → (List ℕ → Option (List ℕ)) → Option Expectation
+expectation_of_told l told = expectation_of_files l (told_files (steps_of l) told)

@@ -5,12 +5,12 @@ use Rattle.det_cli.specs.declared.end.End.{End}
 use Rattle.det_cli.specs.declared.end.End.TheVariants.{TooLarge}
 
 -- the bytes of standard output and of standard error, and the end
-pub record Expected : Type 0 where
+pub record Expectation : Type 0 where
   pub out : List ℕ
   pub err : List ℕ
   pub end : End
 
-abbrev pub refusal : End → Expected
+abbrev pub refusal : End → Expectation
 refusal e = record { out = []; err = []; end = e }
 
 -- a file's name, the most bytes that it may have, its room, and whether bytes that fit are refused
@@ -26,16 +26,17 @@ names_of steps = map (λ s. s.name) steps
 abbrev pub refusal_at : Step → List ℕ → Option End
 refusal_at s bytes = cond (nat_lt s.room (length bytes)) (Some (TooLarge (s.room + 1))) (s.refuse bytes)
 
-abbrev pub decided : Option End → Option Expected → Option Expected
-decided None rest = rest
-decided (Some e) rest = Some (refusal e)
+-- a refusal, where there is one; else the rest
+abbrev pub refusal_or : Option End → Option Expectation → Option Expectation
+refusal_or None rest = rest
+refusal_or (Some e) rest = Some (refusal e)
 
 -- What these first files decide, the first one first: the refusal of the first that is refused; else what all of them make; nothing
 -- while one is still to be read.
-abbrev pub judge : List Step → (List (List ℕ) → Option Expected) → List (List ℕ) → Option Expected
+abbrev pub judge : List Step → (List (List ℕ) → Option Expectation) → List (List ℕ) → Option Expectation
 judge [] whole files = whole []
 judge (s ∷ ss) whole [] = None
-judge (s ∷ ss) whole (f ∷ fs) = decided (refusal_at s f) (judge ss (λ rest. whole (f ∷ rest)) fs)
+judge (s ∷ ss) whole (f ∷ fs) = refusal_or (refusal_at s f) (judge ss (λ rest. whole (f ∷ rest)) fs)
 
 abbrev pub told_from : Option (List ℕ) → List (List ℕ) → List (List ℕ)
 told_from None rest = []
@@ -76,9 +77,9 @@ AsTold (s ∷ ss) told (f ∷ fs) = Agrees (told s.name) f × AsTold ss told fs
 
 -- The bytes of these first files were loaded. Some first names were asked for, in their order and each once, one at most behind these
 -- files, and each only while the files before it decide nothing.
-pub record ReadFiles (steps : List Step) (whole : List (List ℕ) → Option Expected) (found : List (List ℕ)) (i : Input) : Type 0 where
-  pub as_told : AsTold steps i.told found
+pub record ReadFiles (steps : List Step) (whole : List (List ℕ) → Option Expectation) (contents : List (List ℕ)) (i : Input) : Type 0 where
+  pub as_told : AsTold steps i.told contents
   pub count : ℕ
   pub asked : i.asked_after ≡ i.asked_before ++ take count (names_of steps)
-  pub most : count ≤ length found + 1
-  pub in_order : (j : ℕ) → j < count → judge steps whole (take j found) ≡ None
+  pub most : count ≤ length contents + 1
+  pub in_order : (j : ℕ) → j < count → judge steps whole (take j contents) ≡ None

@@ -5,7 +5,7 @@ use Rattle.det_host.specs.Outside.{Rose}
 use Rattle.det_cli.specs.declared.end.End.{End}
 use Rattle.det_cli.specs.declared.end.End.TheVariants.{TooLarge, ReadFault, NoMemory}
 use Rattle.det_cli.specs.Status.{IsDone, IsBad}
-use Rattle.det_cli.specs.Files.{Expected, Step, Input, Agrees, judge, ReadFiles}
+use Rattle.det_cli.specs.Files.{Expectation, Step, Input, Agrees, judge, ReadFiles}
 
 -- a file that is too large, with bytes that it may have; or a fault; or want of memory
 abbrev pub LoadFault : List ℕ → ℕ → Input → End → Type 0
@@ -15,24 +15,24 @@ LoadFault name room i f =
     ⊎ (f ≡ NoMemory)
 
 -- what a load of a name with this room answers, and that it asks for the name
-abbrev pub Loaded : {V : Type 0} → (V → List ℕ) → List ℕ → ℕ → Input → Result V End → Type 0
-Loaded items name room i (Ok v) = (i.asked_after ≡ i.asked_before ++ name ∷ []) × Agrees (i.told name) (items v) × (nat_lt room (length (items v)) ≡ false)
-Loaded items name room i (Err f) = ((i.asked_after ≡ i.asked_before) ⊎ (i.asked_after ≡ i.asked_before ++ name ∷ [])) × LoadFault name room i f
+abbrev pub LoadsFile : {V : Type 0} → (V → List ℕ) → List ℕ → ℕ → Input → Result V End → Type 0
+LoadsFile items name room i (Ok v) = (i.asked_after ≡ i.asked_before ++ name ∷ []) × Agrees (i.told name) (items v) × (nat_lt room (length (items v)) ≡ false)
+LoadsFile items name room i (Err f) = ((i.asked_after ≡ i.asked_before) ⊎ (i.asked_after ≡ i.asked_before ++ name ∷ [])) × LoadFault name room i f
 
 -- what is answered to bytes that are refused or not
-abbrev pub Judged : {V : Type 0} → Option End → Result V End → Type 0
-Judged refused (Ok v) = refused ≡ None
-Judged refused (Err f) = ((refused ≡ Some f) × IsBad f) ⊎ (f ≡ NoMemory)
+abbrev pub GivesRefusal : {V : Type 0} → Option End → Result V End → Type 0
+GivesRefusal refused (Ok v) = refused ≡ None
+GivesRefusal refused (Err f) = ((refused ≡ Some f) × IsBad f) ⊎ (f ≡ NoMemory)
 
 -- what is answered to that which files decide
-abbrev pub Led : {V : Type 0} → (V → Expected) → Option Expected → Input → Result V End → Type 0
-Led shows None i (Ok v) = ⊥
-Led shows None i (Err f) = ((f ≡ ReadFault) × Rose i.faults_before i.faults_after) ⊎ (f ≡ NoMemory)
-Led shows (Some e) i (Ok v) = (e ≡ shows v) × IsDone e.end
-Led shows (Some e) i (Err f) = IsBad e.end × ((f ≡ e.end) ⊎ (f ≡ NoMemory))
+abbrev pub GivesExpectation : {V : Type 0} → (V → Expectation) → Option Expectation → Input → Result V End → Type 0
+GivesExpectation shows None i (Ok v) = ⊥
+GivesExpectation shows None i (Err f) = ((f ≡ ReadFault) × Rose i.faults_before i.faults_after) ⊎ (f ≡ NoMemory)
+GivesExpectation shows (Some e) i (Ok v) = (e ≡ shows v) × IsDone e.end
+GivesExpectation shows (Some e) i (Err f) = IsBad e.end × ((f ≡ e.end) ⊎ (f ≡ NoMemory))
 
 -- files were read, and this is answered
-pub record Reads {V : Type 0} (shows : V → Expected) (steps : List Step) (whole : List (List ℕ) → Option Expected) (i : Input) (r : Result V End) : Type 0 where
-  pub found : List (List ℕ)
-  pub files : ReadFiles steps whole found i
-  pub led : Led shows (judge steps whole found) i r
+pub record Reads {V : Type 0} (shows : V → Expectation) (steps : List Step) (whole : List (List ℕ) → Option Expectation) (i : Input) (r : Result V End) : Type 0 where
+  pub contents : List (List ℕ)
+  pub files : ReadFiles steps whole contents i
+  pub gives : GivesExpectation shows (judge steps whole contents) i r

@@ -1,10 +1,10 @@
 ghost use Rattle.std.specs.Prelude.{◌≡◌, ◌≤◌, Some, IfOk};
 ghost use Rattle.source_model.specs.Source.{source_of};
 ghost use Rattle.command_line.specs.Line.{asm};
-ghost use Rattle.det_cli.specs.Commands.{bad_source, expected_of_bytes, expected_of_source, steps_of, whole_of};
+ghost use Rattle.det_cli.specs.Commands.{bad_source, expectation_of_bytes, expectation_of_source, steps_of, whole_of};
 ghost use Rattle.det_cli.specs.Files.{input_of};
 ghost use Rattle.det_cli.specs.Writing.{output_of};
-ghost use Rattle.det_cli.specs.Stages.{Judged, Reads};
+ghost use Rattle.det_cli.specs.Stages.{GivesRefusal, Reads};
 ghost use Rattle.det_cli.specs.Answers.{Course};
 
 use crate::end::End;
@@ -21,8 +21,8 @@ const SOURCE_ROOM: u64 = 1_048_576;
 
 // The bytes of the image of a source text.
 fn image_of_text(alloc: Global, text: &[u8]) -> Result<Vec<u8>, End>
-    ensures ok { IfOk result (λ v. expected_of_source (source_of text.now) ≡ Some (expected_of_bytes v.items)) }
-    ensures judged { Judged (bad_source (source_of text.now)) result }
+    ensures ok { IfOk result (λ v. expectation_of_source (source_of text.now) ≡ Some (expectation_of_bytes v.items)) }
+    ensures judged { GivesRefusal (bad_source (source_of text.now)) result }
 {
     let image = match assemble(alloc, text) {
         Ok(image) => image,
@@ -37,7 +37,7 @@ fn image_of_text(alloc: Global, text: &[u8]) -> Result<Vec<u8>, End>
 
 // The bytes of the image of a source file, which is loaded once.
 fn image_of_source<L: Loader>(alloc: Global, source: &str, files: &mut L) -> Result<Vec<u8>, End>
-    ensures reads { Reads (λ v. expected_of_bytes v.items) (steps_of (asm source.now)) (whole_of (asm source.now))
+    ensures reads { Reads (λ v. expectation_of_bytes v.items) (steps_of (asm source.now)) (whole_of (asm source.now))
         (input_of L.told L.asked L.faults files.old files.new) result }
     ensures later { L.faults files.old ≤ L.faults files.new }
 {

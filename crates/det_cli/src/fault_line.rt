@@ -1,7 +1,7 @@
 ghost use Rattle.std.specs.Prelude.{◌≡◌, ◌≤◌, OnOk, IfOk, IsErrOf, string_bytes};
 ghost use Rattle.det_host.specs.Outside.{Takes};
 ghost use Rattle.det_cli.specs.Lines.{fault_line};
-ghost use Rattle.det_cli.specs.Writing.{TakesPrefix, Stopped, output_of};
+ghost use Rattle.det_cli.specs.Writing.{TakesPrefix, StopsWithin, output_of};
 
 use crate::end::End;
 use crate::writing::write_all;
@@ -39,7 +39,7 @@ fn line_text(alloc: Global, end: &End) -> Result<String, AllocError>
 pub fn write_fault<E: Sink>(alloc: Global, end: &End, err: &mut E) -> Result<(), SinkError>
     ensures ok { OnOk result (Takes (E.taken err.old) (E.taken err.new) (fault_line end.now)) }
     ensures prefix { TakesPrefix (E.taken err.old) (E.taken err.new) (fault_line end.now) }
-    ensures failed { IsErrOf result SinkError.Failed → Stopped (output_of E.taken E.faults err.old err.new) (fault_line end.now) }
+    ensures failed { IsErrOf result SinkError.Failed → StopsWithin (output_of E.taken E.faults err.old err.new) (fault_line end.now) }
     ensures later { E.faults err.old ≤ E.faults err.new }
 {
     let Ok(line) = line_text(alloc, end) else {

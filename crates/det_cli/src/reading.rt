@@ -2,9 +2,9 @@ ghost use Rattle.std.specs.Prelude.{◌≡◌, ◌≤◌, ◌<◌, ◌^◌, ◌�
 ghost use Rattle.image_model.specs.Reading.{image_of};
 ghost use Rattle.command_line.specs.Line.{run};
 ghost use Rattle.det_cli.specs.Status.{IsDone};
-ghost use Rattle.det_cli.specs.Files.{Expected, input_of};
-ghost use Rattle.det_cli.specs.Commands.{bad_image, bad_script, expected_of_root, script_step, settled_root, steps_of, whole_of};
-ghost use Rattle.det_cli.specs.Stages.{Loaded, Judged, Reads};
+ghost use Rattle.det_cli.specs.Files.{Expectation, input_of};
+ghost use Rattle.det_cli.specs.Commands.{bad_image, bad_script, expectation_of_root, script_step, settled_root, steps_of, whole_of};
+ghost use Rattle.det_cli.specs.Stages.{LoadsFile, GivesRefusal, Reads};
 
 use crate::end::{End, ScriptError};
 use det_host::{LoadError, Loader};
@@ -26,7 +26,7 @@ pub(crate) fn load<L: Loader>(
     room: u64,
 ) -> Result<Vec<u8>, End>
     requires { room < 2 ^ 32 }
-    ensures loaded { Loaded (λ v. v.items) name.now room
+    ensures loaded { LoadsFile (λ v. v.items) name.now room
         (input_of L.told L.asked L.faults files.old files.new) result }
     ensures later { L.faults files.old ≤ L.faults files.new }
     ensures told { (other : List ℕ) → L.told files.new other ≡ L.told files.old other }
@@ -41,7 +41,7 @@ pub(crate) fn load<L: Loader>(
 
 fn parse(alloc: Global, bytes: &[u8]) -> Result<Image, End>
     ensures ok { IfOk result (λ i. image_of bytes.now ≡ Ok i) }
-    ensures judged { Judged (bad_image (image_of bytes.now)) result }
+    ensures judged { GivesRefusal (bad_image (image_of bytes.now)) result }
 {
     match read_image(alloc, bytes) {
         Ok(image) => Ok(image),
@@ -51,7 +51,7 @@ fn parse(alloc: Global, bytes: &[u8]) -> Result<Image, End>
 }
 
 fn parse_script(bytes: &[u8]) -> Result<(), End>
-    ensures { Judged (bad_script bytes.now) result }
+    ensures { GivesRefusal (bad_script bytes.now) result }
 {
     if let [_, ..] = bytes {
         return Err(End::BadScript(ScriptError { line: 1 }));
@@ -61,7 +61,7 @@ fn parse_script(bytes: &[u8]) -> Result<(), End>
 
 // Loads a script and reads it. Where it is not refused, what is expected is what the files before it make.
 fn read_script<L: Loader>(alloc: Global, files: &mut L, script: &str) -> Result<(), End>
-    ensures reads { (e : Expected) → IsDone e.end → Reads (λ _. e) (script_step script.now ∷ []) (λ _. Some e)
+    ensures reads { (e : Expectation) → IsDone e.end → Reads (λ _. e) (script_step script.now ∷ []) (λ _. Some e)
         (input_of L.told L.asked L.faults files.old files.new) result }
     ensures later { L.faults files.old ≤ L.faults files.new }
 {
@@ -80,7 +80,7 @@ pub(crate) fn read_run<L: Loader>(
     image: &str,
     script: &str,
 ) -> Result<Image, End>
-    ensures reads { (fuel : ℕ) → Reads (λ i. expected_of_root (settled_root i fuel))
+    ensures reads { (fuel : ℕ) → Reads (λ i. expectation_of_root (settled_root i fuel))
         (steps_of (run fuel image.now script.now)) (whole_of (run fuel image.now script.now))
         (input_of L.told L.asked L.faults files.old files.new) result }
     ensures later { L.faults files.old ≤ L.faults files.new }

@@ -1,7 +1,7 @@
 ghost use Rattle.std.specs.Prelude.{◌≡◌, ◌≤◌, true, IfOk};
 ghost use Rattle.space_model.specs.Space.{is_settled};
 ghost use Rattle.command_line.specs.Line.{run};
-ghost use Rattle.det_cli.specs.Commands.{end_of, expected_of_root, settled_root};
+ghost use Rattle.det_cli.specs.Commands.{end_of, expectation_of_root, settled_root};
 ghost use Rattle.det_cli.specs.Files.{input_of};
 ghost use Rattle.det_cli.specs.Writing.{output_of};
 ghost use Rattle.det_cli.specs.Answers.{Course, Writes};
@@ -53,7 +53,7 @@ pub(crate) fn write_end(error: SinkError) -> End
 // Writes the console and then the report of a settled root.
 fn write_root<O: Sink, E: Sink>(alloc: Global, space: &Space, out: &mut O, err: &mut E) -> End
     requires { is_settled space.now ≡ true }
-    ensures writes { Writes (expected_of_root space.now)
+    ensures writes { Writes (expectation_of_root space.now)
         (output_of O.taken O.faults out.old out.new)
         (output_of E.taken E.faults err.old err.new) result }
     ensures out_later { O.faults out.old ≤ O.faults out.new }
@@ -80,7 +80,7 @@ fn settle_and_write<O: Sink, E: Sink>(
     err: &mut E,
 ) -> End
     requires { 1 ≤ fuel }
-    ensures writes { Writes (expected_of_root (settled_root image.now fuel))
+    ensures writes { Writes (expectation_of_root (settled_root image.now fuel))
         (output_of O.taken O.faults out.old out.new)
         (output_of E.taken E.faults err.old err.new) result }
     ensures out_later { O.faults out.old ≤ O.faults out.new }

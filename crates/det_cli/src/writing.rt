@@ -1,6 +1,6 @@
 ghost use Rattle.std.specs.Prelude.{◌≤◌, OnOk, IsErrOf};
 ghost use Rattle.det_host.specs.Outside.{Takes};
-ghost use Rattle.det_cli.specs.Writing.{TakesPrefix, Stopped, output_of};
+ghost use Rattle.det_cli.specs.Writing.{TakesPrefix, StopsWithin, output_of};
 
 use det_host::{Sink, SinkError};
 
@@ -9,7 +9,7 @@ use det_host::{Sink, SinkError};
 pub(crate) fn write_all<S: Sink>(sink: &mut S, bytes: &[u8]) -> Result<(), SinkError>
     ensures ok { OnOk result (Takes (S.taken sink.old) (S.taken sink.new) bytes.now) }
     ensures prefix { TakesPrefix (S.taken sink.old) (S.taken sink.new) bytes.now }
-    ensures failed { IsErrOf result SinkError.Failed → Stopped (output_of S.taken S.faults sink.old sink.new) bytes.now }
+    ensures failed { IsErrOf result SinkError.Failed → StopsWithin (output_of S.taken S.faults sink.old sink.new) bytes.now }
     ensures later { S.faults sink.old ≤ S.faults sink.new }
 {
     let mut done = 0;

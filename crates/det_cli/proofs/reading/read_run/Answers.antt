@@ -1,16 +1,16 @@
 use Rattle.std.proofs.Common.{ℕ, [], ◌∷◌, Vec, Global, refl}
 use Rattle.command_line.specs.Line.{run}
-use Rattle.det_cli.specs.Commands.{expected_of_root, image_step, script_step, settled_root, whole_of}
+use Rattle.det_cli.specs.Commands.{expectation_of_root, image_step, script_step, settled_root, whole_of}
 use Rattle.det_cli.proofs.Stages.{load_stopped, text_stopped, image_then_script}
 use Rattle.det_cli.proofs.reading.read_run.Goals as goal
 
 pub returns-in-Err-clause-reads : goal.returns-in-Err-clause-reads
 returns-in-Err-clause-reads g c fuel =
-    load_stopped (λ i. expected_of_root (settled_root i fuel)) (image_step c.args.image.now) (script_step c.args.script.now ∷ []) (whole_of (run fuel c.args.image.now c.args.script.now)) _ _ c.in-Err.ensures.loaded
+    load_stopped (λ i. expectation_of_root (settled_root i fuel)) (image_step c.args.image.now) (script_step c.args.script.now ∷ []) (whole_of (run fuel c.args.image.now c.args.script.now)) _ _ c.in-Err.ensures.loaded
 
 pub returns-in-Err-parse-clause-reads : goal.returns-in-Err-parse-clause-reads
 returns-in-Err-parse-clause-reads g c fuel =
-    text_stopped (λ (v : Vec ℕ Global). v.items) (λ i. expected_of_root (settled_root i fuel)) (image_step c.args.image.now) (script_step c.args.script.now ∷ [])
+    text_stopped (λ (v : Vec ℕ Global). v.items) (λ i. expectation_of_root (settled_root i fuel)) (image_step c.args.image.now) (script_step c.args.script.now ∷ [])
     (whole_of (run fuel c.args.image.now c.args.script.now)) _ c.in-Ok.bytes _ _ c.in-Ok.ensures.loaded c.deref.ensures.value c.in-Err-parse.ensures.judged
 
 pub returns-in-Ok-read_script-clause-reads : goal.returns-in-Ok-read_script-clause-reads
