@@ -35,6 +35,29 @@ fn copies_and_zeros(rt: HostRuntime) -> Result<(), Fail> {
     Ok(())
 }
 
+// Page 5 shares what was written at page 2, and both are written again.
+fn share_page(mem: &mut Mem) -> Result<(), AllocError> {
+    mem.write(0x2001, 7)?;
+    mem.freeze()?;
+    let before = mem.frozen()?;
+    mem.copy_from(&before, 2, Pages { first: 5, count: 1 })?;
+    mem.write(0x2000, 8)?;
+    mem.write(0x5000, 9)
+}
+
+fn assert_shared(rt: &impl Abort, mem: &Mem) {
+    assert_eq!(rt; [mem.byte(0x2000), mem.byte(0x2001)], [8, 7]);
+    assert_eq!(rt; [mem.byte(0x5000), mem.byte(0x5001)], [9, 7]);
+}
+
+#[test]
+fn shared_pages(rt: HostRuntime) -> Result<(), Fail> {
+    let mut mem = Mem::new(rt.alloc());
+    share_page(&mut mem)?;
+    assert_shared(&rt, &mem);
+    Ok(())
+}
+
 // A memory that may be read, and in pages 16 and 17 written too.
 fn readable(alloc: Global) -> Result<Mem, AllocError> {
     let mut mem = Mem::new(alloc);
@@ -136,7 +159,7 @@ fn assert_own_page(rt: &impl Abort, mem: &Mem) {
 
 fn put_seven(alloc: Global, mem: &mut Mem) -> Result<(), AllocError> {
     let mut page = PageRef::zeroed(alloc)?;
-    page.write_byte(1, 7)?;
+    page.write_byte(alloc, 1, 7)?;
     mem.put_page(10, page)
 }
 

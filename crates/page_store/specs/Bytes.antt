@@ -1,15 +1,22 @@
 -- A page of 4,096 bytes, as the list of its bytes.
 -- Our choice: a restatement for proofs.
-use Rattle.std.specs.Prelude.{◌≡◌, ℕ, ◌+◌, ◌/◌, ◌%◌, ◌<◌, List, ◌++◌, take, drop, length, slice_index, slice_set}
+use Rattle.std.specs.Prelude.{◌≡◌, Bool, true, false, ℕ, ◌+◌, ◌/◌, ◌%◌, ◌<◌, List, ◌++◌, take, drop, length, slice_index, slice_set}
+use Rattle.std.specs.Arc.{arc_value}
 use Rattle.memory_model.specs.Sizes.{page_size}
 use Rattle.memory_model.specs.declared.Width.{Width}
 use Rattle.memory_model.specs.declared.Width.TheVariants.{One, Two, Four}
 use Rattle.page_store.specs.declared.PageRef.{PageRef}
-use Rattle.page_store.specs.declared.PageRef.TheVariants.{Own}
+use Rattle.page_store.specs.declared.PageRef.TheVariants.{Shared, Own}
 
 -- the bytes that a reference to a page leads to
 abbrev pub bytes_of : PageRef → List ℕ
+bytes_of (Shared page) = (arc_value page).bytes
 bytes_of (Own page) = page.value.bytes
+
+-- whether a page is its holder's own, so that a write to it takes no memory and changes no other
+abbrev pub is_own : PageRef → Bool
+is_own (Shared page) = false
+is_own (Own page) = true
 
 -- 4,096 numbers below 256
 pub record IsPage (bytes : List ℕ) : Type 0 where

@@ -1,13 +1,14 @@
 //! Pages of 4,096 bytes.
 #![tactic(auto)]
 
-ghost use Rattle.std.specs.Prelude.{◌≡◌, ◌↔◌, ℕ, ◌<◌, ◌+◌, ◌%◌, ◌≤◌, IfOk, IsOk, IsTrue, OnOk, OnErr, length, slice_index, slice_set};
-ghost use Rattle.page_store.specs.Bytes.{bytes_of, IsPage, with_number_in, overwritten};
+ghost use Rattle.std.specs.Prelude.{◌≡◌, ◌↔◌, ℕ, ◌<◌, ◌+◌, ◌%◌, ◌≤◌, IfOk, IsOk, IsTrue, OnOk, OnErr, length, slice_index, slice_set, true, false};
+ghost use Rattle.page_store.specs.Bytes.{bytes_of, is_own, IsPage, with_number_in, overwritten};
 ghost use Rattle.memory_model.specs.Memory.{number_from, width_bytes};
 ghost use Rattle.memory_model.specs.Sizes.{page_size};
 
 use memory_model::{PAGE_SIZE, Width};
 use std::alloc::{AllocError, Global};
+use std::sync::Arc;
 
 const SIZE: usize = PAGE_SIZE as usize;
 
@@ -17,18 +18,21 @@ pub struct Page {
     pub bytes: [u8; SIZE],
 }
 
-/// A page that is held. Contracts see it by its bytes, `bytes_of`.
+/// A page that is held. Contracts see it by its bytes, `bytes_of`, and by whether it is its holder's own, `is_own`.
 #[derive(Drop)]
 pub enum PageRef {
+    /// A page that others may hold too. No write changes it.
+    Shared(Arc<Page, Global>),
     /// A page of its holder's own.
     Own(Box<Page, Global>),
 }
 
 impl PageRef {
-    /// A page of zeros. Its one error is want of memory.
+    /// An own page of zeros. Its one error is want of memory.
     pub fn zeroed(alloc: Global) -> Result<PageRef, AllocError>
         ensures zeros { IfOk result (λ page. (k : ℕ) → slice_index (bytes_of page) k ≡ 0) }
         ensures whole { IfOk result (λ page. IsPage (bytes_of page)) }
+        ensures own { IfOk result (λ page. is_own page ≡ true) }
     {
         let page = Box::new(alloc, Page { bytes: [0; SIZE] })?;
         let page = PageRef::Own(page);
@@ -36,16 +40,70 @@ impl PageRef {
         Ok(page)
     }
 
-    /// A page of the same bytes. Its one error is want of memory.
-    pub fn copied(&self, alloc: Global) -> Result<PageRef, AllocError>
-        ensures { IfOk result (λ page. bytes_of page ≡ bytes_of self.now) }
+    /// Whether it is its holder's own page.
+    #[inline(always)]
+    pub fn is_own(&self) -> bool
+        ensures { result ≡ is_own self.now }
     {
         match self {
-            PageRef::Own(page) => {
-                let copy = Box::new(alloc, Page { bytes: page.bytes })?;
-                Ok(PageRef::Own(copy))
-            }
+            PageRef::Shared(_) => false,
+            PageRef::Own(_) => true,
         }
+    }
+
+    /// Makes it a page that can be shared, of the same bytes. A shared one takes no memory. The one error is want of memory: it
+    /// is as it was then.
+    pub fn freeze(&mut self, alloc: Global) -> Result<(), AllocError>
+        ensures same { bytes_of self.new ≡ bytes_of self.old }
+        ensures shared { OnOk result (is_own self.new ≡ false) }
+        ensures err { OnErr result (self.new ≡ self.old) }
+        ensures idle { is_own self.old ≡ false → IsOk result }
+    {
+        if let PageRef::Own(page) = self {
+            let shared = Arc::new(alloc, Page { bytes: page.bytes })?;
+            *self = PageRef::Shared(shared);
+        }
+        Ok(())
+    }
+
+    /// A page of the same bytes: of a shared page another holder, of an own page a copy. Its one error is want of memory.
+    pub fn share(&self, alloc: Global) -> Result<PageRef, AllocError>
+        ensures bytes { IfOk result (λ page. bytes_of page ≡ bytes_of self.now) }
+        ensures own { IfOk result (λ page. is_own page ≡ is_own self.now) }
+    {
+        match self {
+            PageRef::Shared(page) => Ok(PageRef::Shared(Arc::try_clone(page)?)),
+            PageRef::Own(page) => Ok(PageRef::Own(copy_of(page, alloc)?)),
+        }
+    }
+
+    /// An own page of the same bytes. Its one error is want of memory.
+    pub fn copied(&self, alloc: Global) -> Result<PageRef, AllocError>
+        ensures bytes { IfOk result (λ page. bytes_of page ≡ bytes_of self.now) }
+        ensures whole { IfOk result (λ page. IsPage (bytes_of page)) }
+        ensures own { IfOk result (λ page. is_own page ≡ true) }
+    {
+        let copy = match self {
+            PageRef::Shared(page) => copy_of(page, alloc)?,
+            PageRef::Own(page) => copy_of(page, alloc)?,
+        };
+        let copy = PageRef::Own(copy);
+        let _bytes = copy.bytes();
+        Ok(copy)
+    }
+
+    /// Makes it an own page of the same bytes. An own one takes no memory. The one error is want of memory: it is as it was then.
+    pub fn own(&mut self, alloc: Global) -> Result<(), AllocError>
+        ensures same { bytes_of self.new ≡ bytes_of self.old }
+        ensures owned { OnOk result (is_own self.new ≡ true) }
+        ensures err { OnErr result (self.new ≡ self.old) }
+        ensures idle { is_own self.old ≡ true → IsOk result }
+    {
+        if let PageRef::Shared(page) = self {
+            let own = copy_of(page, alloc)?;
+            *self = PageRef::Own(own);
+        }
+        Ok(())
     }
 
     /// The page's bytes.
@@ -55,19 +113,28 @@ impl PageRef {
         ensures whole { IsPage (bytes_of self.now) }
     {
         match self {
+            PageRef::Shared(page) => whole(&page.bytes),
             PageRef::Own(page) => whole(&page.bytes),
         }
     }
 
-    /// Makes the byte at `at`, below 4,096, `value`. An own page takes no memory.
+    /// Makes the byte at `at`, below 4,096, `value`. The page is an own one then, and an own page takes no memory. The one error is want
+    /// of memory: it is as it was then.
     #[inline(always)]
-    pub fn write_byte(&mut self, at: u16, value: u8) -> Result<(), AllocError>
+    pub fn write_byte(&mut self, alloc: Global, at: u16, value: u8) -> Result<(), AllocError>
         requires { at < page_size }
         ensures ok { OnOk result (bytes_of self.new ≡ slice_set (bytes_of self.old) at value) }
-        ensures own { IsOk result }
+        ensures owned { OnOk result (is_own self.new ≡ true) }
+        ensures err { OnErr result (self.new ≡ self.old) }
+        ensures idle { is_own self.old ≡ true → IsOk result }
     {
         match self {
             PageRef::Own(page) => page.bytes[at as usize] = value,
+            PageRef::Shared(page) => {
+                let mut own = copy_of(page, alloc)?;
+                own.bytes[at as usize] = value;
+                *self = PageRef::Own(own);
+            }
         }
         Ok(())
     }
@@ -83,28 +150,49 @@ impl PageRef {
     }
 
     /// Writes the lowest `width` bytes of `value` at `at`, which lies below 4,096 and is a multiple of the width, the least
-    /// first. An own page takes no memory.
+    /// first. The page is an own one then, and an own page takes no memory. The one error is want of memory: it is as it was then.
     #[inline(always)]
-    pub fn write_number(&mut self, at: u16, width: Width, value: u32) -> Result<(), AllocError>
+    pub fn write_number(
+        &mut self,
+        alloc: Global,
+        at: u16,
+        width: Width,
+        value: u32,
+    ) -> Result<(), AllocError>
         requires within { at < page_size }
         requires aligned { at % width_bytes width ≡ 0 }
         ensures ok { OnOk result (bytes_of self.new ≡ with_number_in (bytes_of self.old) at width value) }
-        ensures own { IsOk result }
+        ensures owned { OnOk result (is_own self.new ≡ true) }
+        ensures err { OnErr result (self.new ≡ self.old) }
+        ensures idle { is_own self.old ≡ true → IsOk result }
     {
         match self {
             PageRef::Own(page) => write_number_in(&mut page.bytes, at as usize, width, value),
+            PageRef::Shared(page) => {
+                let mut own = copy_of(page, alloc)?;
+                write_number_in(&mut own.bytes, at as usize, width, value);
+                *self = PageRef::Own(own);
+            }
         }
         Ok(())
     }
 
-    /// Writes `bytes` from `at` on; they end within the page. An own page takes no memory.
-    pub fn write_bytes(&mut self, at: u16, bytes: &[u8]) -> Result<(), AllocError>
+    /// Writes `bytes` from `at` on; they end within the page. The page is an own one then, and an own page takes no memory. The
+    /// one error is want of memory: it is as it was then.
+    pub fn write_bytes(&mut self, alloc: Global, at: u16, bytes: &[u8]) -> Result<(), AllocError>
         requires { at + length bytes.now ≤ page_size }
         ensures ok { OnOk result (bytes_of self.new ≡ overwritten (bytes_of self.old) at bytes.now) }
-        ensures own { IsOk result }
+        ensures owned { OnOk result (is_own self.new ≡ true) }
+        ensures err { OnErr result (self.new ≡ self.old) }
+        ensures idle { is_own self.old ≡ true → IsOk result }
     {
         match self {
             PageRef::Own(page) => overwrite(&mut page.bytes, at as usize, bytes),
+            PageRef::Shared(page) => {
+                let mut own = copy_of(page, alloc)?;
+                overwrite(&mut own.bytes, at as usize, bytes);
+                *self = PageRef::Own(own);
+            }
         }
         Ok(())
     }
@@ -122,6 +210,15 @@ impl PageRef {
     {
         self.bytes() == other.bytes()
     }
+}
+
+// A page of its own with the same bytes.
+#[inline(never)]
+fn copy_of(page: &Page, alloc: Global) -> Result<Box<Page, Global>, AllocError>
+    ensures { IfOk result (λ copy. copy.value.bytes ≡ page.now.bytes) }
+{
+    let copy = Box::new(alloc, Page { bytes: page.bytes })?;
+    Ok(copy)
 }
 
 // The same bytes, whose type keeps how many they are and that each is below 256.

@@ -1,5 +1,5 @@
 -- What edits of an ordered list do to its runs.
-use Rattle.std.specs.Prelude.{◌≡◌, ℕ, zero, suc, ◌+◌, ◌-◌, ◌<◌, ◌≤◌, List, [], ◌∷◌, length, Option, Some, None, is_some}
+use Rattle.std.specs.Prelude.{◌≡◌, ℕ, zero, suc, ◌+◌, ◌-◌, ◌<◌, ◌≤◌, List, [], ◌∷◌, length, Option, Some, None}
 use Rattle.std.specs.List.{insert}
 use Rattle.std.proofs.Common.{refl, sym, ◌∙◌, ap, arith, get_or, subst, inl, inr, set}
 use Rattle.std.proofs.lemmas.Bool.{cases_lt}
@@ -7,7 +7,7 @@ use Rattle.std.proofs.lemmas.List.{get_or_default}
 use Rattle.std.proofs.lemmas.List.Edits.{get_or-insert_below}
 use Rattle.page_store.specs.declared.PageRef.{PageRef}
 use Rattle.space_mem.specs.declared.layout.Run.{Run}
-use Rattle.space_mem.specs.Runs.{end_of, run_of, permission_of, byte_in, byte_of, has_bytes, IsKept, IsRun, Ordered, IsPlace, IsCut, SamePages, SameOwned}
+use Rattle.space_mem.specs.Runs.{end_of, run_of, permission_of, byte_in, byte_of, is_own_in, is_owned_by, IsKept, IsRun, Ordered, IsPlace, IsCut, SamePages, SameOwned}
 use Rattle.space_mem.proofs.Places.{run_at, read_at}
 use Rattle.space_mem.proofs.Lookups.{run_of-here, run_of-before, run_of-after, cases_run, place_past, same_cons, owned_cons}
 
@@ -21,29 +21,29 @@ pub record IsParted (r head tail : Run) (page : ℕ) : Type 0 where
   pub to : end_of tail ≡ end_of r
   pub permission : (head.permission ≡ r.permission) × (tail.permission ≡ r.permission)
   pub byte : (k : ℕ) → (byte_in head.page k ≡ byte_in r.page k) × (byte_in tail.page k ≡ byte_in r.page k)
-  pub kept : (is_some head.page ≡ is_some r.page) × (is_some tail.page ≡ is_some r.page)
+  pub kept : (is_own_in head.page ≡ is_own_in r.page) × (is_own_in tail.page ≡ is_own_in r.page)
 
 -- what is the same of runs at the head of a list where they have the same of each page
-two_pages : (r head tail : Run) (rs : List Run) (page : ℕ) → IsParted r head tail page → (p : ℕ) → (permission_of (run_of (head ∷ tail ∷ rs) p) ≡ permission_of (run_of (r ∷ rs) p)) × (((k : ℕ) → byte_of (run_of (head ∷ tail ∷ rs) p) k ≡ byte_of (run_of (r ∷ rs) p) k) × (has_bytes (run_of (head ∷ tail ∷ rs) p) ≡ has_bytes (run_of (r ∷ rs) p)))
+two_pages : (r head tail : Run) (rs : List Run) (page : ℕ) → IsParted r head tail page → (p : ℕ) → (permission_of (run_of (head ∷ tail ∷ rs) p) ≡ permission_of (run_of (r ∷ rs) p)) × (((k : ℕ) → byte_of (run_of (head ∷ tail ∷ rs) p) k ≡ byte_of (run_of (r ∷ rs) p) k) × (is_owned_by (run_of (head ∷ tail ∷ rs) p) ≡ is_owned_by (run_of (r ∷ rs) p)))
 two_pages r head tail rs page parted p = elim (cases_run head p) [
   | inl before ↦
       let e : run_of (head ∷ tail ∷ rs) p ≡ run_of (r ∷ rs) p =
       run_of-before head (tail ∷ rs) p before ∙ run_of-before tail rs p (omega (arith, parted.on, parted.cut, parted.head_run.some)) ∙ sym (run_of-before r rs p (omega (arith, parted.from))) in
-      (ap permission_of e, (λ k. ap (λ o. byte_of o k) e, ap has_bytes e))
+      (ap permission_of e, (λ k. ap (λ o. byte_of o k) e, ap is_owned_by e))
   | inr later ↦ elim later [
     | inl within ↦
         let e : run_of (head ∷ tail ∷ rs) p ≡ Some head = run_of-here head (tail ∷ rs) p within.0 within.1 in
         let f : run_of (r ∷ rs) p ≡ Some r = run_of-here r rs p (omega (arith, within.0, parted.from)) (omega (arith, within.1, parted.cut, parted.on, parted.to, parted.tail_run.some)) in
-        (ap permission_of e ∙ parted.permission.0 ∙ sym (ap permission_of f), (λ k. ap (λ o. byte_of o k) e ∙ (parted.byte k).0 ∙ sym (ap (λ o. byte_of o k) f), ap has_bytes e ∙ parted.kept.0 ∙ sym (ap has_bytes f)))
+        (ap permission_of e ∙ parted.permission.0 ∙ sym (ap permission_of f), (λ k. ap (λ o. byte_of o k) e ∙ (parted.byte k).0 ∙ sym (ap (λ o. byte_of o k) f), ap is_owned_by e ∙ parted.kept.0 ∙ sym (ap is_owned_by f)))
     | inr after ↦ elim (cases_lt p (end_of tail)) [
       | inl to ↦
           let e : run_of (head ∷ tail ∷ rs) p ≡ Some tail = run_of-after head (tail ∷ rs) p after ∙ run_of-here tail rs p (omega (arith, parted.cut, parted.on)) to in
           let f : run_of (r ∷ rs) p ≡ Some r = run_of-here r rs p (omega (arith, parted.from, parted.head_run.some)) (omega (arith, parted.to)) in
-          (ap permission_of e ∙ parted.permission.1 ∙ sym (ap permission_of f), (λ k. ap (λ o. byte_of o k) e ∙ (parted.byte k).1 ∙ sym (ap (λ o. byte_of o k) f), ap has_bytes e ∙ parted.kept.1 ∙ sym (ap has_bytes f)))
+          (ap permission_of e ∙ parted.permission.1 ∙ sym (ap permission_of f), (λ k. ap (λ o. byte_of o k) e ∙ (parted.byte k).1 ∙ sym (ap (λ o. byte_of o k) f), ap is_owned_by e ∙ parted.kept.1 ∙ sym (ap is_owned_by f)))
       | inr past ↦
           let e : run_of (head ∷ tail ∷ rs) p ≡ run_of (r ∷ rs) p =
           run_of-after head (tail ∷ rs) p after ∙ run_of-after tail rs p past ∙ sym (run_of-after r rs p (omega (arith, parted.to))) in
-          (ap permission_of e, (λ k. ap (λ o. byte_of o k) e, ap has_bytes e))
+          (ap permission_of e, (λ k. ap (λ o. byte_of o k) e, ap is_owned_by e))
     ]
   ]
 ]
@@ -135,7 +135,7 @@ parts r page run from to =
       to = omega arith;
       permission = (refl, refl);
       byte = λ k. (refl, ap (λ o. byte_in o k) (sym none));
-      kept = (refl, ap is_some (sym none));
+      kept = (refl, ap is_own_in (sym none));
     }
 
 -- where the run at a page's place does not start before it, no run has pages on both sides

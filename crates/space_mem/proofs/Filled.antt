@@ -4,7 +4,7 @@ use Rattle.std.proofs.Common.{refl, sym, ◌∙◌, ap, arith, subst, inl, inr, 
 use Rattle.std.proofs.lemmas.Bool.{cases_lt, lt-ltb, le-ltb}
 use Rattle.memory_model.specs.Sizes.{greatest_permission}
 use Rattle.space_mem.specs.declared.layout.Run.{Run}
-use Rattle.space_mem.specs.Runs.{end_of, run_of, permission_of, byte_of, has_bytes, Ordered, IsFilled}
+use Rattle.space_mem.specs.Runs.{end_of, run_of, permission_of, byte_of, is_owned_by, Ordered, IsFilled}
 use Rattle.space_mem.specs.Fills.{blank_runs, filled_runs}
 use Rattle.space_mem.proofs.Lookups.{run_of-here, run_of-before, run_of-after, run_of-low}
 use Rattle.space_mem.proofs.Splits.{ordered_append, run_of-append_left, run_of-append_right}
@@ -40,13 +40,13 @@ blank_byte at end permission p k = elim (cases_lt at end) [
     one false true = refl
     one false false = refl
 
-blank_owned : (at end permission p : ℕ) → has_bytes (run_of (blank_runs at end permission) p) ≡ false
+blank_owned : (at end permission p : ℕ) → is_owned_by (run_of (blank_runs at end permission) p) ≡ false
 blank_owned at end permission p = elim (cases_lt at end) [
-  | inl less ↦ ap (λ l. has_bytes (run_of l p)) (blank_some at end permission less) ∙ one (nat_lt p at) (nat_lt p (at + (end - at)))
-  | inr none ↦ ap (λ l. has_bytes (run_of l p)) (blank_none at end permission none)
+  | inl less ↦ ap (λ l. is_owned_by (run_of l p)) (blank_some at end permission less) ∙ one (nat_lt p at) (nat_lt p (at + (end - at)))
+  | inr none ↦ ap (λ l. is_owned_by (run_of l p)) (blank_none at end permission none)
 ]
   where
-    one : (a b : Bool) → has_bytes (cond (not a && b) (Some (blank at end permission)) None) ≡ false
+    one : (a b : Bool) → is_owned_by (cond (not a && b) (Some (blank at end permission)) None) ≡ false
     one true b = refl
     one false true = refl
     one false false = refl
@@ -84,11 +84,11 @@ filled_is at end permission (r ∷ rs) o small =
       ];
       owned = λ p. elim (cases_lt p r.first) [
         | inl before ↦
-            ap has_bytes (run_of-append_left r.first end (blank_runs at r.first permission) (s ∷ ss) p tail before) ∙ blank_owned at r.first permission p
-            ∙ sym (ap has_bytes (run_of-before r rs p before ∙ run_of-low (end_of r) end rs p o.1.1 (omega arith)))
-        | inr later ↦ ap has_bytes (run_of-append_right at r.first (blank_runs at r.first permission) (s ∷ ss) p head later) ∙ elim (cases_lt p (end_of r)) [
-          | inl within ↦ ap has_bytes (run_of-here s ss p later within) ∙ sym (ap has_bytes (run_of-here r rs p later within))
-          | inr after ↦ ap has_bytes (run_of-after s ss p after) ∙ rest.owned p ∙ sym (ap has_bytes (run_of-after r rs p after))
+            ap is_owned_by (run_of-append_left r.first end (blank_runs at r.first permission) (s ∷ ss) p tail before) ∙ blank_owned at r.first permission p
+            ∙ sym (ap is_owned_by (run_of-before r rs p before ∙ run_of-low (end_of r) end rs p o.1.1 (omega arith)))
+        | inr later ↦ ap is_owned_by (run_of-append_right at r.first (blank_runs at r.first permission) (s ∷ ss) p head later) ∙ elim (cases_lt p (end_of r)) [
+          | inl within ↦ ap is_owned_by (run_of-here s ss p later within) ∙ sym (ap is_owned_by (run_of-here r rs p later within))
+          | inr after ↦ ap is_owned_by (run_of-after s ss p after) ∙ rest.owned p ∙ sym (ap is_owned_by (run_of-after r rs p after))
         ]
       ];
     }

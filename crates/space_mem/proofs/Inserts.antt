@@ -1,11 +1,11 @@
 -- What a new run in a gap does to an ordered list.
-use Rattle.std.specs.Prelude.{◌≡◌, ℕ, zero, suc, ◌+◌, ◌<◌, ◌≤◌, List, [], ◌∷◌, length, Some, None, is_some, ◌⊎◌}
+use Rattle.std.specs.Prelude.{◌≡◌, ℕ, zero, suc, ◌+◌, ◌<◌, ◌≤◌, List, [], ◌∷◌, length, Some, None, ◌⊎◌}
 use Rattle.std.specs.List.{insert}
 use Rattle.std.proofs.Common.{sym, ◌∙◌, ap, arith, get_or, subst, inl, inr}
 use Rattle.std.proofs.lemmas.List.{get_or_default}
 use Rattle.std.proofs.lemmas.List.Edits.{get_or-insert_at, length-insert}
 use Rattle.space_mem.specs.declared.layout.Run.{Run}
-use Rattle.space_mem.specs.Runs.{end_of, run_of, permission_of, byte_in, byte_of, has_bytes, IsRun, Ordered, IsPlace, IsCut, IsEntry, SamePages, SameOwned}
+use Rattle.space_mem.specs.Runs.{end_of, run_of, permission_of, byte_in, byte_of, is_own_in, is_owned_by, IsRun, Ordered, IsPlace, IsCut, IsEntry, SamePages, SameOwned}
 use Rattle.space_mem.proofs.Places.{read_at}
 use Rattle.space_mem.proofs.Lookups.{run_of-here, run_of-before, run_of-after, run_of-low, cases_run, place_past, same_cons, owned_cons}
 
@@ -15,15 +15,15 @@ ordered_from low n high [] o room from = room
 ordered_from low n high (r ∷ rs) o room from = (o.0, (from r (omega arith), o.1.1))
 
 -- a run with nothing in it, before all others
-blank_page : (x : Run) (rs : List Run) (high : ℕ) → Ordered (end_of x) high rs → x.permission ≡ 0 → x.page ≡ None → (p : ℕ) → (permission_of (run_of (x ∷ rs) p) ≡ permission_of (run_of rs p)) × (((k : ℕ) → byte_of (run_of (x ∷ rs) p) k ≡ byte_of (run_of rs p) k) × (has_bytes (run_of (x ∷ rs) p) ≡ has_bytes (run_of rs p)))
+blank_page : (x : Run) (rs : List Run) (high : ℕ) → Ordered (end_of x) high rs → x.permission ≡ 0 → x.page ≡ None → (p : ℕ) → (permission_of (run_of (x ∷ rs) p) ≡ permission_of (run_of rs p)) × (((k : ℕ) → byte_of (run_of (x ∷ rs) p) k ≡ byte_of (run_of rs p) k) × (is_owned_by (run_of (x ∷ rs) p) ≡ is_owned_by (run_of rs p)))
 blank_page x rs high o permission page p = elim (cases_run x p) [
-  | inl before ↦ (ap permission_of (run_of-before x rs p before), (λ k. ap (λ o. byte_of o k) (run_of-before x rs p before), ap has_bytes (run_of-before x rs p before)))
+  | inl before ↦ (ap permission_of (run_of-before x rs p before), (λ k. ap (λ o. byte_of o k) (run_of-before x rs p before), ap is_owned_by (run_of-before x rs p before)))
   | inr later ↦ elim later [
     | inl within ↦
         let e : run_of (x ∷ rs) p ≡ Some x = run_of-here x rs p within.0 within.1 in
         let f : run_of rs p ≡ None = run_of-low (end_of x) high rs p o within.1 in
-        (ap permission_of e ∙ permission ∙ sym (ap permission_of f), (λ k. ap (λ o. byte_of o k) e ∙ ap (λ o. byte_in o k) page ∙ sym (ap (λ o. byte_of o k) f), ap has_bytes e ∙ ap is_some page ∙ sym (ap has_bytes f)))
-    | inr after ↦ (ap permission_of (run_of-after x rs p after), (λ k. ap (λ o. byte_of o k) (run_of-after x rs p after), ap has_bytes (run_of-after x rs p after)))
+        (ap permission_of e ∙ permission ∙ sym (ap permission_of f), (λ k. ap (λ o. byte_of o k) e ∙ ap (λ o. byte_in o k) page ∙ sym (ap (λ o. byte_of o k) f), ap is_owned_by e ∙ ap is_own_in page ∙ sym (ap is_owned_by f)))
+    | inr after ↦ (ap permission_of (run_of-after x rs p after), (λ k. ap (λ o. byte_of o k) (run_of-after x rs p after), ap is_owned_by (run_of-after x rs p after)))
   ]
 ]
 

@@ -9,10 +9,10 @@ pub mod PageEdits
 pub mod Writes
 pub mod Bounds
 pub mod Splits
+pub mod Walks
 pub mod Owned
 pub mod Filled
 pub mod Ranges
-pub mod Walks
 pub mod Zeros
 pub mod Lacks
 pub mod Nexts

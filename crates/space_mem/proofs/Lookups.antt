@@ -3,7 +3,7 @@ use Rattle.std.specs.Prelude.{◌≡◌, ℕ, zero, suc, ◌<◌, ◌≤◌, Boo
 use Rattle.std.proofs.Common.{refl, sym, ◌∙◌, ap, arith, get_or, subst, inl, inr}
 use Rattle.std.proofs.lemmas.Bool.{cases_lt, le-ltb, lt-ltb}
 use Rattle.space_mem.specs.declared.layout.Run.{Run}
-use Rattle.space_mem.specs.Runs.{end_of, covers, run_of, permission_of, byte_of, has_bytes, Ordered, IsPlace, SamePages, SameOwned}
+use Rattle.space_mem.specs.Runs.{end_of, covers, run_of, permission_of, byte_of, is_owned_by, Ordered, IsPlace, SamePages, SameOwned}
 use Rattle.space_mem.proofs.Places.{ordered_bounds, run_at}
 
 covers_within : (r : Run) (p : ℕ) → r.first ≤ p → p < end_of r → covers r p ≡ true
@@ -93,13 +93,13 @@ same_cons r rs ss same = record {
     bytes p k true = refl
     bytes p k false = same.byte p k
 
-    owned : (p : ℕ) (b : Bool) → has_bytes (cond b (Some r) (run_of ss p)) ≡ true → has_bytes (cond b (Some r) (run_of rs p)) ≡ true
+    owned : (p : ℕ) (b : Bool) → is_owned_by (cond b (Some r) (run_of ss p)) ≡ true → is_owned_by (cond b (Some r) (run_of rs p)) ≡ true
     owned p true kept = kept
     owned p false kept = same.kept p kept
 
 pub owned_cons : (r : Run) (rs ss : List Run) → SameOwned rs ss → SameOwned (r ∷ rs) (r ∷ ss)
 owned_cons r rs ss same p = both (covers r p)
   where
-    both : (b : Bool) → has_bytes (cond b (Some r) (run_of rs p)) ≡ has_bytes (cond b (Some r) (run_of ss p))
+    both : (b : Bool) → is_owned_by (cond b (Some r) (run_of rs p)) ≡ is_owned_by (cond b (Some r) (run_of ss p))
     both true = refl
     both false = same p

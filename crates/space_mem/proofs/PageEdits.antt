@@ -1,18 +1,18 @@
 -- What an edit of a page's bytes does to an ordered list.
-use Rattle.std.specs.Prelude.{◌≡◌, ℕ, ◌+◌, ◌-◌, ◌%◌, ◌<◌, ◌≤◌, List, ◌++◌, take, drop, length, slice_index, slice_set, Option, Some, None, is_some, IsSome, IsOk, OnOk, OnErr, false}
+use Rattle.std.specs.Prelude.{◌≡◌, ℕ, ◌+◌, ◌-◌, ◌%◌, ◌<◌, ◌≤◌, List, ◌++◌, take, drop, length, slice_index, slice_set, Some, IsOk, OnOk, OnErr, true}
 use Rattle.std.proofs.Common.{Result, Ok, Err, refl, sym, ◌∙◌, ap, arith, get_or, set, subst, inl, inr}
 use Rattle.std.proofs.lemmas.List.{get_or-set_same, get_or-set_other, length-set, length-take-le, length-append, length-drop, get_or_append_left, get_or-append_right, get_or-take, get_or-drop}
-use Rattle.std.proofs.lemmas.Bool.{cases_eq, cases_lt, true≢false, false≢true}
+use Rattle.std.proofs.lemmas.Bool.{cases_eq, cases_lt, false≢true}
 use Rattle.memory_model.specs.declared.Width.{Width}
 use Rattle.memory_model.specs.declared.Width.TheVariants.{One, Two, Four}
 use Rattle.memory_model.specs.Memory.{width_bytes}
 use Rattle.page_store.specs.declared.PageRef.{PageRef}
-use Rattle.page_store.specs.Bytes.{bytes_of, IsPage, with_number_in, overwritten}
+use Rattle.page_store.specs.Bytes.{bytes_of, is_own, IsPage, with_number_in, overwritten}
 use Rattle.space_mem.specs.declared.layout.Run.{Run}
-use Rattle.space_mem.specs.Runs.{run_of, byte_in, byte_of, IsRun, Ordered, IsEntry, OwnsToo, SamePages, SetsPage, IsEdited}
+use Rattle.space_mem.specs.Runs.{run_of, byte_in, byte_of, is_own_in, IsRun, Ordered, IsEntry, HasOwnPage, OwnsToo, SamePages, SetsPage, IsEdited}
 use Rattle.space_mem.proofs.Places.{read_at}
 use Rattle.space_mem.proofs.Lookups.{run_of-read}
-use Rattle.space_mem.proofs.Sets.{ordered_set, owned_set, sets_page, same_set}
+use Rattle.space_mem.proofs.Sets.{ordered_set, sets_page, same_set}
 
 pub page_set : (bytes : List ℕ) (k v : ℕ) → IsPage bytes → k < 4096 → v < 256 → IsPage (slice_set bytes k v)
 page_set bytes k v page within small = record {
@@ -37,8 +37,8 @@ pub record IsEditedList (page : ℕ) (edit : List ℕ → List ℕ) (rs ss : Lis
   pub ordered : Ordered 0 1048576 ss
   pub edited : IsEdited page edit rs ss
 
-pub edited_list : (page : ℕ) (rs : List Run) (i : ℕ) (r : Run) (p q : PageRef) (edit : List ℕ → List ℕ) → Ordered 0 1048576 rs → IsEntry page rs i → r ≡ get_or rs i r → r.page ≡ Some p → IsPage (bytes_of p) → bytes_of q ≡ edit (bytes_of p) → IsPage (edit (bytes_of p)) → IsEditedList page edit rs (set rs i (record r { page = Some q }))
-edited_list page rs i r p q edit o entry is has whole is_edit new =
+pub edited_list : (page : ℕ) (rs : List Run) (i : ℕ) (r : Run) (p q : PageRef) (edit : List ℕ → List ℕ) → is_own q ≡ true → Ordered 0 1048576 rs → IsEntry page rs i → r ≡ get_or rs i r → r.page ≡ Some p → IsPage (bytes_of p) → bytes_of q ≡ edit (bytes_of p) → IsPage (edit (bytes_of p)) → IsEditedList page edit rs (set rs i (record r { page = Some q }))
+edited_list page rs i r p q edit own o entry is has whole is_edit new =
     let run = (read_at 0 1048576 rs i r o entry.in_range is).run in
     let first : r.first ≡ page = ap (λ x. x.first) is ∙ (entry.run r).0 in
     let count : r.count ≡ 1 = ap (λ x. x.count) is ∙ (entry.run r).1 in
@@ -50,37 +50,35 @@ edited_list page rs i r p q edit o entry is has whole is_edit new =
         bytes = bytes_of p;
         whole = whole;
         was = λ k. ap (λ o. byte_of o k) here ∙ ap (λ o. byte_in o k) has;
-        sets = sets_page page rs i r (record r { page = Some q }) (edit (bytes_of p)) o entry.in_range is first count refl refl refl good (λ k. ap (λ bs. slice_index bs k) is_edit) refl;
+        sets = sets_page page rs i r (record r { page = Some q }) (edit (bytes_of p)) o entry.in_range is first count refl refl refl good (λ k. ap (λ bs. slice_index bs k) is_edit) own;
       };
     }
 
--- a page of zeros where none was kept
-pub filled_list : (page : ℕ) (rs : List Run) (i : ℕ) (r : Run) (q : PageRef) → Ordered 0 1048576 rs → IsEntry page rs i → r ≡ get_or rs i r → r.page ≡ None → IsPage (bytes_of q) → ((k : ℕ) → slice_index (bytes_of q) k ≡ 0) → Ordered 0 1048576 (set rs i (record r { page = Some q })) × (SamePages (set rs i (record r { page = Some q })) rs × OwnsToo page rs (set rs i (record r { page = Some q })))
-filled_list page rs i r q o entry is has whole zeros =
+-- a page of the memory's own with the same bytes
+pub own_list : (page : ℕ) (rs : List Run) (i : ℕ) (r : Run) (q : PageRef) → Ordered 0 1048576 rs → IsEntry page rs i → r ≡ get_or rs i r → IsPage (bytes_of q) → is_own q ≡ true → ((k : ℕ) → slice_index (bytes_of q) k ≡ byte_in r.page k) → Ordered 0 1048576 (set rs i (record r { page = Some q })) × (SamePages (set rs i (record r { page = Some q })) rs × OwnsToo page rs (set rs i (record r { page = Some q })))
+own_list page rs i r q o entry is whole own bytes =
     let run = (read_at 0 1048576 rs i r o entry.in_range is).run in
     let first : r.first ≡ page = ap (λ x. x.first) is ∙ (entry.run r).0 in
     let count : r.count ≡ 1 = ap (λ x. x.count) is ∙ (entry.run r).1 in
     let good : IsRun (record r { page = Some q }) = record { some = run.some; permission = run.permission; kept = (count, whole) } in
     let here : run_of rs page ≡ Some r = run_of-read 0 1048576 rs i page r o entry.in_range is (omega arith) (omega arith) in
-    let sets = sets_page page rs i r (record r { page = Some q }) (bytes_of q) o entry.in_range is first count refl refl refl good (λ k. refl) refl in (
+    let sets = sets_page page rs i r (record r { page = Some q }) (bytes_of q) o entry.in_range is first count refl refl refl good (λ k. refl) own in (
       ordered_set 0 1048576 rs i r (record r { page = Some q }) o is refl refl good,
-      (same_set page (bytes_of q) rs (set rs i (record r { page = Some q })) sets (λ k. ap (λ o. byte_of o k) here ∙ ap (λ o. byte_in o k) has ∙ sym (zeros k)), sets.owned),
+      (same_set page (bytes_of q) rs (set rs i (record r { page = Some q })) sets (λ k. ap (λ o. byte_of o k) here ∙ sym (bytes k)), sets.owned),
     )
 
--- a page's own run that keeps bytes already
-pub kept_list : (page : ℕ) (rs : List Run) (i : ℕ) (r : Run) → Ordered 0 1048576 rs → IsEntry page rs i → r ≡ get_or rs i r → IsSome r.page → OwnsToo page rs (set rs i r)
-kept_list page rs i r o entry is some =
-    let run = (read_at 0 1048576 rs i r o entry.in_range is).run in
-    owned_set page rs i r r o entry.in_range is (ap (λ x. x.first) is ∙ (entry.run r).0) (ap (λ x. x.count) is ∙ (entry.run r).1) refl refl run some
+-- a page's run with an own page at its place
+pub own_there : (rs : List Run) (i : ℕ) (r : Run) (q : PageRef) → i < length rs → is_own q ≡ true → HasOwnPage (set rs i (record r { page = Some q })) i
+own_there rs i r q within own d = ap (λ x. is_own_in x.page) (get_or-set_same rs i (record r { page = Some q }) d within) ∙ own
+
+-- the page at an index where one is owned
+pub own_at : (rs : List Run) (i : ℕ) (r : Run) (p : PageRef) → HasOwnPage rs i → r ≡ get_or rs i r → r.page ≡ Some p → is_own p ≡ true
+own_at rs i r p kept is has = sym (ap is_own_in (sym (ap (λ x. x.page) is) ∙ has)) ∙ kept r
 
 -- what a result that is no error promised
 pub promised : {T E : Type 0} (r : Result T E) (P : Type 0) → IsOk r → OnOk r P → P
 promised (Ok x) P ok p = p
 promised (Err e) P ok p = absurd (false≢true ok)
-
-pub no_value : {T : Type 0} (o : Option T) → is_some o ≡ false → o ≡ None
-no_value None none = refl
-no_value (Some x) none = absurd (true≢false none)
 
 pub always : {T E : Type 0} (r : Result T E) (P : Type 0) → P → OnOk r P
 always (Ok x) P p = p
@@ -133,12 +131,12 @@ page_overwritten bytes at new page within small = record {
 }
 
 -- a page's bytes in the place of those that its run keeps
-pub put_list : (page : ℕ) (rs : List Run) (i : ℕ) (r : Run) (q : PageRef) → Ordered 0 1048576 rs → IsEntry page rs i → r ≡ get_or rs i r → IsPage (bytes_of q) → Ordered 0 1048576 (set rs i (record r { page = Some q })) × SetsPage page (bytes_of q) rs (set rs i (record r { page = Some q }))
-put_list page rs i r q o entry is whole =
+pub put_list : (page : ℕ) (rs : List Run) (i : ℕ) (r : Run) (q : PageRef) → Ordered 0 1048576 rs → IsEntry page rs i → r ≡ get_or rs i r → IsPage (bytes_of q) → is_own q ≡ true → Ordered 0 1048576 (set rs i (record r { page = Some q })) × SetsPage page (bytes_of q) rs (set rs i (record r { page = Some q }))
+put_list page rs i r q o entry is whole own =
     let run = (read_at 0 1048576 rs i r o entry.in_range is).run in
     let first : r.first ≡ page = ap (λ x. x.first) is ∙ (entry.run r).0 in
     let count : r.count ≡ 1 = ap (λ x. x.count) is ∙ (entry.run r).1 in
     let good : IsRun (record r { page = Some q }) = record { some = run.some; permission = run.permission; kept = (count, whole) } in (
       ordered_set 0 1048576 rs i r (record r { page = Some q }) o is refl refl good,
-      sets_page page rs i r (record r { page = Some q }) (bytes_of q) o entry.in_range is first count refl refl refl good (λ k. refl) refl,
+      sets_page page rs i r (record r { page = Some q }) (bytes_of q) o entry.in_range is first count refl refl refl good (λ k. refl) own,
     )

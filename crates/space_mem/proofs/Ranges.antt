@@ -6,7 +6,7 @@ use Rattle.std.proofs.lemmas.List.{drop-take, take-take}
 use Rattle.memory_model.specs.Memory.{Memory, with_permissions}
 use Rattle.memory_model.proofs.Runs.{permission_at-with_permissions, permission_at-with_permissions_out, byte_at-with_permissions}
 use Rattle.space_mem.specs.declared.layout.Run.{Run}
-use Rattle.space_mem.specs.Runs.{permission_of, byte_of, has_bytes, memory_of, Ordered, SameOwned, IsSpan, IsRefilled}
+use Rattle.space_mem.specs.Runs.{permission_of, byte_of, is_owned_by, memory_of, Ordered, SameOwned, IsSpan, IsRefilled}
 use Rattle.space_mem.proofs.Memories.{memory_is, byte_at-memory_of, permission_at-memory_of}
 use Rattle.space_mem.proofs.Splits.{IsReplaced, replaced}
 
@@ -50,10 +50,10 @@ pub refilled_owned : (first end right : ℕ) (rs ss : List Run) (i j : ℕ) → 
 refilled_owned first end right rs ss i j span re p =
     let r : IsReplaced first end rs re.middle ss i j = subst (λ l. IsReplaced first end rs re.middle l i j) (sym re.list) (replaced first end rs re.middle i j span re.filled.ordered) in
     elim (cases_lt p first) [
-      | inl before ↦ ap has_bytes (r.before p before)
+      | inl before ↦ ap is_owned_by (r.before p before)
       | inr from ↦ elim (cases_lt p end) [
-        | inl to ↦ let h = r.here p from to in ap has_bytes h.0 ∙ re.filled.owned p ∙ sym (ap has_bytes h.1)
-        | inr after ↦ ap has_bytes (r.after p after)
+        | inl to ↦ let h = r.here p from to in ap is_owned_by h.0 ∙ re.filled.owned p ∙ sym (ap is_owned_by h.1)
+        | inr after ↦ ap is_owned_by (r.after p after)
       ]
     ]
 

@@ -1,10 +1,10 @@
 -- What a run in another's place does to an ordered list.
-use Rattle.std.specs.Prelude.{◌≡◌, ℕ, zero, suc, ◌+◌, ◌<◌, ◌≤◌, List, [], ◌∷◌, length, slice_index, Some, IsSome, ◌⊎◌, cond, true}
+use Rattle.std.specs.Prelude.{◌≡◌, ℕ, zero, suc, ◌+◌, ◌<◌, ◌≤◌, List, [], ◌∷◌, length, slice_index, Some, ◌⊎◌, cond, true}
 use Rattle.std.proofs.Common.{refl, sym, ◌∙◌, ap, arith, get_or, set, subst, inl, inr, eq-eqb, ne_eqb}
 use Rattle.std.proofs.lemmas.List.{get_or-set_same, length-set}
 use Rattle.std.proofs.lemmas.Bool.{cases_eq, cases_lt}
 use Rattle.space_mem.specs.declared.layout.Run.{Run}
-use Rattle.space_mem.specs.Runs.{end_of, run_of, permission_of, byte_in, byte_of, has_bytes, IsRun, Ordered, OwnsToo, SamePages, SetsPage}
+use Rattle.space_mem.specs.Runs.{end_of, run_of, permission_of, byte_in, byte_of, is_own_in, is_owned_by, IsRun, Ordered, OwnsToo, SamePages, SetsPage}
 use Rattle.space_mem.proofs.Lookups.{run_of-here, run_of-before, run_of-after, run_of-read, cases_run}
 
 pub ordered_set : (low high : ℕ) (rs : List Run) (i : ℕ) (r s : Run) → Ordered low high rs → r ≡ get_or rs i r → s.first ≡ r.first → s.count ≡ r.count → IsRun s → Ordered low high (set rs i s)
@@ -40,19 +40,19 @@ set_in low high rs i r s p o within is first count run from to =
     let long : length (set rs i s) ≡ length rs = length-set rs i s in
     run_of-read low high (set rs i s) i p s (ordered_set low high rs i r s o is first count run) (omega arith) (sym here) (omega arith) (omega arith)
 
--- a page's entry with bytes of any kind: the page is owned then
-pub owned_set : (page : ℕ) (rs : List Run) (i : ℕ) (r s : Run) → Ordered 0 1048576 rs → i < length rs → r ≡ get_or rs i r → r.first ≡ page → r.count ≡ 1 → s.first ≡ r.first → s.count ≡ r.count → IsRun s → IsSome s.page → OwnsToo page rs (set rs i s)
+-- a page's entry with bytes of the memory's own: the page is owned then
+pub owned_set : (page : ℕ) (rs : List Run) (i : ℕ) (r s : Run) → Ordered 0 1048576 rs → i < length rs → r ≡ get_or rs i r → r.first ≡ page → r.count ≡ 1 → s.first ≡ r.first → s.count ≡ r.count → IsRun s → is_own_in s.page ≡ true → OwnsToo page rs (set rs i s)
 owned_set page rs i r s o within is at one first count run some p = elim (cases_eq p page) [
   | inl same ↦
       let new : run_of (set rs i s) page ≡ Some s = set_in 0 1048576 rs i r s page o within is first count run (omega arith) (omega arith) in
-      ap (λ q. has_bytes (run_of (set rs i s) q)) same ∙ ap has_bytes new ∙ some ∙ sym (ap (λ b. cond b true (has_bytes (run_of rs p))) (eq-eqb p page same))
+      ap (λ q. is_owned_by (run_of (set rs i s) q)) same ∙ ap is_owned_by new ∙ some ∙ sym (ap (λ b. cond b true (is_owned_by (run_of rs p))) (eq-eqb p page same))
   | inr other ↦
       let out : run_of (set rs i s) p ≡ run_of rs p = set_out rs i r s p is first count (elim (cases_lt p page) [ inl before ↦ inl (omega arith) | inr from ↦ inr (omega (arith, other)) ]) in
-      ap has_bytes out ∙ sym (ap (λ b. cond b true (has_bytes (run_of rs p))) (ne_eqb p page other))
+      ap is_owned_by out ∙ sym (ap (λ b. cond b true (is_owned_by (run_of rs p))) (ne_eqb p page other))
 ]
 
 -- a page's entry with other bytes
-pub sets_page : (page : ℕ) (rs : List Run) (i : ℕ) (r s : Run) (bytes : List ℕ) → Ordered 0 1048576 rs → i < length rs → r ≡ get_or rs i r → r.first ≡ page → r.count ≡ 1 → s.first ≡ r.first → s.count ≡ r.count → s.permission ≡ r.permission → IsRun s → ((k : ℕ) → byte_in s.page k ≡ slice_index bytes k) → IsSome s.page → SetsPage page bytes rs (set rs i s)
+pub sets_page : (page : ℕ) (rs : List Run) (i : ℕ) (r s : Run) (bytes : List ℕ) → Ordered 0 1048576 rs → i < length rs → r ≡ get_or rs i r → r.first ≡ page → r.count ≡ 1 → s.first ≡ r.first → s.count ≡ r.count → s.permission ≡ r.permission → IsRun s → ((k : ℕ) → byte_in s.page k ≡ slice_index bytes k) → is_own_in s.page ≡ true → SetsPage page bytes rs (set rs i s)
 sets_page page rs i r s bytes o within is at one first count permission run kept some =
     let new : run_of (set rs i s) page ≡ Some s = set_in 0 1048576 rs i r s page o within is first count run (omega arith) (omega arith) in
     let old : run_of rs page ≡ Some r = run_of-read 0 1048576 rs i page r o within is (omega arith) (omega arith) in
@@ -65,8 +65,8 @@ sets_page page rs i r s bytes o within is at one first count permission run kept
       byte = λ k. ap (λ o. byte_of o k) new ∙ kept k;
       other = λ p k other. ap (λ o. byte_of o k) (out p other);
       kept = λ p owned. elim (cases_eq p page) [
-        | inl same ↦ ap (λ q. has_bytes (run_of (set rs i s) q)) same ∙ ap has_bytes new ∙ some
-        | inr other ↦ ap has_bytes (out p other) ∙ owned
+        | inl same ↦ ap (λ q. is_owned_by (run_of (set rs i s) q)) same ∙ ap is_owned_by new ∙ some
+        | inr other ↦ ap is_owned_by (out p other) ∙ owned
       ];
       owned = owned_set page rs i r s o within is at one first count run some;
     }

@@ -1,6 +1,6 @@
 -- What a walk over the runs gives.
-use Rattle.std.specs.Prelude.{◌≡◌, ℕ, ◌+◌, ◌*◌, ◌<◌, ◌≤◌, List, [], ◌∷◌, ◌++◌, take, length, slice_index, Option, Some, None, IfSome}
-use Rattle.std.proofs.Common.{refl, sym, ◌∙◌, ap, arith, get_or, subst, inl, inr}
+use Rattle.std.specs.Prelude.{◌≡◌, ℕ, zero, suc, ◌+◌, ◌*◌, ◌<◌, ◌≤◌, Bool, true, false, cond, List, [], ◌∷◌, ◌++◌, take, length, slice_index, Option, Some, None, IfSome}
+use Rattle.std.proofs.Common.{refl, sym, ◌∙◌, ap, arith, get_or, set, subst, inl, inr}
 use Rattle.std.proofs.lemmas.Bool.{cases_lt}
 use Rattle.std.proofs.lemmas.List.{take_more, take_all}
 use Rattle.memory_model.specs.Ranges.{with_page, IsPageOf}
@@ -8,7 +8,7 @@ use Rattle.memory_model.proofs.Rows.{value_at-row, value_at-row_before, value_at
 use Rattle.page_store.specs.declared.PageRef.{PageRef}
 use Rattle.page_store.specs.Bytes.{bytes_of, IsPage}
 use Rattle.space_mem.specs.declared.layout.Run.{Run}
-use Rattle.space_mem.specs.Runs.{end_of, run_of, permission_of, byte_in, byte_of, has_bytes, IsKept, memory_of, Ordered, SamePages, SetsPage, IsCopy, AreCopies, IsFound}
+use Rattle.space_mem.specs.Runs.{end_of, covers, run_of, permission_of, byte_in, byte_of, is_own_in, is_owned_by, IsKept, memory_by, memory_of, IsRun, Ordered, SamePages, SetsPage, IsCopy, AreCopies, NoneOwned, IsFound}
 use Rattle.space_mem.proofs.Places.{read_at}
 use Rattle.space_mem.proofs.Lookups.{run_of-here, run_of-before, run_of-after, cases_run}
 use Rattle.space_mem.proofs.Memories.{memory_same, edited_is, byte_at-page}
@@ -54,8 +54,8 @@ copies_ordered low high (r ∷ rs) (s ∷ ss) all o =
     let to : end_of r ≡ end_of s = omega (arith, all.0.first, all.0.count) in
     (all.0.run, (omega (arith, o.1.0, all.0.first), copies_ordered (end_of s) high rs ss all.1 (subst (λ n. Ordered n high rs) to o.1.1)))
 
-copied_page : (rs ss : List Run) → AreCopies rs ss → (p : ℕ) → (permission_of (run_of ss p) ≡ permission_of (run_of rs p)) × (((k : ℕ) → byte_of (run_of ss p) k ≡ byte_of (run_of rs p) k) × (has_bytes (run_of ss p) ≡ has_bytes (run_of rs p)))
-copied_page [] [] all p = (refl, (λ k. refl, refl))
+copied_page : (rs ss : List Run) → AreCopies rs ss → (p : ℕ) → (permission_of (run_of ss p) ≡ permission_of (run_of rs p)) × ((k : ℕ) → byte_of (run_of ss p) k ≡ byte_of (run_of rs p) k)
+copied_page [] [] all p = (refl, λ k. refl)
 copied_page [] (s ∷ ss) all p = absurd all
 copied_page (r ∷ rs) [] all p = absurd all
 copied_page (r ∷ rs) (s ∷ ss) all p =
@@ -64,25 +64,69 @@ copied_page (r ∷ rs) (s ∷ ss) all p =
       | inl before ↦
           let e = run_of-before s ss p (omega (arith, all.0.first)) in
           let f = run_of-before r rs p before in
-          (ap permission_of e ∙ rest.0 ∙ sym (ap permission_of f), (λ k. ap (λ o. byte_of o k) e ∙ rest.1.0 k ∙ sym (ap (λ o. byte_of o k) f), ap has_bytes e ∙ rest.1.1 ∙ sym (ap has_bytes f)))
+          (ap permission_of e ∙ rest.0 ∙ sym (ap permission_of f), λ k. ap (λ o. byte_of o k) e ∙ rest.1 k ∙ sym (ap (λ o. byte_of o k) f))
       | inr later ↦ elim later [
         | inl within ↦
             let e = run_of-here s ss p (omega (arith, within.0, all.0.first)) (omega (arith, within.1, all.0.first, all.0.count)) in
             let f = run_of-here r rs p within.0 within.1 in
-            (ap permission_of e ∙ all.0.permission ∙ sym (ap permission_of f), (λ k. ap (λ o. byte_of o k) e ∙ all.0.byte k ∙ sym (ap (λ o. byte_of o k) f), ap has_bytes e ∙ all.0.kept ∙ sym (ap has_bytes f)))
+            (ap permission_of e ∙ all.0.permission ∙ sym (ap permission_of f), λ k. ap (λ o. byte_of o k) e ∙ all.0.byte k ∙ sym (ap (λ o. byte_of o k) f))
         | inr after ↦
             let e = run_of-after s ss p (omega (arith, after, all.0.first, all.0.count)) in
             let f = run_of-after r rs p after in
-            (ap permission_of e ∙ rest.0 ∙ sym (ap permission_of f), (λ k. ap (λ o. byte_of o k) e ∙ rest.1.0 k ∙ sym (ap (λ o. byte_of o k) f), ap has_bytes e ∙ rest.1.1 ∙ sym (ap has_bytes f)))
+            (ap permission_of e ∙ rest.0 ∙ sym (ap permission_of f), λ k. ap (λ o. byte_of o k) e ∙ rest.1 k ∙ sym (ap (λ o. byte_of o k) f))
       ]
     ]
 
-pub copies_same : (rs ss : List Run) → AreCopies rs ss → SamePages ss rs
-copies_same rs ss all = record {
-  permission = λ p. (copied_page rs ss all p).0;
-  byte = λ p. (copied_page rs ss all p).1.0;
-  kept = λ p kept. (copied_page rs ss all p).1.1 ∙ kept;
+-- copies stand for the same memory
+pub copies_memory : (rs ss : List Run) → AreCopies rs ss → memory_of ss ≡ memory_of rs
+copies_memory rs ss all = λ i. memory_by (λ p. (copied_page rs ss all p).0 i) (λ p k. (copied_page rs ss all p).1 k i)
+
+copy_twice : (r s t : Run) → IsCopy r s → IsCopy s t → IsCopy r t
+copy_twice r s t a b = record {
+  run = b.run;
+  first = b.first ∙ a.first;
+  count = b.count ∙ a.count;
+  permission = b.permission ∙ a.permission;
+  byte = λ k. b.byte k ∙ a.byte k;
 }
+
+copy_same : (r : Run) → IsRun r → IsCopy r r
+copy_same r run = record { run = run; first = refl; count = refl; permission = refl; byte = λ k. refl }
+
+pub copies_same : (low high : ℕ) (rs : List Run) → Ordered low high rs → AreCopies rs rs
+copies_same low high [] o = tt
+copies_same low high (r ∷ rs) o = (copy_same r o.0, copies_same (end_of r) high rs o.1.1)
+
+-- another copy in the place of one
+pub copies_set : (rs ss : List Run) (i : ℕ) (s t : Run) → AreCopies rs ss → s ≡ get_or ss i s → IsCopy s t → AreCopies rs (set ss i t)
+copies_set [] [] i s t all is one = tt
+copies_set [] (x ∷ ss) i s t all is one = absurd all
+copies_set (r ∷ rs) [] i s t all is one = absurd all
+copies_set (r ∷ rs) (x ∷ ss) zero s t all is one = (copy_twice r x t all.0 (subst (λ y. IsCopy y t) is one), all.1)
+copies_set (r ∷ rs) (x ∷ ss) (suc i) s t all is one = (all.0, copies_set rs ss i s t all.1 is one)
+
+-- runs that own no page
+pub none_set : (rs : List Run) (i : ℕ) (s : Run) → NoneOwned (take i rs) → is_own_in s.page ≡ false → NoneOwned (take (suc i) (set rs i s))
+none_set [] i s none own = tt
+none_set (x ∷ rs) zero s none own = (own, tt)
+none_set (x ∷ rs) (suc i) s none own = (none.0, none_set rs i s none.1 own)
+
+pub none_at : (rs : List Run) (i : ℕ) (r : Run) → NoneOwned rs → i < length rs → r ≡ get_or rs i r → is_own_in r.page ≡ false
+none_at [] i r none within is = absurd (omega arith)
+none_at (x ∷ rs) zero r none within is = ap (λ y. is_own_in y.page) is ∙ none.0
+none_at (x ∷ rs) (suc i) r none within is = none_at rs i r none.1 (omega arith) is
+
+pub none_push : (rs : List Run) (s : Run) → NoneOwned rs → is_own_in s.page ≡ false → NoneOwned (rs ++ s ∷ [])
+none_push [] s none own = (own, tt)
+none_push (x ∷ rs) s none own = (none.0, none_push rs s none.1 own)
+
+pub none_owned : (rs : List Run) → NoneOwned rs → (p : ℕ) → is_owned_by (run_of rs p) ≡ false
+none_owned [] none p = refl
+none_owned (x ∷ rs) none p = both (covers x p) (none_owned rs none.1 p)
+  where
+    both : (b : Bool) → is_owned_by (run_of rs p) ≡ false → is_owned_by (cond b (Some x) (run_of rs p)) ≡ false
+    both true rest = none.0
+    both false rest = rest
 
 pub if_some : {T : Type 0} (o : Option T) (P Q : T → Type 0) → IfSome o P → ((x : T) → P x → Q x) → IfSome o Q
 if_some None P Q h f = tt

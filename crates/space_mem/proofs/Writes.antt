@@ -1,5 +1,5 @@
 -- What is written into a memory by way of a page's run.
-use Rattle.std.specs.Prelude.{◌≡◌, ℕ, ◌+◌, ◌-◌, ◌*◌, ◌/◌, ◌%◌, ◌<◌, ◌≤◌, take, drop, false, List, [], ◌∷◌, ◌++◌, length, slice_index, slice_set, Option, Some, None, is_some, IsSome}
+use Rattle.std.specs.Prelude.{◌≡◌, ℕ, ◌+◌, ◌-◌, ◌*◌, ◌/◌, ◌%◌, ◌<◌, ◌≤◌, take, drop, false, List, [], ◌∷◌, ◌++◌, length, slice_index, slice_set, Option, Some, None, true, is_some}
 use Rattle.std.proofs.Common.{refl, sym, ◌∙◌, ap, arith, get_or, subst, inl, inr}
 use Rattle.std.proofs.lemmas.List.{get_or_default, take-append-drop, take-take, drop-take, length-take-le}
 use Rattle.std.proofs.lemmas.Bool.{true≢false, false≢true, cases_lt}
@@ -11,7 +11,7 @@ use Rattle.memory_model.specs.Ranges.{IsZeroPage}
 use Rattle.page_store.specs.declared.PageRef.{PageRef}
 use Rattle.page_store.specs.Bytes.{with_number_in, overwritten}
 use Rattle.space_mem.specs.declared.layout.Run.{Run}
-use Rattle.space_mem.specs.Runs.{end_of, run_of, byte_of, byte_in, has_bytes, IsKept, IsOwned, memory_of, Ordered, SamePages, IsEntry, HasPage, IsEdited}
+use Rattle.space_mem.specs.Runs.{end_of, run_of, byte_of, byte_in, is_own_in, is_owned_by, IsKept, IsOwned, memory_of, Ordered, SamePages, IsEntry, HasOwnPage, IsEdited}
 use Rattle.space_mem.proofs.Places.{read_at}
 use Rattle.space_mem.proofs.Lookups.{run_of-at}
 use Rattle.space_mem.proofs.PageEdits.{overwritten_before, overwritten_here, overwritten_after}
@@ -36,12 +36,12 @@ written_number rs ss ts at width v o q aligned same edited =
     (with_page_start (at / 4096) edited.bytes ss o edited.was))
     ∙ ap (λ m. with_number m at width v) (memory_same ss rs same)
 
--- a run that keeps bytes is one page
-kept_one : (o : Option PageRef) (n : ℕ) → IsKept o n → IsSome o → n ≡ 1
+-- a run that owns its page is one page
+kept_one : (o : Option PageRef) (n : ℕ) → IsKept o n → is_own_in o ≡ true → n ≡ 1
 kept_one None n kept some = absurd (false≢true some)
 kept_one (Some page) n kept some = kept.0
 
-pub keeps_entry : (page : ℕ) (rs : List Run) (i : ℕ) (r : Run) → Ordered 0 1048576 rs → i < length rs → r ≡ get_or rs i r → r.first ≤ page → page < end_of r → IsSome r.page → IsEntry page rs i × HasPage rs i
+pub keeps_entry : (page : ℕ) (rs : List Run) (i : ℕ) (r : Run) → Ordered 0 1048576 rs → i < length rs → r ≡ get_or rs i r → r.first ≤ page → page < end_of r → is_own_in r.page ≡ true → IsEntry page rs i × HasOwnPage rs i
 keeps_entry page rs i r o within is from to some =
     let run = (read_at 0 1048576 rs i r o within is).run in
     let one : r.count ≡ 1 = kept_one r.page r.count run.kept some in
@@ -50,16 +50,16 @@ keeps_entry page rs i r o within is from to some =
         in_range = within;
         run = λ d. (ap (λ x. x.first) (sym (same d)) ∙ omega arith, ap (λ x. x.count) (sym (same d)) ∙ one);
       },
-      λ d. subst (λ x. IsSome x.page) (same d) some,
+      λ d. subst (λ x. is_own_in x.page ≡ true) (same d) some,
     )
 
--- bytes of a page are kept where its own run keeps bytes
-pub entry_owned : (page : ℕ) (rs : List Run) (i : ℕ) → Ordered 0 1048576 rs → IsEntry page rs i → HasPage rs i → IsOwned rs page
+-- a page is owned where its own run owns it
+pub entry_owned : (page : ℕ) (rs : List Run) (i : ℕ) → Ordered 0 1048576 rs → IsEntry page rs i → HasOwnPage rs i → IsOwned rs page
 entry_owned page rs i o entry kept =
     let d : Run = record { first = 0; count = 0; permission = 0; page = None } in
     let from = (entry.run d).0 in
     let count = (entry.run d).1 in
-    ap has_bytes (run_of-at 0 1048576 rs i page d o entry.in_range (omega arith) (omega arith)) ∙ kept d
+    ap is_owned_by (run_of-at 0 1048576 rs i page d o entry.in_range (omega arith) (omega arith)) ∙ kept d
 
 -- a page of which no bytes are kept has zeros
 pub zero_page : (page : ℕ) (rs : List Run) (o : Option Run) → Ordered 0 1048576 rs → run_of rs page ≡ o → ((k : ℕ) → byte_of o k ≡ 0) → IsZeroPage (memory_of rs) page

@@ -1,12 +1,12 @@
 -- A list of runs of pages, and the memory that it stands for.
 -- Our choice: how the code keeps a memory.
-use Rattle.std.specs.Prelude.{◌≡◌, ℕ, zero, suc, ◌+◌, ◌-◌, ◌/◌, ◌%◌, ◌<◌, ◌≤◌, ◌==◌, Bool, cond, not, ◌&&◌, nat_lt, List, [], ◌∷◌, ◌++◌, take, drop, slice_index, slice_index_or, length, Option, Some, None, is_some, IsSome, true, false, ◌⊎◌}
+use Rattle.std.specs.Prelude.{◌≡◌, ℕ, zero, suc, ◌+◌, ◌-◌, ◌/◌, ◌%◌, ◌<◌, ◌≤◌, ◌==◌, Bool, cond, not, ◌&&◌, nat_lt, List, [], ◌∷◌, ◌++◌, take, drop, slice_index, slice_index_or, length, Option, Some, None, true, false, ◌⊎◌}
 use Rattle.memory_model.specs.Sparse.{Sparse, no_values}
 use Rattle.memory_model.specs.Memory.{Memory}
 use Rattle.memory_model.specs.Ranges.{with_row}
 use Rattle.memory_model.specs.Sizes.{greatest_permission, page_size, pages}
 use Rattle.page_store.specs.declared.PageRef.{PageRef}
-use Rattle.page_store.specs.Bytes.{bytes_of, IsPage}
+use Rattle.page_store.specs.Bytes.{bytes_of, is_own, IsPage}
 use Rattle.space_mem.specs.declared.layout.Run.{Run}
 use Rattle.space_mem.specs.Held.{Held}
 
@@ -49,30 +49,35 @@ memory_by permission byte = record {
 abbrev pub memory_of : List Run → Memory
 memory_of rs = memory_by (λ p. permission_of (run_of rs p)) (λ p. byte_of (run_of rs p))
 
--- whether bytes of a page are kept, by its run
-abbrev pub has_bytes : Option Run → Bool
-has_bytes None = false
-has_bytes (Some r) = is_some r.page
+-- whether what is kept of a page is the memory's own
+abbrev pub is_own_in : Option PageRef → Bool
+is_own_in None = false
+is_own_in (Some page) = is_own page
+
+-- whether a page is owned, by its run
+abbrev pub is_owned_by : Option Run → Bool
+is_owned_by None = false
+is_owned_by (Some r) = is_own_in r.page
 
 -- the set of these pages
 abbrev pub owned_by : (ℕ → Bool) → Sparse
 owned_by owned = with_row no_values 0 (λ p. cond (owned p) 1 0) pages
 
--- what contracts see of runs: a page is owned where bytes of it are kept
+-- what contracts see of runs: a page is owned where bytes of it are kept that no other memory shares
 abbrev pub held_of : List Run → Held
-held_of rs = record { memory = memory_of rs; owned = owned_by (λ p. has_bytes (run_of rs p)) }
+held_of rs = record { memory = memory_of rs; owned = owned_by (λ p. is_owned_by (run_of rs p)) }
 
--- bytes are kept of the same pages
+-- the same pages are owned
 abbrev pub SameOwned : List Run → List Run → Type 0
-SameOwned rs ss = (p : ℕ) → has_bytes (run_of rs p) ≡ has_bytes (run_of ss p)
+SameOwned rs ss = (p : ℕ) → is_owned_by (run_of rs p) ≡ is_owned_by (run_of ss p)
 
--- bytes are kept of the same pages and of one page
+-- the same pages are owned, and one page too
 abbrev pub OwnsToo : ℕ → List Run → List Run → Type 0
-OwnsToo page old new = (p : ℕ) → has_bytes (run_of new p) ≡ cond (p == page) true (has_bytes (run_of old p))
+OwnsToo page old new = (p : ℕ) → is_owned_by (run_of new p) ≡ cond (p == page) true (is_owned_by (run_of old p))
 
--- bytes of a page are kept
+-- a page is owned
 abbrev pub IsOwned : List Run → ℕ → Type 0
-IsOwned rs p = has_bytes (run_of rs p) ≡ true
+IsOwned rs p = is_owned_by (run_of rs p) ≡ true
 
 -- a run with bytes is one page
 abbrev pub IsKept : Option PageRef → ℕ → Type 0
@@ -105,7 +110,7 @@ IsPlace page [] i = i ≡ 0
 IsPlace page (r ∷ rs) zero = page < end_of r
 IsPlace page (r ∷ rs) (suc i) = (end_of r ≤ page) × IsPlace page rs i
 
--- two lists of runs that stand for the same pages; the first keeps bytes of each page of which the second does
+-- two lists of runs that stand for the same pages; the first owns each page that the second does
 pub record SamePages (rs ss : List Run) : Type 0 where
   pub permission : (p : ℕ) → permission_of (run_of rs p) ≡ permission_of (run_of ss p)
   pub byte : (p k : ℕ) → byte_of (run_of rs p) k ≡ byte_of (run_of ss p) k
@@ -116,7 +121,7 @@ pub record IsEntry (page : ℕ) (rs : List Run) (i : ℕ) : Type 0 where
   pub in_range : i < length rs
   pub run : (d : Run) → ((slice_index_or rs i d).first ≡ page) × ((slice_index_or rs i d).count ≡ 1)
 
--- one page has other bytes; all else is the same, and no page's bytes are dropped
+-- one page has other bytes and is owned; all else is the same
 pub record SetsPage (page : ℕ) (bytes : List ℕ) (old new : List Run) : Type 0 where
   pub permission : (p : ℕ) → permission_of (run_of new p) ≡ permission_of (run_of old p)
   pub byte : (k : ℕ) → byte_of (run_of new page) k ≡ slice_index bytes k
@@ -124,9 +129,9 @@ pub record SetsPage (page : ℕ) (bytes : List ℕ) (old new : List Run) : Type 
   pub kept : (p : ℕ) → IsOwned old p → IsOwned new p
   pub owned : OwnsToo page old new
 
--- the run at an index keeps bytes
-abbrev pub HasPage : List Run → ℕ → Type 0
-HasPage rs i = (d : Run) → IsSome (slice_index_or rs i d).page
+-- the run at an index keeps bytes of the memory's own
+abbrev pub HasOwnPage : List Run → ℕ → Type 0
+HasOwnPage rs i = (d : Run) → is_own_in (slice_index_or rs i d).page ≡ true
 
 -- the bytes of a page are edited; all else is the same
 pub record IsEdited (page : ℕ) (edit : List ℕ → List ℕ) (old new : List Run) : Type 0 where
@@ -149,7 +154,7 @@ pub record IsSpan (first end : ℕ) (rs : List Run) (i j : ℕ) : Type 0 where
   pub middle : Ordered first end (take (j - i) (drop i rs))
   pub right : Ordered end pages (drop j rs)
 
--- each page between two has a permission; bytes, and of which pages they are kept, are as in other runs
+-- each page between two has a permission; bytes, and which pages are owned, are as in other runs
 pub record IsFilled (first end right : ℕ) (rs ss : List Run) : Type 0 where
   pub ordered : Ordered first end ss
   pub permission : (p : ℕ) → first ≤ p → p < end → permission_of (run_of ss p) ≡ right
@@ -169,14 +174,18 @@ pub record IsCopy (r s : Run) : Type 0 where
   pub count : s.count ≡ r.count
   pub permission : s.permission ≡ r.permission
   pub byte : (k : ℕ) → byte_in s.page k ≡ byte_in r.page k
-  pub kept : is_some s.page ≡ is_some r.page
 
--- runs of the same pages, one by one
+-- runs of the same pages, one by one, with the same bytes
 abbrev pub AreCopies : List Run → List Run → Type 0
 AreCopies [] [] = Unit {0}
 AreCopies [] (s ∷ ss) = ⊥
 AreCopies (r ∷ rs) [] = ⊥
 AreCopies (r ∷ rs) (s ∷ ss) = IsCopy r s × AreCopies rs ss
+
+-- no run keeps bytes of the memory's own
+abbrev pub NoneOwned : List Run → Type 0
+NoneOwned [] = Unit {0}
+NoneOwned (r ∷ rs) = (is_own_in r.page ≡ false) × NoneOwned rs
 
 -- a run with no permission and no byte other than 0
 abbrev pub IsBlankRun : Run → Type 0

@@ -7,10 +7,10 @@ ghost use Rattle.memory_model.specs.Sizes.{pages};
 use crate::layout::Run;
 use crate::search::place;
 use crate::spans::{part_at, replace};
-use crate::walk::run_copied;
+use crate::walk::run_shared;
 use std::alloc::{AllocError, Global};
 
-// Copies runs of a source: its pages from `from` on, to those from `first` to before `end`.
+// Shares or copies runs of a source: its pages from `from` on, to those from `first` to before `end`.
 pub fn copy(
     runs: &mut Vec<Run>,
     source: &[Run],
@@ -34,7 +34,7 @@ pub fn copy(
     Ok(())
 }
 
-// Copies of the runs of a source's pages from `from` on, moved to the pages from `first` to before `end`.
+// Runs like those of a source's pages from `from` on, moved to the pages from `first` to before `end`.
 fn moved_runs(
     alloc: Global,
     source: &[Run],
@@ -74,7 +74,7 @@ fn moved_run(alloc: Global, run: &Run, low: u32, count: u32, first: u32) -> Resu
     requires within { first + count ≤ pages }
     ensures { IfOk result (λ moved. IsMoved run.now moved first count) }
 {
-    let mut moved = run_copied(alloc, run)?;
+    let mut moved = run_shared(alloc, run)?;
     moved.first = first;
     moved.count = count;
     Ok(moved)

@@ -1,4 +1,5 @@
-ghost use Rattle.std.specs.Prelude.{◌+◌, ◌≤◌};
+ghost use Rattle.std.specs.Prelude.{◌≡◌, ◌+◌, ◌≤◌};
+ghost use Rattle.space_mem.specs.Runs.{is_own_in};
 ghost use Rattle.memory_model.specs.Sizes.{pages};
 
 use page_store::PageRef;
@@ -10,6 +11,19 @@ pub struct Run {
     pub count: u32,
     pub permission: u8,
     pub page: Option<PageRef>,
+}
+
+impl Run {
+    // Whether the run keeps bytes of the memory's own.
+    #[inline(always)]
+    pub fn is_own(&self) -> bool
+        ensures { result ≡ is_own_in self.now.page }
+    {
+        match &self.page {
+            Some(page) => page.is_own(),
+            None => false,
+        }
+    }
 }
 
 /// Pages in a row: `first` and `count` of them, up to the end of memory.

@@ -1,5 +1,6 @@
 ghost use Rattle.std.specs.Prelude.{◌≡◌, ℕ, ◌+◌, ◌*◌, ◌/◌, ◌%◌, ◌<◌, ◌≤◌, ◌^◌, length, IfOk, IfSome, IsNone, OnOk, OnErr, IsOk, IsTrue, if◌then◌else◌};
 ghost use Rattle.memory_model.specs.Memory.{byte_at, permission_at, may_read, may_fetch, may_write, width_bytes, number_from, with_bytes, with_permissions, first_without, bytes_from};
+ghost use Rattle.memory_model.specs.Sparse.{no_values};
 ghost use Rattle.memory_model.specs.Ranges.{IsZeroPage, IsPageOf, IsBounded, IsNextPage, NoneUsed, with_copies, with_page, with_zeros};
 ghost use Rattle.page_store.specs.Bytes.{bytes_of};
 ghost use Rattle.space_mem.specs.Held.{Owns, OwnSameOutside, nothing_held, owning, with_stored, with_written};
@@ -15,7 +16,8 @@ use std::marker::Model;
 /// A memory: a byte at each of 2^32 addresses, and a permission, 0 to 3, of each of 2^20 pages of 4,096 bytes (1 reads and
 /// fetches, 2 writes). Contracts see it as its bytes and permissions, and which pages it owns: a write to one takes no memory.
 ///
-/// It is kept by runs of pages in the order of their numbers; a page that was never written has no bytes of its own. Fetches
+/// It is kept by runs of pages in the order of their numbers; a page that was never written has no bytes of its own, and a page
+/// that other memories share is copied at the first write. Fetches
 /// remember where the runs stand that they asked last, and so do loads and stores together.
 #[derive(Drop)]
 pub struct Mem {
@@ -161,7 +163,8 @@ impl Mem {
     }
 
     /// Gives the pages of a range the bytes and permissions of a source's pages from `from` on, which end within the memory.
-    /// Which other pages are owned stays. Its one error is want of memory: nothing has changed then.
+    /// Pages of the source that are not owned are shared, and others copied. Which other pages are owned stays. Its one error is want
+    /// of memory: nothing has changed then.
     pub fn copy_from(&mut self, source: &Mem, from: u32, to: Pages) -> Result<(), AllocError>
         requires { from + to.count ≤ 1048576 }
         ensures ok { OnOk result (self.new.memory ≡ with_copies self.old.memory source.now.memory from to.first to.count) }
@@ -235,13 +238,26 @@ impl Mem {
         store::own(&mut self.runs, range.first, range.first + range.count)
     }
 
-    /// An equal memory, which no later write to this one changes. Its one error is want of memory.
+    /// Makes each page that is kept one that can be shared: bytes and permissions stay, and no page is owned then. A write to a
+    /// page that is shared copies it first. The one error is want of memory: some pages may be owned then as they were.
+    pub fn freeze(&mut self) -> Result<(), AllocError>
+        ensures same { self.new.memory ≡ self.old.memory }
+        ensures none { OnOk result (self.new.owned ≡ no_values) }
+    {
+        walk::freeze(&mut self.runs)
+    }
+
+    /// An equal memory, which no later write to this one changes. Both share all pages, and own none then. The one error is want of
+    /// memory: bytes and permissions are as they were then.
     pub fn frozen(&mut self) -> Result<Mem, AllocError>
         ensures equal { IfOk result (λ m. m.memory ≡ self.old.memory) }
-        ensures same { self.new ≡ self.old }
+        ensures shared { IfOk result (λ m. m.owned ≡ no_values) }
+        ensures same { self.new.memory ≡ self.old.memory }
+        ensures none { OnOk result (self.new.owned ≡ no_values) }
     {
+        walk::freeze(&mut self.runs)?;
         let alloc = *self.runs.allocator();
-        let runs = walk::copied(alloc, &self.runs)?;
+        let runs = walk::shared(alloc, &self.runs)?;
         Ok(Mem {
             runs,
             fetched: Guesses::new(),
@@ -257,7 +273,8 @@ impl Mem {
         walk::page(&self.runs, n)
     }
 
-    /// Puts a page's bytes in the place of those of page `n`, below 2^20; the permission stays. Its one error is want of memory.
+    /// Puts a page's bytes in the place of those of page `n`, below 2^20; the permission stays. The page is owned then; one
+    /// that others share is copied. Its one error is want of memory.
     pub fn put_page(&mut self, n: u32, page: PageRef) -> Result<(), AllocError>
         requires { n < 1048576 }
         ensures ok { OnOk result (self.new ≡ owning self.old n (with_page self.old.memory n (bytes_of page))) }

@@ -3,7 +3,7 @@ ghost use Rattle.memory_model.specs.Memory.{may_write, width_bytes, with_bytes};
 ghost use Rattle.memory_model.specs.Ranges.{with_page};
 ghost use Rattle.page_store.specs.Bytes.{bytes_of};
 ghost use Rattle.space_mem.specs.Held.{Owns, owning, with_stored, with_written};
-ghost use Rattle.space_mem.specs.Runs.{InOrder, IsEntry, IsOwned, HasPage, SamePages, memory_of, held_of};
+ghost use Rattle.space_mem.specs.Runs.{InOrder, IsEntry, IsOwned, HasOwnPage, SamePages, memory_of, held_of};
 ghost use Rattle.memory_model.specs.Sizes.{page_size, pages};
 
 use crate::access::can_store;
@@ -45,15 +45,15 @@ pub fn store(
     store_slow(runs, guesses, at, width, value)
 }
 
-// Whether the run at an index is that of a page alone, and keeps bytes.
+// Whether the run at an index is that of a page alone, and owns it.
 #[inline(always)]
 fn keeps(runs: &[Run], at: usize, page: u32) -> bool
     requires ordered { InOrder runs.now }
     requires in_range { at < length runs.now }
-    ensures { IsTrue result → IsEntry page runs.now at × HasPage runs.now at }
+    ensures { IsTrue result → IsEntry page runs.now at × HasOwnPage runs.now at }
 {
     let run = &runs[at];
-    run.first == page && run.page.is_some()
+    run.first == page && run.is_own()
 }
 
 #[inline(never)]
@@ -151,7 +151,7 @@ pub fn write(runs: &mut Vec<Run>, at: u32, value: u8) -> Result<(), AllocError>
     set_byte(runs, place, page, (at % PAGE_SIZE) as u16, value)
 }
 
-// Writes bytes from an address on. Where they pass the end of a page, each page is given bytes of its own before any is written.
+// Writes bytes from an address on. Where they pass the end of a page, each page is owned before any is written.
 pub fn write_bytes(runs: &mut Vec<Run>, at: u32, bytes: &[u8]) -> Result<(), AllocError>
     requires ordered { InOrder runs.old.items }
     requires within { at + length bytes.now ≤ 2 ^ 32 }
@@ -173,7 +173,7 @@ pub fn write_bytes(runs: &mut Vec<Run>, at: u32, bytes: &[u8]) -> Result<(), All
     write_owned(runs, at, bytes)
 }
 
-// Writes bytes from an address on, page by page, where bytes of each page are kept.
+// Writes bytes from an address on, page by page, where each page is owned.
 fn write_owned(runs: &mut Vec<Run>, at: u32, bytes: &[u8]) -> Result<(), AllocError>
     requires ordered { InOrder runs.old.items }
     requires within { at + length bytes.now ≤ 2 ^ 32 }
@@ -209,20 +209,21 @@ fn write_in_page(runs: &mut Vec<Run>, at: u32, bytes: &[u8]) -> Result<(), Alloc
     set_bytes(runs, place, page, (at % PAGE_SIZE) as u16, bytes)
 }
 
-// Puts a page's bytes in the place of those of `page`.
-pub fn put_page(runs: &mut Vec<Run>, page: u32, new: PageRef) -> Result<(), AllocError>
+// Puts a page's bytes in the place of those of `page`. A shared page is copied.
+pub fn put_page(runs: &mut Vec<Run>, page: u32, mut new: PageRef) -> Result<(), AllocError>
     requires ordered { InOrder runs.old.items }
     requires in_range { page < pages }
     ensures ordered { InOrder runs.new.items }
     ensures ok { OnOk result (held_of runs.new.items ≡ owning (held_of runs.old.items) page (with_page (memory_of runs.old.items) page (bytes_of new))) }
     ensures err { OnErr result (held_of runs.new.items ≡ held_of runs.old.items) }
 {
+    new.own(*runs.allocator())?;
     let place = entry(runs, page)?;
     set_page(runs, place, page, new);
     Ok(())
 }
 
-// Gives each page from `first` to before `end` a run of its own that keeps bytes.
+// Gives each page from `first` to before `end` a run of its own that owns it.
 pub fn own(runs: &mut Vec<Run>, first: u32, end: u32) -> Result<(), AllocError>
     requires ordered { InOrder runs.old.items }
     requires within { end ≤ pages }

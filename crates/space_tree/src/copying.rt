@@ -44,7 +44,7 @@ pub fn copy_tree(alloc: Global, space: &mut Space) -> Result<Space, AllocError>
 // An equal memory, where there is one.
 fn copy_snapshot(snapshot: &mut Option<Mem>) -> Result<Option<Mem>, AllocError>
     ensures equal { IfOk result (λ o. memory_in o ≡ memory_in snapshot.old) }
-    ensures same { snapshot.new ≡ snapshot.old }
+    ensures same { memory_in snapshot.new ≡ memory_in snapshot.old }
 {
     match snapshot {
         Some(memory) => Ok(Some(memory.frozen()?)),
