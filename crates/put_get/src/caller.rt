@@ -5,7 +5,7 @@ ghost use Rattle.space_model.specs.Event.{MayPay};
 use space_model::Refusal;
 use space_tree::Top;
 
-// The caller pays for its call and stops.
+/// A caller that may pay for an event pays for its call, and stops.
 pub fn trap(caller: &mut Top, refusal: Refusal)
     requires { MayPay caller.old }
     ensures { caller.new ≡ stop (after_payment caller.old caller.old) refusal.cause refusal.value }
@@ -14,7 +14,7 @@ pub fn trap(caller: &mut Top, refusal: Refusal)
     caller.stop(refusal.cause, refusal.value);
 }
 
-// The caller pays for its call, which has succeeded.
+/// A caller that may pay for an event pays for its call, which has succeeded: a0 is 0, and the next instruction follows.
 pub fn succeed(caller: &mut Top)
     requires { MayPay caller.old }
     ensures { caller.new ≡ after_success (after_payment caller.old caller.old) }

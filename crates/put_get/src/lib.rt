@@ -11,4 +11,5 @@ mod refusal;
 mod registers;
 mod tree;
 
+pub use caller::{succeed, trap};
 pub use meeting::apply;

@@ -1,0 +1,4 @@
+pub mod Forks
+pub mod Entries
+pub mod Meetings
+pub mod Joins

@@ -1,0 +1,87 @@
+-- What the calls of processes and threads are of a caller that pays.
+use Rattle.std.proofs.Common.{◌≡◌, ℕ, ◌+◌, ◌-◌, ◌<◌, Option, Some, None, refl, subst, sym, ◌∙◌, ap, arith}
+use Rattle.std.specs.Prelude.{Bool, true, false, option_map, Result, Ok, Err, OnOk, OnErr}
+use Rattle.std.proofs.lemmas.Result.{on_ok_weaker, on_err_weaker}
+use Rattle.call_model.specs.declared.Call.{Call}
+use Rattle.call_model.specs.declared.Call.TheVariants.{Wait}
+use Rattle.space_model.specs.declared.Status.{Status}
+use Rattle.space_model.specs.Space.{Space, space, Children, Top, top_of, children_of, find}
+use Rattle.space_model.specs.Change.{after_payment, after_success}
+use Rattle.space_model.specs.Call.{edit, change, take_away, seen_of, apply_meeting}
+use Rattle.space_model.specs.Event.{MayPay}
+use Rattle.space_model.specs.Beginning.{fresh_top}
+use Rattle.space_model.specs.Meeting.{or_fresh, awaits, action, meet, MayMeet}
+use Rattle.space_model.specs.Runtime.{after_fork, after_thread_fork, after_wait}
+use Rattle.space_model.specs.Sound.{IsSoundAt}
+use Rattle.space_model.proofs.Sound.{meeting_sound}
+use Rattle.user_runtime.specs.Calls.{after_fork_of, fork_call, with_action, status_in, with_stop, with_no_lost_files}
+
+-- a caller that has paid reads the same child
+pub or_fresh-paid : (t : Top) (o : Option Top) → 0 < t.fuel → or_fresh (after_payment t t) o ≡ or_fresh t o
+or_fresh-paid t None h = let same : (t.fuel - 1) + (t.used + 1) ≡ t.fuel + t.used = omega arith in ap fresh_top same
+or_fresh-paid t (Some c) h = refl
+
+-- and forks it alike
+after_fork_of-paid : (thread : Bool) (t c : Top) → after_fork_of thread (after_payment t t) c ≡ after_fork_of thread t c
+unfolding after_fork after_thread_fork
+after_fork_of-paid true t c = refl
+after_fork_of-paid false t c = refl
+
+-- what a fork does to a caller and its children
+abbrev with_fork : Bool → ℕ → Top → Children → Space
+with_fork thread n t cs = space (after_success t) (edit (change n (after_fork_of thread t (or_fresh t (option_map top_of (find n cs))))) cs)
+
+fork_acts : (thread : Bool) (n : ℕ) (t : Top) (cs : Children) → with_fork thread n t cs ≡ apply_meeting (action (fork_call thread n) t (seen_of (awaits (fork_call thread n)) cs)) cs
+fork_acts true n t cs = refl
+fork_acts false n t cs = refl
+
+pub fork_met : (thread : Bool) (n : ℕ) (s : Space) (t u : Top) (cs ds : Children) → space t cs ≡ s → 0 < (top_of s).fuel
+    → ds ≡ edit (change n (after_fork_of thread t (or_fresh t (option_map top_of (find n cs))))) cs → u ≡ after_success (after_payment t t)
+    → space u ds ≡ with_action (fork_call thread n) s
+fork_met thread n s t u cs ds view some edited went =
+    let p = after_payment t t in
+    let o = option_map top_of (find n cs) in
+    let fuel : 0 < t.fuel = subst (λ r. 0 < (top_of r).fuel) (sym view) some in
+    ap (λ v. space v ds) went ∙ ap (space (after_success p)) edited
+    ∙ ap (λ c. space (after_success p) (edit (change n c) cs)) (sym (after_fork_of-paid thread t (or_fresh t o)))
+    ∙ ap (λ c. space (after_success p) (edit (change n (after_fork_of thread p c)) cs)) (sym (or_fresh-paid t o fuel))
+    ∙ fork_acts thread n p cs
+    ∙ ap (with_action (fork_call thread n)) view
+
+-- a child is read by its status, also where it is missing
+status_read : (u : Top) (o : Option Space) → (or_fresh u (option_map top_of o)).status ≡ status_in o
+status_read u None = refl
+status_read u (Some c) = refl
+
+-- the caller after it has waited for a child of this status, which it has not paid for yet
+abbrev with_wait : Status → Top → Top
+with_wait status t = after_success (after_payment t (with_no_lost_files (with_stop status t)))
+
+wait_acts : (n : ℕ) (t : Top) (cs : Children) → space (with_wait ((or_fresh (after_payment t t) (option_map top_of (find n cs))).status) t) (edit (take_away n) cs) ≡ with_action (Wait n) (space t cs)
+unfolding after_wait
+wait_acts n t cs = refl
+
+pub wait_met : (n : ℕ) (s : Space) (t u v : Top) (cs ds : Children) (status : Status) → space t cs ≡ s → status ≡ status_in (find n cs) → ds ≡ edit (take_away n) cs
+    → u ≡ with_no_lost_files (with_stop status t) → v ≡ after_success (after_payment u u) → space v ds ≡ with_action (Wait n) s
+wait_met n s t u v cs ds status view read gone told went =
+    let o = find n cs in
+    ap (λ x. space x ds) (went ∙ ap (λ x. after_success (after_payment x x)) told) ∙ ap (space (with_wait status t)) gone
+    ∙ ap (λ x. space (with_wait x t) (edit (take_away n) cs)) (read ∙ sym (status_read (after_payment t t) o))
+    ∙ wait_acts n t cs ∙ ap (with_action (Wait n)) view
+
+-- a space that met a child, or is as it was, is as sound as it was
+pub met_sound : (levels : ℕ) (k : Call) (s u : Space) → MayMeet levels k → MayPay (top_of s) → u ≡ meet levels k (after_payment (top_of s) (top_of s)) (children_of s)
+    → (root : Bool) (fuel : ℕ) → IsSoundAt levels root fuel s → IsSoundAt levels root fuel u
+met_sound levels k s u may pays met root fuel sound = subst (IsSoundAt levels root fuel) (sym met) (meeting_sound levels root fuel k s may pays sound)
+
+pub stays_sound : {E : Type 0} (r : Result (Unit {0}) E) (levels : ℕ) (k : Call) (s u : Space) → MayMeet levels k → MayPay (top_of s)
+    → OnOk r (u ≡ meet levels k (after_payment (top_of s) (top_of s)) (children_of s)) → OnErr r (u ≡ s) → (root : Bool) (fuel : ℕ) → IsSoundAt levels root fuel s → IsSoundAt levels root fuel u
+stays_sound (Ok done) levels k s u may pays met same root fuel sound = met_sound levels k s u may pays met root fuel sound
+stays_sound (Err e) levels k s u may pays met same root fuel sound = subst (IsSoundAt levels root fuel) (sym same) sound
+
+-- the same of a space that was another value before
+pub acts_from : {E : Type 0} (r : Result (Unit {0}) E) (k : Call) (s t u : Space) → t ≡ s → OnOk r (u ≡ with_action k t) → OnOk r (u ≡ with_action k s)
+acts_from r k s t u same = on_ok_weaker r (λ e. e ∙ ap (with_action k) same)
+
+pub same_from : {E : Type 0} (r : Result (Unit {0}) E) (s t u : Space) → t ≡ s → OnErr r (u ≡ t) → OnErr r (u ≡ s)
+same_from r s t u same = on_err_weaker r (λ e. e ∙ same)

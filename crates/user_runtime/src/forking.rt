@@ -1,0 +1,176 @@
+ghost use Rattle.std.specs.Prelude.{◌≡◌, ◌+◌, ◌-◌, ◌≤◌, ℕ, Bool, OnOk, OnErr, IfOk, IfSome, is_some, None, option_map, if◌then◌else◌};
+ghost use Rattle.call_model.specs.declared.Call.TheVariants.{Fork, Tfork};
+ghost use Rattle.space_model.specs.Beginning.{fresh_top};
+ghost use Rattle.space_model.specs.Call.{edit, change};
+ghost use Rattle.space_model.specs.Change.{after_payment};
+ghost use Rattle.space_model.specs.Event.{MayPay};
+ghost use Rattle.space_model.specs.Meeting.{MayMeet, meet, or_fresh};
+ghost use Rattle.space_model.specs.Runtime as runtime;
+ghost use Rattle.space_model.specs.Sound.{IsSoundAt};
+ghost use Rattle.space_model.specs.Space.{space, none, children_from, children_of, find, top_of};
+ghost use Rattle.space_mem.specs.Held.{memory_in};
+ghost use Rattle.user_runtime.specs.Calls.{after_fork_of, fork_call, with_action, memory_of};
+
+use put_get::succeed;
+use rv_exec::Regs;
+use snapshot::take;
+use space_tree::{Mem, Space, Status, Top};
+use std::alloc::{AllocError, Global};
+use std::collections::BTreeMap;
+
+// The registers of a child that is forked: it goes on behind the call, with a0 = 1.
+fn fork_registers(caller: &Regs) -> Regs
+    ensures { result ≡ runtime.fork_registers caller.now }
+{
+    let mut registers = *caller;
+    registers.pc = registers.pc.wrapping_add(4);
+    registers.set_register(10, 1);
+    registers
+}
+
+// A child becomes what the fork of a process makes of it, with a copy of its caller's memory.
+fn give_process(caller: &Top, memory: Mem, child: &mut Top)
+    requires copy { memory.memory ≡ caller.now.memory }
+    ensures forked { child.new ≡ runtime.after_fork caller.now child.old }
+    ensures equal { child.new.memory ≡ caller.now.memory }
+{
+    caller.memory.bounds();
+    child.memory.bounds();
+    child.registers = fork_registers(&caller.registers);
+    child.memory = memory;
+    child.status = Status::Running;
+    child.limit = None;
+}
+
+// A child has this snapshot, where there is one, else the one that it had.
+fn keep(snapshot: Option<Mem>, child: &mut Top)
+    ensures { child.new ≡ (if is_some snapshot then record child.old { snapshot = memory_in snapshot } else child.old) }
+{
+    if snapshot.is_some() {
+        child.snapshot = snapshot;
+    }
+}
+
+// A child becomes what a fork makes of it, with a copy of its caller's memory, and another one as its snapshot where it is a thread.
+#[tactic(auto, using(crate::proofs::Forks::kept))]
+fn give(caller: &Top, memory: Mem, snapshot: Option<Mem>, child: &mut Top)
+    requires copy { memory.memory ≡ caller.now.memory }
+    requires kept { IfSome snapshot (λ s. s.memory ≡ caller.now.memory) }
+    ensures { child.new ≡ after_fork_of (is_some snapshot) caller.now child.old }
+{
+    give_process(caller, memory, child);
+    keep(snapshot, child);
+}
+
+// The same, and not those below it.
+fn give_top(caller: &Top, memory: Mem, snapshot: Option<Mem>, child: &mut Space)
+    requires copy { memory.memory ≡ caller.now.memory }
+    requires kept { IfSome snapshot (λ s. s.memory ≡ caller.now.memory) }
+    ensures { child.new ≡ space (after_fork_of (is_some snapshot) caller.now (top_of child.old)) (children_of child.old) }
+{
+    give(caller, memory, snapshot, &mut child.top);
+}
+
+// The child that a fork makes.
+fn make_child(alloc: Global, caller: &Top, memory: Mem, snapshot: Option<Mem>) -> Space
+    requires copy { memory.memory ≡ caller.now.memory }
+    requires kept { IfSome snapshot (λ s. s.memory ≡ caller.now.memory) }
+    ensures { result ≡ space (after_fork_of (is_some snapshot) caller.now (fresh_top (caller.now.fuel + caller.now.used))) none }
+{
+    let mut top = Top::fresh(alloc, caller.total_fuel());
+    give(caller, memory, snapshot, &mut top);
+    Space::alone(alloc, top)
+}
+
+// The child of that number becomes what a fork makes of it; one that is missing is made. At an error the children are as they were.
+fn give_child(
+    alloc: Global,
+    number: u16,
+    caller: &Top,
+    memory: Mem,
+    snapshot: Option<Mem>,
+    children: &mut BTreeMap<u16, Space>,
+) -> Result<(), AllocError>
+    requires copy { memory.memory ≡ caller.now.memory }
+    requires kept { IfSome snapshot (λ s. s.memory ≡ caller.now.memory) }
+    ensures ok { let cs = children_from children.old.entries in OnOk result (children_from children.new.entries ≡ edit (change number (after_fork_of (is_some snapshot) caller.now (or_fresh caller.now (option_map top_of (find number cs))))) cs) }
+    ensures err { OnErr result (children_from children.new.entries ≡ children_from children.old.entries) }
+{
+    match children.get_mut(&number) {
+        Some(child) => {
+            give_top(caller, memory, snapshot, child);
+            Ok(())
+        }
+        None => {
+            let child = make_child(alloc, caller, memory, snapshot);
+            children.insert(number, child)?;
+            Ok(())
+        }
+    }
+}
+
+// What a fork does, of a caller that has not paid yet, by a copy of its memory, and another one for a thread. At an error nothing is changed.
+fn fork_by(
+    alloc: Global,
+    number: u16,
+    memory: Mem,
+    snapshot: Option<Mem>,
+    space: &mut Space,
+) -> Result<(), AllocError>
+    requires copy { memory.memory ≡ memory_of space.old }
+    requires kept { IfSome snapshot (λ s. s.memory ≡ memory_of space.old) }
+    requires pays { MayPay (top_of space.old) }
+    ensures ok { OnOk result (space.new ≡ with_action (fork_call (is_some snapshot) number) space.old) }
+    ensures err { OnErr result (space.new ≡ space.old) }
+{
+    give_child(
+        alloc,
+        number,
+        &space.top,
+        memory,
+        snapshot,
+        &mut space.children,
+    )?;
+    succeed(&mut space.top);
+    Ok(())
+}
+
+// A copy of a space's memory.
+fn memory_copy(space: &mut Space) -> Result<Mem, AllocError>
+    ensures equal { IfOk result (λ m. m.memory ≡ memory_of space.old) }
+    ensures same { space.new ≡ space.old }
+{
+    space.top.memory.frozen()
+}
+
+/// Fork of a process (OSDI 2010, "Efficient System-Enforced Deterministic Parallelism", the section on emulating high-level abstractions), of a
+/// caller at this depth, at most 8, that has not paid yet, once the child, 0 to 65,535, has stopped or is missing. The child, made where it is
+/// missing, gets the caller's registers and a copy of all of its memory, and runs without a limit behind the call, with a0 = 1; its own
+/// children, its snapshot, fuel and use stay. The caller pays one unit and goes on with a0 = 0. The one error is want of memory: nothing is
+/// changed then.
+pub fn fork(alloc: Global, child: u16, depth: u8, space: &mut Space) -> Result<(), AllocError>
+    requires depth { depth ≤ 8 }
+    requires may_meet { MayMeet (8 - depth) (Fork child) }
+    requires may_pay { MayPay (top_of space.old) }
+    ensures ok { OnOk result (space.new ≡ meet (8 - depth) (Fork child) (after_payment (top_of space.old) (top_of space.old)) (children_of space.old)) }
+    ensures err { OnErr result (space.new ≡ space.old) }
+    ensures sound { (root : Bool) (fuel : ℕ) → IsSoundAt (8 - depth) root fuel space.old → IsSoundAt (8 - depth) root fuel space.new }
+{
+    let memory = memory_copy(space)?;
+    fork_by(alloc, child, memory, None, space)
+}
+
+/// Fork of a thread that shares memory (OSDI 2010, the same section): as `fork`, and a snapshot of the child's new memory is kept, for `tjoin`
+/// to merge against. The one error is want of memory: nothing is changed then.
+pub fn tfork(alloc: Global, child: u16, depth: u8, space: &mut Space) -> Result<(), AllocError>
+    requires depth { depth ≤ 8 }
+    requires may_meet { MayMeet (8 - depth) (Tfork child) }
+    requires may_pay { MayPay (top_of space.old) }
+    ensures ok { OnOk result (space.new ≡ meet (8 - depth) (Tfork child) (after_payment (top_of space.old) (top_of space.old)) (children_of space.old)) }
+    ensures err { OnErr result (space.new ≡ space.old) }
+    ensures sound { (root : Bool) (fuel : ℕ) → IsSoundAt (8 - depth) root fuel space.old → IsSoundAt (8 - depth) root fuel space.new }
+{
+    let mut memory = memory_copy(space)?;
+    let snapshot = take(&mut memory)?;
+    fork_by(alloc, child, memory, Some(snapshot), space)
+}

@@ -1,0 +1,139 @@
+ghost use Rattle.std.specs.Prelude.{◌≡◌, ◌-◌, ◌≤◌, ℕ, Bool, Some, OnOk, OnErr, IfOk, is_none, option_map, if◌then◌else◌};
+ghost use Rattle.call_model.specs.declared.Call.TheVariants.{Tjoin};
+ghost use Rattle.space_model.specs.Change.{after_payment};
+ghost use Rattle.space_model.specs.Event.{MayPay};
+ghost use Rattle.space_model.specs.Meeting.{MayMeet, meet, or_fresh, test_refusal};
+ghost use Rattle.space_model.specs.Sound.{IsSoundAt};
+ghost use Rattle.space_model.specs.Space.{children_from, children_of, find, top_of};
+ghost use Rattle.space_mem.specs.Held.{memory_in};
+ghost use Rattle.user_runtime.specs.Joins.{IsShared, shared_conflict, shared_merge, join_refusal, with_merge_unless, with_join, after_call};
+
+use crate::stopping::report;
+use put_get::{succeed, trap};
+use snapshot::{MergeError, merge};
+use space_model::Refusal;
+use space_tree::{Cause, Mem, Pages, Space, Top};
+use std::alloc::{AllocError, Global};
+use std::collections::BTreeMap;
+
+// The pages that threads share: those below the address 0xC0000000.
+const SHARED_PAGES: u32 = 0xC0000;
+
+// The test that a child without a snapshot fails.
+const SNAPSHOT_TEST: u32 = 5;
+
+// The range of the shared pages.
+#[tactic(auto, unfolding(crate::specs::Joins::IsShared))]
+fn shared() -> Pages
+    ensures { IsShared result.first result.count }
+{
+    Pages {
+        first: 0,
+        count: SHARED_PAGES,
+    }
+}
+
+// What stops a caller whose child has no snapshot.
+fn snapshot_refusal() -> Refusal
+    ensures { Some result ≡ test_refusal 5 }
+{
+    Refusal {
+        cause: Cause::Badcall,
+        value: SNAPSHOT_TEST,
+    }
+}
+
+// What a child has changed in the shared pages since its snapshot goes into its parent's memory, or the least conflict comes back. At an
+// error, and where there is a conflict, the memory is as it was.
+fn merge_shared(
+    parent: &mut Mem,
+    child: &Mem,
+    snapshot: &Mem,
+) -> Result<Option<Refusal>, AllocError>
+    ensures refusal { IfOk result (λ o. o ≡ shared_conflict snapshot.now.memory child.now.memory parent.old.memory) }
+    ensures memory { IfOk result (λ o. parent.new.memory ≡ (if is_none o then shared_merge snapshot.now.memory child.now.memory parent.old.memory else parent.old.memory)) }
+    ensures err { OnErr result (parent.new.memory ≡ parent.old.memory) }
+{
+    match merge(parent, child, snapshot, shared()) {
+        Ok(()) => Ok(None),
+        Err(MergeError::Conflict { addr }) => Ok(Some(Refusal {
+            cause: Cause::Conflict,
+            value: addr,
+        })),
+        Err(MergeError::Memory) => Err(AllocError),
+    }
+}
+
+// What stops the join of a child, if anything does: it has no snapshot, or there is a conflict. Where nothing does, what it has changed is
+// merged into its caller's memory. At an error nothing is changed.
+fn merge_child(child: &Top, caller: &mut Top) -> Result<Option<Refusal>, AllocError>
+    ensures refusal { IfOk result (λ o. o ≡ join_refusal child.now.snapshot child.now.memory caller.old.memory) }
+    ensures merged { IfOk result (λ o. caller.new ≡ with_merge_unless o child.now caller.old) }
+    ensures err { OnErr result (caller.new ≡ caller.old) }
+{
+    match &child.snapshot {
+        Some(snapshot) => merge_shared(&mut caller.memory, &child.memory, snapshot),
+        None => Ok(Some(snapshot_refusal())),
+    }
+}
+
+// The join of a child by a caller that has not paid yet. At an error the caller is as it was.
+fn join_child(child: &Top, caller: &mut Top) -> Result<(), AllocError>
+    requires { MayPay caller.old }
+    ensures ok { OnOk result (caller.new ≡ with_join child.now caller.old) }
+    ensures err { OnErr result (caller.new ≡ caller.old) }
+{
+    match merge_child(child, caller)? {
+        Some(refusal) => trap(caller, refusal),
+        None => {
+            report(child.status, caller);
+            succeed(caller);
+        }
+    }
+    Ok(())
+}
+
+// The same of the child of that number; one that is missing has no snapshot.
+fn join(number: u16, caller: &mut Top, children: &BTreeMap<u16, Space>) -> Result<(), AllocError>
+    requires { MayPay caller.old }
+    ensures ok { OnOk result (caller.new ≡ with_join (or_fresh caller.old (option_map top_of (find number (children_from children.now.entries)))) caller.old) }
+    ensures err { OnErr result (caller.new ≡ caller.old) }
+{
+    match children.get(&number) {
+        Some(child) => join_child(child.top(), caller),
+        None => {
+            trap(caller, snapshot_refusal());
+            Ok(())
+        }
+    }
+}
+
+// The same of a space.
+fn join_space(child: u16, space: &mut Space) -> Result<(), AllocError>
+    requires { MayPay (top_of space.old) }
+    ensures ok { (levels : ℕ) → OnOk result (space.new ≡ after_call levels (Tjoin child) space.old) }
+    ensures err { OnErr result (space.new ≡ space.old) }
+{
+    join(child, &mut space.top, &space.children)
+}
+
+/// Join of a thread (OSDI 2010, "Efficient System-Enforced Deterministic Parallelism", the section on emulating high-level abstractions), of a
+/// caller at this depth, at most 8, that has not paid yet, once the child, 0 to 65,535, has stopped or is missing. What the child has changed
+/// below the address 0xC0000000 since its snapshot goes into the caller's memory, byte by byte. In a1 the caller gets the number of the cause
+/// with which the child stopped, in a2 the value; it pays one unit and goes on with a0 = 0. The child stays. The caller pays and stops instead,
+/// with nothing else changed, at the first of these:
+///
+/// - the child is missing or has no snapshot (`Badcall` 5);
+/// - both sides have changed one of these bytes since the snapshot (`Conflict`), at the least such address.
+///
+/// The one error is want of memory: nothing is changed then.
+pub fn tjoin(_alloc: Global, child: u16, depth: u8, space: &mut Space) -> Result<(), AllocError>
+    requires depth { depth ≤ 8 }
+    requires may_meet { MayMeet (8 - depth) (Tjoin child) }
+    requires may_pay { MayPay (top_of space.old) }
+    ensures ok { OnOk result (space.new ≡ meet (8 - depth) (Tjoin child) (after_payment (top_of space.old) (top_of space.old)) (children_of space.old)) }
+    ensures err { OnErr result (space.new ≡ space.old) }
+    ensures sound { (root : Bool) (fuel : ℕ) → IsSoundAt (8 - depth) root fuel space.old → IsSoundAt (8 - depth) root fuel space.new }
+{
+    join_space(child, space)
+}
