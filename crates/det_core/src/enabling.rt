@@ -1,23 +1,26 @@
 ghost use Rattle.std.specs.Prelude.{◌≡◌, ◌-◌, ◌≤◌};
-ghost use Rattle.space_model.specs.declared.Reach.TheVariants.{Itself};
 ghost use Rattle.space_model.specs.Meeting.{awaits};
 ghost use Rattle.space_model.specs.Event.{next};
 ghost use Rattle.space_model.specs.Space.{top_of, children_of, children_from, find};
 ghost use Rattle.run_model.specs.Schedule.{is_ready, are_ready, may_happen, is_enabled};
 
+use space_model::{Await, Reach};
 use space_step::{AcceptedCall, Next, peek};
-use space_tree::{Path, Space, at};
+use space_tree::{Path, Space, at, is_settled, is_stopped};
 use std::collections::BTreeMap;
-use trap_ret::Call;
+use trap_ret::awaits;
 
-// Whether the child of this number, which a call awaits itself, is missing or has stopped.
+// Whether a child that a call waits for is missing, has stopped, or, where it is awaited whole, has settled.
 #[tactic(auto, using(space_model::proofs::Entries::find_entries))]
-fn is_ready(children: &BTreeMap<u16, Space>, number: u16) -> bool
-    ensures { result ≡ is_ready Itself (find number (children_from children.now.entries)) }
+fn is_ready(children: &BTreeMap<u16, Space>, awaited: Await) -> bool
+    ensures { result ≡ is_ready awaited.reach (find awaited.number (children_from children.now.entries)) }
 {
-    match children.get(&number) {
-        Some(child) => child.top.is_stopped(),
-        None => true,
+    let Some(child) = children.get(&awaited.number) else {
+        return true;
+    };
+    match awaited.reach {
+        Reach::Itself => is_stopped(child),
+        Reach::Whole => is_settled(child),
     }
 }
 
@@ -25,10 +28,13 @@ fn is_ready(children: &BTreeMap<u16, Space>, number: u16) -> bool
 pub(crate) fn are_ready(call: AcceptedCall, children: &BTreeMap<u16, Space>) -> bool
     ensures { result ≡ are_ready (awaits call) (children_from children.now.entries) }
 {
-    match call.call() {
-        Call::Put(transfer) | Call::Get(transfer) => is_ready(children, transfer.child),
-        Call::Ret { .. } | Call::ConsoleOut { .. } => true,
+    let all = awaits(call.call());
+    for awaited in all.as_slice() {
+        if !is_ready(children, *awaited) {
+            return false;
+        }
     }
+    true
 }
 
 // Whether the next event of a space at this depth may happen.

@@ -7,10 +7,10 @@ ghost use Rattle.space_model.specs.Space.{top_of, children_of};
 ghost use Rattle.run_model.specs.Schedule.{are_ready, is_enabled, try_step};
 
 use crate::enabling::are_ready;
-use put_get::apply;
 use space_step::{AcceptedCall, Next, next};
 use space_tree::{Path, Space};
 use std::alloc::{AllocError, Global};
+use user_runtime::meet;
 
 // A call of a space at this depth, where what it waits for is ready; else nothing.
 fn try_call(
@@ -28,7 +28,7 @@ fn try_call(
 {
     let ready = are_ready(call, &space.children);
     if ready {
-        apply(alloc, call, depth, space)?;
+        meet(alloc, call, depth, space)?;
     }
     Ok(ready)
 }
