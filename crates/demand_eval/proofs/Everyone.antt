@@ -1,13 +1,13 @@
 -- Children that settle one after another, by their numbers.
-use Rattle.std.proofs.Common.{◌≡◌, ℕ, zero, suc, pred, ◌+◌, ◌≤◌, ◌<◌, Bool, false, List, [], ◌∷◌, map, length, get_or, drop, Option, Some, None, refl, sym, ap, ◌∙◌, subst, drop-cons, add-one}
+use Rattle.std.proofs.Common.{◌≡◌, ℕ, zero, suc, pred, ◌+◌, ◌≤◌, ◌<◌, Bool, false, List, [], ◌∷◌, map, length, get_or, drop, refl, sym, ap, ◌∙◌, subst, drop-cons, add-one}
 use Rattle.std.proofs.lemmas.List.{drop_all}
-use Rattle.space_model.specs.Space.{Space, space, Top, Children, none, child, top_of, children_of, find, over, children_from}
+use Rattle.space_model.specs.Space.{Space, space, Top, Children, none, child, top_of, children_of, over, children_from}
 use Rattle.space_model.specs.Sound.{IsSoundAt, AreSound}
 use Rattle.space_model.specs.Path.{under}
 use Rattle.space_model.specs.declared.Reach.TheVariants.{Whole}
-use Rattle.space_model.proofs.Children.{over_missing, over-at}
 use Rattle.space_model.proofs.Sound.{over_sound, no_children}
-use Rattle.run_model.specs.Demand.{Meaning, wait_for, wait_for_child, everyone, settle, run, meaning, no_events, of_children}
+use Rattle.run_model.specs.Demand.{Meaning, wait_for, everyone, settle, run, meaning, no_events, of_children}
+use Rattle.run_model.proofs.Run.{wait_for-first}
 use Rattle.run_model.proofs.Sound.{run_sound, settle_sound}
 use Rattle.demand_eval.specs.Turns.{IsSoundBelow, with_everyone}
 
@@ -33,15 +33,11 @@ numbers_from : (es : List (ℕ × Space)) → numbers_of (children_from es) ≡ 
 numbers_from [] = refl
 numbers_from (e ∷ es) = ap (λ ns. e.0 ∷ ns) (numbers_from es)
 
-wait_whole : (f : Meaning) (n : ℕ) (cs : Children) (o : Option Space) → find n cs ≡ o → (wait_for_child f (record { number = n; reach = Whole }) cs o).children ≡ over n (λ c. (f Whole c).space) cs
-wait_whole f n cs None at = sym (over_missing n (λ c. (f Whole c).space) cs at)
-wait_whole f n cs (Some c) at = over-at n (λ d. (f Whole c).space) (λ d. (f Whole d).space) c cs at refl
-
 -- to wait for everyone is to wait for each by its number
 wait_all : (f : Meaning) (t : Top) (cs ds : Children) → space t (wait_for f (everyone cs) ds).children ≡ over_all (λ c. (f Whole c).space) (numbers_of cs) (space t ds)
 wait_all f t none ds = refl
 wait_all f t (child n s rest) ds =
-    ap (λ xs. space t (wait_for f (everyone rest) xs).children) (wait_whole f n ds (find n ds) refl) ∙ wait_all f t rest (over n (λ c. (f Whole c).space) ds)
+    ap (space t) (wait_for-first f (record { number = n; reach = Whole }) (everyone rest) ds) ∙ wait_all f t rest (over n (λ c. (f Whole c).space) ds)
 
 -- the children of sound spaces, each of which settles
 settles_at : (levels : ℕ) (root : Bool) (fuel : ℕ) (t : Top) (cs : Children) → IsSoundAt levels root fuel (space t cs)

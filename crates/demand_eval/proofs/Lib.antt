@@ -1,3 +1,4 @@
 pub mod Children
 pub mod Turns
 pub mod Everyone
+pub mod Awaited

@@ -1,24 +1,19 @@
 -- A space that has had local events, or a call, goes on to the same end.
 use Rattle.std.proofs.Common.{◌≡◌, ℕ, zero, suc, pred, ◌+◌, ◌≤◌, ◌<◌, Bool, true, false, cond, Option, Some, refl, sym, ap, ◌∙◌, subst, arith}
-use Rattle.call_model.specs.declared.Transfer.{Transfer}
 use Rattle.call_model.specs.declared.Call.{Call}
-use Rattle.call_model.specs.declared.Call.TheVariants.{Put, Get, Ret, ConsoleOut}
 use Rattle.space_model.specs.Stop.{is_stopped}
-use Rattle.space_model.specs.Space.{Space, space, Top, Children, none, top_of, children_of, over}
+use Rattle.space_model.specs.Space.{Space, space, Top, Children, top_of, children_of}
 use Rattle.space_model.specs.Sound.{IsSoundAt, AreSound}
-use Rattle.space_model.specs.declared.Reach.TheVariants.{Itself}
-use Rattle.space_model.specs.Path.{under}
 use Rattle.space_model.specs.Change.{after_payment}
 use Rattle.space_model.specs.Meeting.{MayMeet, awaits, meet}
 use Rattle.space_model.specs.Event.{next, rests, meets, Follows, MayPay}
-use Rattle.space_model.proofs.Sound.{no_children}
 use Rattle.space_model.proofs.Next.{next_meets, follows_sound}
 use Rattle.space_step.specs.declared.event.Next.{Next}
 use Rattle.space_step.specs.declared.event.Next.TheVariants as answers
 use Rattle.space_step.specs.Running.{Ended}
 use Rattle.run_model.specs.Demand.{run, left_of, of_children, wait_for}
 use Rattle.run_model.proofs.Fuel.{left_falls, stopped_rests}
-use Rattle.run_model.proofs.Run.{run_on, run-run_on, run_on-follows, run_on-rests, run_on-meets, meet_fuel, call_costs, wait_for-put, wait_for-get}
+use Rattle.run_model.proofs.Run.{run_on, run-run_on, run_on-follows, run_on-rests, run_on-meets, meet_fuel, call_costs}
 use Rattle.run_model.proofs.Sound.{KeepsSound, wait_for_sound, meaning_sound, next_meets_sound}
 use Rattle.demand_eval.specs.Turns.{IsSoundBelow, GoesOn, with_awaited}
 
@@ -72,24 +67,6 @@ advanced_then levels n t u cs s r is follows on =
 children_keep : (levels fuel : ℕ) → KeepsSound (of_children levels) (pred levels) fuel
 children_keep zero fuel = λ reach c h. h
 children_keep (suc levels) fuel = λ reach c h. meaning_sound levels reach false fuel c h
-
--- the child that Put or Get waits for has run; at the last level there is none
-children_at : (levels : ℕ) (root : Bool) (fuel n : ℕ) (t : Top) (cs : Children) → IsSoundAt levels root fuel (space t cs) → over n (λ c. (of_children levels Itself c).space) cs ≡ over n (run (pred levels)) cs
-children_at zero root fuel n t cs ok = let empty : cs ≡ none = no_children fuel 0 cs ok.1 in rw empty refl
-children_at (suc levels) root fuel n t cs ok = refl
-
-pub awaited_put : (levels : ℕ) (x : Transfer) (s : Space) → IsSoundBelow levels s → with_awaited levels (Put x) s ≡ under (over x.child (run (pred levels))) s
-awaited_put levels x (space t cs) ok = ap (space t) (wait_for-put (of_children levels) x cs ∙ children_at levels ok.root ok.fuel x.child t cs ok.sound)
-
-pub awaited_get : (levels : ℕ) (x : Transfer) (s : Space) → IsSoundBelow levels s → with_awaited levels (Get x) s ≡ under (over x.child (run (pred levels))) s
-awaited_get levels x (space t cs) ok = ap (space t) (wait_for-get (of_children levels) x cs ∙ children_at levels ok.root ok.fuel x.child t cs ok.sound)
-
--- a call that waits for none
-pub awaited_ret : (levels value : ℕ) (s : Space) → with_awaited levels (Ret value) s ≡ s
-awaited_ret levels value (space t cs) = refl
-
-pub awaited_console : (levels addr len : ℕ) (s : Space) → with_awaited levels (ConsoleOut addr len) s ≡ s
-awaited_console levels addr len (space t cs) = refl
 
 -- its caller is as it was
 pub awaited_top : (levels : ℕ) (k : Call) (s : Space) → top_of (with_awaited levels k s) ≡ top_of s

@@ -7,13 +7,12 @@ ghost use Rattle.space_model.specs.Event as event;
 ghost use Rattle.run_model.specs.Demand.{run, settle_tree};
 ghost use Rattle.demand_eval.specs.Turns.{IsSoundBelow, GoesOn, Turned, end_of, with_awaited, with_everyone};
 
-use put_get::apply;
 use space_model::Reach;
 use space_step::{Next, advance};
 use space_tree::Space;
 use std::alloc::{AllocError, Global};
 use std::collections::BTreeMap;
-use trap_ret::{AcceptedCall, Call};
+use trap_ret::{AcceptedCall, Call, awaits};
 
 // For how many events a space runs before it is asked again what is next.
 const STRETCH: u32 = 1 << 20;
@@ -37,19 +36,18 @@ fn wait_for_child(
     }
 }
 
-// What a call waits for is ready: a child that it names has run until it stopped.
+// What a call waits for is ready: each child that it names, one after the other, has run until it stopped, or settled.
 #[cycle(settle)]
 fn wait_for(alloc: Global, call: Call, space: &mut Space, depth: u8) -> Result<(), AllocError>
     requires depth { depth ≤ 8 }
     requires sound { IsSoundBelow (8 - depth) space.old }
     ensures { OnOk result (space.new ≡ with_awaited (8 - depth) call space.old) }
 {
-    match call {
-        Call::Put(transfer) | Call::Get(transfer) => {
-            wait_for_child(alloc, space, transfer.child, Reach::Itself, depth)
-        }
-        Call::Ret { .. } | Call::ConsoleOut { .. } => Ok(()),
+    let all = awaits(call);
+    for awaited in all.as_slice() {
+        wait_for_child(alloc, space, awaited.number, awaited.reach, depth)?;
     }
+    Ok(())
 }
 
 // The call that is next, once what it waits for is ready.
@@ -61,7 +59,7 @@ fn meet(alloc: Global, call: AcceptedCall, space: &mut Space, depth: u8) -> Resu
     ensures { OnOk result (GoesOn (8 - depth) space.old space.new) }
 {
     wait_for(alloc, call.call(), space, depth)?;
-    apply(alloc, call, depth, space)
+    user_runtime::meet(alloc, call, depth, space)
 }
 
 // Local events, and then the call that is next, if there is one. It says whether the space has stopped.

@@ -1,9 +1,10 @@
-use Rattle.std.proofs.Common.{◌-◌, pred, arith, inl, inr, Some, ap, sym, ◌∙◌}
+use Rattle.std.proofs.Common.{◌-◌, pred, arith, Some, ap, sym, ◌∙◌}
 use Rattle.std.proofs.lemmas.Result.{on_ok_weaker}
 use Rattle.demand_eval.specs.Turns.{end_of, with_awaited}
 use Rattle.demand_eval.proofs.Children.{child_below, child_becomes, child_missing, one_below}
-use Rattle.demand_eval.proofs.Turns.{may_meet, may_pay, met, awaited_put, awaited_get, told_local, told_meet, told_stopped, advanced_sound, advanced, advanced_then, advanced_stopped}
+use Rattle.demand_eval.proofs.Turns.{may_meet, may_pay, met, told_local, told_meet, told_stopped, advanced_sound, advanced, advanced_then, advanced_stopped}
 use Rattle.demand_eval.proofs.Everyone.{over_all-more, over_all-done, settled_all, one_settled, run_then, ran_sound}
+use Rattle.demand_eval.proofs.Awaited.{over_awaited-more, over_awaited-done, awaited_all, one_awaited}
 use Rattle.demand_eval.proofs.running.+settle.Goals as goal
 use Rattle.demand_eval.proofs.running.+settle.Goals.{wait_for_child-in-Some, wait_for_child-in-None}
 
@@ -24,24 +25,29 @@ wait_for_child-returns t c = elim c.match-get_mut.branch [
       c.space.view_is w.in-None.ensures.value (ap (λ m. m.entries) c.get_mut.follows.holds-at-none))
 ]
 
-pub wait_for-returns-in-Put : goal.wait_for-returns-in-Put
-wait_for-returns-in-Put t c = elim c.in-Put.is [
-  | inl e ↦ on_ok_weaker c.wait_for_child.result (λ h. h ∙ sym (awaited_put _ c.in-Put.transfer _ c.requires.sound) ∙ ap (λ k. with_awaited (8 - c.args.depth) k c.args.space.now) (sym e)) c.wait_for_child.ensures
-  | inr e ↦ on_ok_weaker c.wait_for_child.result (λ h. h ∙ sym (awaited_get _ c.in-Put.transfer _ c.requires.sound) ∙ ap (λ k. with_awaited (8 - c.args.depth) k c.args.space.now) (sym e)) c.wait_for_child.ensures
-]
+pub wait_for-loop-awaited-preserved : goal.wait_for-loop-awaited-preserved
+wait_for-loop-awaited-preserved t c = record {
+  same = over_awaited-more _ _ _ _ _ _ c.loop-awaited-test.true c.in_ok-wait_for_child.ensures ∙ c.loop-awaited.invariant.same;
+  sound = one_awaited _ _ _ _ _ c.loop-awaited.invariant.sound c.in_ok-wait_for_child.ensures;
+}
 
-pub meet-apply-requires-clause-may_meet : goal.meet-apply-requires-clause-may_meet
-meet-apply-requires-clause-may_meet t c = may_meet _ _ c.args.space.now c.requires.next
+pub wait_for-returns : goal.wait_for-returns
+wait_for-returns t c =
+    sym (over_awaited-done _ _ _ _ c.loop-awaited-test.false) ∙ c.loop-awaited.invariant.same
+    ∙ awaited_all _ _ _ _ c.requires.sound (c.as_slice-awaited-items.ensures.value ∙ c.awaits-all.ensures)
 
-pub meet-apply-requires-clause-may_pay : goal.meet-apply-requires-clause-may_pay
-meet-apply-requires-clause-may_pay t c =
+pub meet-meet-requires-clause-may_meet : goal.meet-meet-requires-clause-may_meet
+meet-meet-requires-clause-may_meet t c = may_meet _ _ c.args.space.now c.requires.next
+
+pub meet-meet-requires-clause-may_pay : goal.meet-meet-requires-clause-may_pay
+meet-meet-requires-clause-may_pay t c =
     let waited = c.in_ok-wait_for.ensures ∙ ap (λ k. with_awaited (8 - c.args.depth) k c.args.space.now) c.call.ensures.value in
     may_pay _ _ c.args.space.now _ c.requires.next waited
 
 pub meet-returns : goal.meet-returns
 meet-returns t c =
     let waited = c.in_ok-wait_for.ensures ∙ ap (λ k. with_awaited (8 - c.args.depth) k c.args.space.now) c.call.ensures.value in
-    on_ok_weaker c.apply.result (λ h. met _ _ _ _ _ c.requires.sound c.requires.next waited h) c.apply.ensures.ok
+    on_ok_weaker c.meet.result (λ h. met _ _ _ _ _ c.requires.sound c.requires.next waited h) c.meet.ensures.ok
 
 pub turn-meet-requires : goal.turn-meet-requires
 turn-meet-requires t c =

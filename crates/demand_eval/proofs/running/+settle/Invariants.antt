@@ -1,8 +1,9 @@
 use Rattle.std.proofs.Common.{◌≡◌, ◌+◌, ◌*◌, ◌-◌, pred, drop}
 use Rattle.space_model.specs.Space.{top_of}
 use Rattle.run_model.specs.Demand.{run, settle, left_of}
-use Rattle.demand_eval.specs.Turns.{IsSoundBelow}
+use Rattle.demand_eval.specs.Turns.{IsSoundBelow, end_of}
 use Rattle.demand_eval.proofs.Everyone.{over_all}
+use Rattle.demand_eval.proofs.Awaited.{over_awaited}
 use Rattle.demand_eval.proofs.running.+settle.Given as goal
 
 abbrev pub decreases-finish : goal.decreases-finish
@@ -34,6 +35,12 @@ invariant-run-turns l = record {
 
 abbrev pub decreases-run-turns : goal.decreases-run-turns
 decreases-run-turns l = left_of (top_of l.space)
+
+abbrev pub invariant-wait_for-loop-awaited : goal.invariant-wait_for-loop-awaited
+invariant-wait_for-loop-awaited l = record {
+  same : over_awaited (end_of (pred (8 - l.depth))) (drop l.awaited-index l.awaited-items) l.space ≡ over_awaited (end_of (pred (8 - l.depth))) l.awaited-items l.fn.space;
+  sound : IsSoundBelow (8 - l.depth) l.space;
+}
 
 abbrev pub invariant-settle_children-loop-number : goal.invariant-settle_children-loop-number
 invariant-settle_children-loop-number l = record {
