@@ -144,7 +144,7 @@ fn memory_copy(space: &mut Space) -> Result<Mem, AllocError>
 }
 
 /// Fork of a process (OSDI 2010, "Efficient System-Enforced Deterministic Parallelism", the section on emulating high-level abstractions), of a
-/// caller at this depth, at most 8, that has not paid yet, once the child, 0 to 65,535, has stopped or is missing. The child, made where it is
+/// caller at this depth, 0 to 7, that has not paid yet, once the child, 0 to 65,535, has stopped or is missing. The child, made where it is
 /// missing, gets the caller's registers and a copy of all of its memory, and runs without a limit behind the call, with a0 = 1; its own
 /// children, its snapshot, fuel and use stay. The caller pays one unit and goes on with a0 = 0. The one error is want of memory: nothing is
 /// changed then.
@@ -160,8 +160,9 @@ pub fn fork(alloc: Global, child: u16, depth: u8, space: &mut Space) -> Result<(
     fork_by(alloc, child, memory, None, space)
 }
 
-/// Fork of a thread that shares memory (OSDI 2010, the same section): as `fork`, and a snapshot of the child's new memory is kept, for `tjoin`
-/// to merge against. The one error is want of memory: nothing is changed then.
+/// Fork of a thread that shares memory (OSDI 2010, "Efficient System-Enforced Deterministic Parallelism", the section on emulating high-level
+/// abstractions), of a caller at this depth, 0 to 7: as `fork`, but the child's new memory is kept as its snapshot too, for `tjoin` to merge
+/// against. The one error is want of memory: nothing is changed then.
 pub fn tfork(alloc: Global, child: u16, depth: u8, space: &mut Space) -> Result<(), AllocError>
     requires depth { depth ≤ 8 }
     requires may_meet { MayMeet (8 - depth) (Tfork child) }

@@ -118,7 +118,7 @@ fn join_space(child: u16, space: &mut Space) -> Result<(), AllocError>
 }
 
 /// Join of a thread (OSDI 2010, "Efficient System-Enforced Deterministic Parallelism", the section on emulating high-level abstractions), of a
-/// caller at this depth, at most 8, that has not paid yet, once the child, 0 to 65,535, has stopped or is missing. What the child has changed
+/// caller at this depth, 0 to 8, that has not paid yet, once the child, 0 to 65,535, has stopped or is missing. What the child has changed
 /// below the address 0xC0000000 since its snapshot goes into the caller's memory, byte by byte. In a1 the caller gets the number of the cause
 /// with which the child stopped, in a2 the value; it pays one unit and goes on with a0 = 0. The child stays. The caller pays and stops instead,
 /// with nothing else changed, at the first of these:

@@ -51,7 +51,7 @@ fn report_wait(status: Status, caller: &mut Top)
 }
 
 /// Wait for a process (OSDI 2010, "Efficient System-Enforced Deterministic Parallelism", the section on emulating high-level abstractions), of a
-/// caller at this depth, at most 8, that has not paid yet, once the child, 0 to 65,535, and all below it have stopped or it is missing. The
+/// caller at this depth, 0 to 8, that has not paid yet, once the child, 0 to 65,535, and all below it have stopped or it is missing. The
 /// child goes, with all below it. In a1 the caller gets the number of the cause with which it stopped, in a2 the value, and 0 in a3; a missing
 /// child is read as one that has never run (21 and 0). The caller pays one unit and goes on with a0 = 0. It takes no memory, so there is no
 /// error.
