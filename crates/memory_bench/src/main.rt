@@ -3,8 +3,10 @@
 #![tactic(auto)]
 
 mod accesses;
+mod frozen;
 mod measure;
 mod merges;
+mod touches;
 mod walks;
 mod whole;
 

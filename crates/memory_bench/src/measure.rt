@@ -2,7 +2,9 @@ ghost use Rattle.std.specs.Prelude.{◌≡◌, ◌<◌, ◌≤◌, IfOk};
 ghost use Rattle.memory_model.specs.Memory.{no_memory, with_permissions};
 
 use crate::accesses::{Access, pass};
+use crate::frozen::{SMALL, frozen_after, small_memories};
 use crate::merges::{MERGED, child_of, time_of_compare, time_of_merge};
+use crate::touches::{PERMITTED, PageOrder, TOUCHED, permits, touches};
 use crate::walks::{Order, WALK, WordAddress, walk};
 use crate::whole::{Call, time_of};
 use snapshot::take;
@@ -128,8 +130,58 @@ fn merges(rt: &(impl Clock + Print), alloc: Global, rounds: u32) -> io::Result<u
     Ok(sum)
 }
 
+// Measures `frozen`, and the first write behind it, by how many pages were written since it was frozen last.
+fn freezes(rt: &(impl Clock + Print), alloc: Global, rounds: u32) -> io::Result<()> {
+    for pages in [10, 1000, 65536] {
+        let mut mem = memory_of(alloc, pages)?;
+        for written in [1, 10, 100] {
+            let mut best = (Duration::MAX, Duration::MAX);
+            for _round in 0..rounds {
+                let times = frozen_after(rt, &mut mem, pages, written)?;
+                best = (best.0.min(times.0), best.1.min(times.1));
+            }
+            println!(rt; "{written} pages written since:")?;
+            print_line(rt, "frozen", pages, 1, best.0)?;
+            print_line(rt, "the next write", pages, 1, best.1)?;
+        }
+    }
+    Ok(())
+}
+
+// Measures first writes and permissions, page by page, once in each order.
+fn orders(rt: &(impl Clock + Print), alloc: Global) -> io::Result<()> {
+    for (touching, permitting, order) in [
+        ("touch, rising", "perm, rising", PageOrder::Rising),
+        ("touch, falling", "perm, falling", PageOrder::Falling),
+        ("touch, scattered", "perm, scattered", PageOrder::Scattered),
+    ] {
+        let time = touches(rt, alloc, order)?;
+        print_line(rt, touching, TOUCHED, TOUCHED, time)?;
+        let time = permits(rt, alloc, order)?;
+        print_line(rt, permitting, PERMITTED, PERMITTED, time)?;
+    }
+    Ok(())
+}
+
+// Measures small memories.
+fn smalls(rt: &(impl Clock + Print), alloc: Global, rounds: u32) -> io::Result<()> {
+    let mut best = [Duration::MAX; 3];
+    for _round in 0..rounds {
+        let [making, copying, dropping] = small_memories(rt, alloc)?;
+        best = [
+            best[0].min(making),
+            best[1].min(copying),
+            best[2].min(dropping),
+        ];
+    }
+    print_line(rt, "small, made", 14, SMALL, best[0])?;
+    print_line(rt, "small, frozen", 14, SMALL, best[1])?;
+    print_line(rt, "small, dropped", 14, SMALL, best[2])
+}
+
 /// Measures memories of 9, 1,000 and 10,000 pages that may be read and written, and prints a line for each operation: what, how many
-/// pages, how many operations a round has, and the nanoseconds of one in the best of the rounds. Then it measures a merge.
+/// pages, how many operations a round has, and the nanoseconds of one in the best of the rounds. A merge, small memories and `frozen` follow,
+/// and last, measured once, first writes and permissions in several orders.
 pub fn all(rt: &(impl Clock + Print), alloc: Global, rounds: u32) -> io::Result<()> {
     println!(rt; "what                pages operations ns an operation")?;
     let mut sum: u32 = 0;
@@ -139,5 +191,8 @@ pub fn all(rt: &(impl Clock + Print), alloc: Global, rounds: u32) -> io::Result<
         calls(rt, alloc, rounds, pages, &mut mem)?;
     }
     sum = sum.wrapping_add(merges(rt, alloc, rounds)?);
+    smalls(rt, alloc, rounds)?;
+    freezes(rt, alloc, rounds)?;
+    orders(rt, alloc)?;
     println!(rt; "sum of what was read: {sum}")
 }

@@ -211,17 +211,71 @@ fn forks(rt: HostRuntime) -> Result<(), Fail> {
     let alloc = rt.alloc();
     let went = went([1, 98, 99], [3, 0]);
     let as_it_ran = Some((RUNNING, [0, 3, 0]));
-    row(&rt, alloc, (FORK, Child::Missing, 0), went, Some((FORKED, [0, 99, 0])));
-    row(&rt, alloc, (FORK, Child::Stopped, 0), went, Some((FORKED, [0, 3, 0])));
-    row(&rt, alloc, (FORK, Child::Settled, 0), went, Some((FORKED, [0, 3, 1])));
-    row(&rt, alloc, (FORK, Child::Parent, 7), went, Some((FORKED, [0, 3, 1])));
+    row(
+        &rt,
+        alloc,
+        (FORK, Child::Missing, 0),
+        went,
+        Some((FORKED, [0, 99, 0])),
+    );
+    row(
+        &rt,
+        alloc,
+        (FORK, Child::Stopped, 0),
+        went,
+        Some((FORKED, [0, 3, 0])),
+    );
+    row(
+        &rt,
+        alloc,
+        (FORK, Child::Settled, 0),
+        went,
+        Some((FORKED, [0, 3, 1])),
+    );
+    row(
+        &rt,
+        alloc,
+        (FORK, Child::Parent, 7),
+        went,
+        Some((FORKED, [0, 3, 1])),
+    );
     row(&rt, alloc, (FORK, Child::Running, 0), BEFORE, as_it_ran);
-    row(&rt, alloc, (FORK, Child::Missing, 8), stopped(16, 8, 3), None);
-    row(&rt, alloc, (TFORK, Child::Missing, 0), went, Some((FORKED, [0, 3, 0])));
-    row(&rt, alloc, (TFORK, Child::WithoutSnapshot, 0), went, Some((FORKED, [0, 3, 0])));
-    row(&rt, alloc, (TFORK, Child::Settled, 7), went, Some((FORKED, [0, 3, 1])));
+    row(
+        &rt,
+        alloc,
+        (FORK, Child::Missing, 8),
+        stopped(16, 8, 3),
+        None,
+    );
+    row(
+        &rt,
+        alloc,
+        (TFORK, Child::Missing, 0),
+        went,
+        Some((FORKED, [0, 3, 0])),
+    );
+    row(
+        &rt,
+        alloc,
+        (TFORK, Child::WithoutSnapshot, 0),
+        went,
+        Some((FORKED, [0, 3, 0])),
+    );
+    row(
+        &rt,
+        alloc,
+        (TFORK, Child::Settled, 7),
+        went,
+        Some((FORKED, [0, 3, 1])),
+    );
     row(&rt, alloc, (TFORK, Child::Running, 7), BEFORE, as_it_ran);
-    row(&rt, alloc, (TFORK, Child::Missing, 8), stopped(16, 8, 3), None);
+    row(
+        &rt,
+        alloc,
+        (TFORK, Child::Missing, 8),
+        stopped(16, 8, 3),
+        None,
+    );
     Ok(())
 }
 
@@ -229,12 +283,36 @@ fn forks(rt: HostRuntime) -> Result<(), Fail> {
 fn waits(rt: HostRuntime) -> Result<(), Fail> {
     let alloc = rt.alloc();
     let went_with = went([20, 9, 0], [3, 0]);
-    row(&rt, alloc, (WAIT, Child::Missing, 0), went([21, 0, 0], [3, 0]), None);
+    row(
+        &rt,
+        alloc,
+        (WAIT, Child::Missing, 0),
+        went([21, 0, 0], [3, 0]),
+        None,
+    );
     row(&rt, alloc, (WAIT, Child::Stopped, 0), went_with, None);
     row(&rt, alloc, (WAIT, Child::Settled, 7), went_with, None);
-    row(&rt, alloc, (WAIT, Child::Running, 0), BEFORE, Some((RUNNING, [0, 3, 0])));
-    row(&rt, alloc, (WAIT, Child::Parent, 0), BEFORE, Some((AS_IT_WAS, [0, 3, 1])));
-    row(&rt, alloc, (WAIT, Child::Missing, 8), went([21, 0, 0], [3, 0]), None);
+    row(
+        &rt,
+        alloc,
+        (WAIT, Child::Running, 0),
+        BEFORE,
+        Some((RUNNING, [0, 3, 0])),
+    );
+    row(
+        &rt,
+        alloc,
+        (WAIT, Child::Parent, 0),
+        BEFORE,
+        Some((AS_IT_WAS, [0, 3, 1])),
+    );
+    row(
+        &rt,
+        alloc,
+        (WAIT, Child::Missing, 8),
+        went([21, 0, 0], [3, 0]),
+        None,
+    );
     Ok(())
 }
 
@@ -244,11 +322,41 @@ fn joins(rt: HostRuntime) -> Result<(), Fail> {
     let joined = went([20, 9, 99], [7, 8]);
     let no_snapshot = stopped(16, 5, 3);
     row(&rt, alloc, (TJOIN, Child::Missing, 0), no_snapshot, None);
-    row(&rt, alloc, (TJOIN, Child::WithoutSnapshot, 0), no_snapshot, Some((AS_IT_WAS, [0, 99, 0])));
-    row(&rt, alloc, (TJOIN, Child::Stopped, 0), joined, Some((AS_IT_WAS, [0, 3, 0])));
-    row(&rt, alloc, (TJOIN, Child::Settled, 7), joined, Some((AS_IT_WAS, [0, 3, 1])));
-    row(&rt, alloc, (TJOIN, Child::Parent, 0), joined, Some((AS_IT_WAS, [0, 3, 1])));
-    row(&rt, alloc, (TJOIN, Child::Running, 0), BEFORE, Some((RUNNING, [0, 3, 0])));
+    row(
+        &rt,
+        alloc,
+        (TJOIN, Child::WithoutSnapshot, 0),
+        no_snapshot,
+        Some((AS_IT_WAS, [0, 99, 0])),
+    );
+    row(
+        &rt,
+        alloc,
+        (TJOIN, Child::Stopped, 0),
+        joined,
+        Some((AS_IT_WAS, [0, 3, 0])),
+    );
+    row(
+        &rt,
+        alloc,
+        (TJOIN, Child::Settled, 7),
+        joined,
+        Some((AS_IT_WAS, [0, 3, 1])),
+    );
+    row(
+        &rt,
+        alloc,
+        (TJOIN, Child::Parent, 0),
+        joined,
+        Some((AS_IT_WAS, [0, 3, 1])),
+    );
+    row(
+        &rt,
+        alloc,
+        (TJOIN, Child::Running, 0),
+        BEFORE,
+        Some((RUNNING, [0, 3, 0])),
+    );
     row(&rt, alloc, (TJOIN, Child::Missing, 8), no_snapshot, None);
     Ok(())
 }
