@@ -18,14 +18,14 @@ abbrev pub merged_byte : List ℕ → List ℕ → List ℕ → ℕ → ℕ
 merged_byte snapshot child parent k = if is_changed snapshot child k then slice_index child k else slice_index parent k
 
 -- no offset before one is in conflict
-abbrev pub AgreeBelow : List ℕ → List ℕ → List ℕ → ℕ → Type 0
-AgreeBelow snapshot child parent end = (k : ℕ) → k < end → is_conflict snapshot child parent k ≡ false
+abbrev pub NoneInConflict : List ℕ → List ℕ → List ℕ → ℕ → Type 0
+NoneInConflict snapshot child parent end = (k : ℕ) → k < end → is_conflict snapshot child parent k ≡ false
 
 -- the least offset of a page that is in conflict
 pub record IsFirstConflict (snapshot child parent : List ℕ) (k : ℕ) : Type 0 where
   pub within : k < page_size
   pub here : is_conflict snapshot child parent k ≡ true
-  pub least : AgreeBelow snapshot child parent k
+  pub least : NoneInConflict snapshot child parent k
 
 -- each offset of a page before one has the merged byte
 abbrev pub IsMergeBelow : List ℕ → List ℕ → List ℕ → List ℕ → ℕ → Type 0

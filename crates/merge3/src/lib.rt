@@ -2,7 +2,7 @@
 #![tactic(auto)]
 
 ghost use Rattle.std.specs.Prelude.{◌≡◌, ℕ, ◌<◌, IfErr, IfSome, IsNone, OnErr, OnOk, if◌then◌else◌, not, ◌==◌};
-ghost use Rattle.merge3.specs.Bytes.{AgreeBelow, IsFirstConflict, IsMergeBelow};
+ghost use Rattle.merge3.specs.Bytes.{IsFirstConflict, IsMergeBelow, NoneInConflict};
 ghost use Rattle.memory_model.specs.Sizes.{page_size};
 
 use memory_model::PAGE_SIZE;
@@ -19,7 +19,7 @@ pub fn merge_page(
     out: &mut [u8; SIZE],
 ) -> Result<(), u16>
     ensures ok { OnOk result (IsMergeBelow snapshot.now child.now parent.now out.new page_size) }
-    ensures sure { OnOk result (AgreeBelow snapshot.now child.now parent.now page_size) }
+    ensures sure { OnOk result (NoneInConflict snapshot.now child.now parent.now page_size) }
     ensures conflict { IfErr result (IsFirstConflict snapshot.now child.now parent.now) }
     ensures err { OnErr result (out.new ≡ out.old) }
 {
@@ -35,7 +35,7 @@ pub fn merge_page(
 // The least offset at which both sides differ from the snapshot.
 fn first_conflict(snapshot: &[u8; SIZE], child: &[u8; SIZE], parent: &[u8; SIZE]) -> Option<u16>
     ensures some { IfSome result (IsFirstConflict snapshot.now child.now parent.now) }
-    ensures none { IsNone result → AgreeBelow snapshot.now child.now parent.now page_size }
+    ensures none { IsNone result → NoneInConflict snapshot.now child.now parent.now page_size }
 {
     for k in 0..SIZE {
         if child[k] != snapshot[k] && parent[k] != snapshot[k] {

@@ -10,7 +10,7 @@ use Rattle.merge3.specs.Bytes as bytes
 use Rattle.snapshot.specs.declared.fault.MergeError.{MergeError}
 use Rattle.snapshot.specs.declared.fault.MergeError.TheVariants.{Conflict, Memory as NoMemory}
 use Rattle.snapshot.specs.Faults.{IsConflictAt, MayFail}
-use Rattle.snapshot.specs.Pages.{IsFirstConflict, IsMergedPage, NoneConflicts, SameBytes}
+use Rattle.snapshot.specs.Pages.{IsFirstConflict, IsMergedPage, NoneInConflict, SameBytes}
 
 pub conflict_at : (s c p : Memory) (page : ℕ) (xs ys zs : List ℕ) → IsPageOf s page xs → IsPageOf c page ys → IsPageOf p page zs → (k : ℕ) → k < 4096 → model.is_conflict s c p (4096 * page + k) ≡ bytes.is_conflict xs ys zs k
 conflict_at s c p page xs ys zs hs hc hp k below =
@@ -19,7 +19,7 @@ conflict_at s c p page xs ys zs hs hc hp k below =
     let d = hp.byte k below in
     λ i. not (b i == a i) && not (d i == a i)
 
-pub none_in_page : (s c p : Memory) (page : ℕ) (xs ys zs : List ℕ) (end to : ℕ) → IsPageOf s page xs → IsPageOf c page ys → IsPageOf p page zs → bytes.AgreeBelow xs ys zs end → end ≤ 4096 → to ≤ 4096 * page + end → NoneConflicts s c p (4096 * page) to
+pub none_in_page : (s c p : Memory) (page : ℕ) (xs ys zs : List ℕ) (end to : ℕ) → IsPageOf s page xs → IsPageOf c page ys → IsPageOf p page zs → bytes.NoneInConflict xs ys zs end → end ≤ 4096 → to ≤ 4096 * page + end → NoneInConflict s c p (4096 * page) to
 none_in_page s c p page xs ys zs end to hs hc hp agree within le a above below =
     let k = a - 4096 * page in
     let e : a ≡ 4096 * page + k = omega arith in
@@ -41,18 +41,18 @@ merged_in_page s c p page xs ys zs out hs hc hp merged k below =
     merged k below ∙ sym (λ i. if not (b i == a i) then b i else d i)
 
 -- where the child changed nothing there is no conflict
-pub none_unchanged : (s c p : Memory) (first end : ℕ) → SameBytes c s first end → NoneConflicts s c p (4096 * first) (4096 * end)
+pub none_unchanged : (s c p : Memory) (first end : ℕ) → SameBytes c s first end → NoneInConflict s c p (4096 * first) (4096 * end)
 none_unchanged s c p first end same a above below =
     ap (λ b. not b && model.is_changed s p a) (eq-eqb (byte_at c a) (byte_at s a) (same a above below))
 
-pub none_join : (s c p : Memory) (x y z : ℕ) → NoneConflicts s c p x y → NoneConflicts s c p y z → NoneConflicts s c p x z
+pub none_join : (s c p : Memory) (x y z : ℕ) → NoneInConflict s c p x y → NoneInConflict s c p y z → NoneInConflict s c p x z
 none_join s c p x y z before after a above below = elim (cases_lt a y) [
   | inl low ↦ before a above low
   | inr high ↦ after a high below
 ]
 
 -- the first conflict of a page, where no page of the range before it has one
-pub fails_at : (s c p : Memory) (first count page : ℕ) (e : MergeError) → first ≤ page → page < first + count → NoneConflicts s c p (4096 * first) (4096 * page) → IsConflictAt (IsFirstConflict s c p page) e → MayFail (model.first_conflict s c p first count) e
+pub fails_at : (s c p : Memory) (first count page : ℕ) (e : MergeError) → first ≤ page → page < first + count → NoneInConflict s c p (4096 * first) (4096 * page) → IsConflictAt (IsFirstConflict s c p page) e → MayFail (model.first_conflict s c p first count) e
 fails_at s c p first count page (Conflict addr) from to none found =
     first_conflict-some s c p first count addr (omega (arith, found.above)) (omega (arith, found.below))
     (none_join s c p (4096 * first) (4096 * page) addr none found.least) found.here

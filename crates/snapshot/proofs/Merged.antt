@@ -7,7 +7,7 @@ use Rattle.memory_model.specs.Memory.{Memory, byte_at, permission_at, with_bytes
 use Rattle.memory_model.proofs.Runs.{byte_at-with_bytes, byte_at-with_bytes_out, permission_at-with_bytes}
 use Rattle.merge_model.specs.Merge.{is_changed, merged_byte, with_merge}
 use Rattle.merge_model.proofs.Merges.{byte_at-with_merge, byte_at-with_merge_out}
-use Rattle.snapshot.specs.Pages.{AreChanged, IsMergedPage, NoneConflicts}
+use Rattle.snapshot.specs.Pages.{AreChanged, IsMergedPage, NoneInConflict, SameBytes}
 
 -- the merged bytes of a page are written
 pub written : (s c p : Memory) (page : ℕ) (bs : List ℕ) → length bs ≡ 4096 → IsMergedPage s c p page bs → with_bytes p (4096 * page) bs ≡ with_merge s c p page 1
@@ -28,6 +28,18 @@ written s c p page bs sized merged = same_memory (with_bytes p (4096 * page) bs)
 -- where the child changed nothing the merged byte is the parent's
 pub unchanged_byte : (s c p : Memory) (a : ℕ) → byte_at c a ≡ byte_at s a → merged_byte s c p a ≡ byte_at p a
 unchanged_byte s c p a same = ap (λ b. if not b then byte_at c a else byte_at p a) (eq-eqb (byte_at c a) (byte_at s a) same)
+
+-- a page that the child did not change
+pub untouched : (s c p : Memory) (page : ℕ) → SameBytes c s page (page + 1) → p ≡ with_merge s c p page 1
+untouched s c p page same = same_memory p (with_merge s c p page 1)
+    (λ a. elim (cases_lt a (4096 * page)) [
+      | inl before ↦ sym (byte_at-with_merge_out s c p page 1 a (inl before))
+      | inr from ↦ elim (cases_lt a (4096 * (page + 1))) [
+        | inl here ↦ sym (unchanged_byte s c p a (same a from here)) ∙ sym (byte_at-with_merge s c p page 1 a from here)
+        | inr after ↦ sym (byte_at-with_merge_out s c p page 1 a (inr after))
+      ]
+    ])
+    (λ q. refl)
 
 -- what is so once the pages before some are merged
 pub record IsUpTo (s c old now : Memory) (first end : ℕ) (rest : List ℕ) : Type 0 where
@@ -58,7 +70,7 @@ pub up_last : (s c old now : Memory) (first end : ℕ) (ps : List ℕ) (i : ℕ)
 up_last s c old now first end ps i past up = subst (IsUpTo s c old now first end) (drop_all i ps past) up
 
 -- the next page has no conflict still
-pub up_free : (s c old now : Memory) (first end page : ℕ) (rest : List ℕ) → IsUpTo s c old now first end (page ∷ rest) → NoneConflicts s c old (4096 * first) (4096 * end) → NoneConflicts s c now (4096 * page) (4096 * (page + 1))
+pub up_free : (s c old now : Memory) (first end page : ℕ) (rest : List ℕ) → IsUpTo s c old now first end (page ∷ rest) → NoneInConflict s c old (4096 * first) (4096 * end) → NoneInConflict s c now (4096 * page) (4096 * (page + 1))
 up_free s c old now first end page rest up none a above below =
     let from = up.changed.0 in
     let to = up.changed.1.0 in

@@ -10,11 +10,11 @@ abbrev pub SameBytes : Memory → Memory → ℕ → ℕ → Type 0
 SameBytes m n first end = (a : ℕ) → page_size * first ≤ a → a < page_size * end → byte_at m a ≡ byte_at n a
 
 -- no address from one to before another is in conflict
-abbrev pub NoneConflicts : Memory → Memory → Memory → ℕ → ℕ → Type 0
-NoneConflicts snapshot child parent from to = (a : ℕ) → from ≤ a → a < to → is_conflict snapshot child parent a ≡ false
+abbrev pub NoneInConflict : Memory → Memory → Memory → ℕ → ℕ → Type 0
+NoneInConflict snapshot child parent from to = (a : ℕ) → from ≤ a → a < to → is_conflict snapshot child parent a ≡ false
 
 -- the next page from n on of which the bytes of two memories may differ
-pub record IsNextPage (m n : Memory) (from page : ℕ) : Type 0 where
+pub record IsNextToMerge (m n : Memory) (from page : ℕ) : Type 0 where
   pub above : from ≤ page
   pub below : page < pages
   pub same : SameBytes m n from page
@@ -33,4 +33,4 @@ pub record IsFirstConflict (snapshot child parent : Memory) (page addr : ℕ) : 
   pub above : page_size * page ≤ addr
   pub below : addr < page_size * (page + 1)
   pub here : is_conflict snapshot child parent addr ≡ true
-  pub least : NoneConflicts snapshot child parent (page_size * page) addr
+  pub least : NoneInConflict snapshot child parent (page_size * page) addr

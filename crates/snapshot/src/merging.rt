@@ -3,7 +3,7 @@ ghost use Rattle.memory_model.specs.Sizes.{page_size, pages};
 ghost use Rattle.merge_model.specs.Merge.{first_conflict, with_merge};
 ghost use Rattle.space_mem.specs.Held.{Owns};
 ghost use Rattle.snapshot.specs.Faults.{MayFail};
-ghost use Rattle.snapshot.specs.Pages.{AreChanged, NoneConflicts};
+ghost use Rattle.snapshot.specs.Pages.{AreChanged, NoneInConflict};
 
 use crate::changes::changed_pages;
 use crate::fault::MergeError;
@@ -37,13 +37,15 @@ fn merge_one(
     scratch: &mut [u8; SIZE],
 ) -> Result<(), MergeError>
     requires within { page < pages }
-    requires free { NoneConflicts snapshot.now.memory child.now.memory parent.old.memory (page_size * page) (page_size * (page + 1)) }
+    requires free { NoneInConflict snapshot.now.memory child.now.memory parent.old.memory (page_size * page) (page_size * (page + 1)) }
     requires owned { Owns parent.old page }
     ensures ok { OnOk result (parent.new.memory ≡ with_merge snapshot.now.memory child.now.memory parent.old.memory page 1) }
     ensures sure { IsOk result }
     ensures stays { (p : ℕ) → Owns parent.old p → Owns parent.new p }
 {
-    merge_in_page(parent, child, snapshot, page, scratch)?;
+    if !merge_in_page(parent, child, snapshot, page, scratch)? {
+        return Ok(());
+    }
     parent.write_bytes(PAGE_SIZE * page, scratch)?;
     Ok(())
 }
@@ -57,7 +59,7 @@ fn merge_each(
     changed: &[u32],
 ) -> Result<(), MergeError>
     requires changed { AreChanged child.now.memory snapshot.now.memory range.first (range.first + range.count) changed.now }
-    requires free { NoneConflicts snapshot.now.memory child.now.memory parent.old.memory (page_size * range.first) (page_size * (range.first + range.count)) }
+    requires free { NoneInConflict snapshot.now.memory child.now.memory parent.old.memory (page_size * range.first) (page_size * (range.first + range.count)) }
     requires owned { All (Owns parent.old) changed.now }
     ensures ok { OnOk result (parent.new.memory ≡ with_merge snapshot.now.memory child.now.memory parent.old.memory range.first range.count) }
     ensures sure { IsOk result }

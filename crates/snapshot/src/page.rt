@@ -1,8 +1,8 @@
-ghost use Rattle.std.specs.Prelude.{◌≡◌, ℕ, ◌*◌, ◌+◌, ◌<◌, ◌≤◌, IfErr, IsOk, OnOk};
+ghost use Rattle.std.specs.Prelude.{◌≡◌, ℕ, ◌*◌, ◌+◌, ◌<◌, ◌≤◌, IfErr, IfOk, IsFalse, IsTrue, OnOk};
 ghost use Rattle.memory_model.specs.Ranges.{IsPageOf};
 ghost use Rattle.memory_model.specs.Sizes.{page_size, pages};
 ghost use Rattle.snapshot.specs.Faults.{IsConflictAt};
-ghost use Rattle.snapshot.specs.Pages.{IsFirstConflict, IsMergedPage, NoneConflicts};
+ghost use Rattle.snapshot.specs.Pages.{IsFirstConflict, IsMergedPage, NoneInConflict, SameBytes};
 
 use crate::fault::MergeError;
 use memory_model::PAGE_SIZE;
@@ -23,27 +23,27 @@ pub fn page_bytes(memory: &Mem, page: u32) -> &[u8; SIZE]
     }
 }
 
-// Merges a page into `out`. The error is the conflict at the least address.
+// Whether the child changed a page, which is merged into `out` then. The error is the conflict at the least address of the page.
 pub fn merge_in_page(
     parent: &Mem,
     child: &Mem,
     snapshot: &Mem,
     page: u32,
     out: &mut [u8; SIZE],
-) -> Result<(), MergeError>
+) -> Result<bool, MergeError>
     requires { page < pages }
-    ensures ok { OnOk result (IsMergedPage snapshot.now.memory child.now.memory parent.now.memory page out.new) }
-    ensures sure { OnOk result (NoneConflicts snapshot.now.memory child.now.memory parent.now.memory (page_size * page) (page_size * (page + 1))) }
+    ensures merged { IfOk result (λ changed. IsTrue changed → IsMergedPage snapshot.now.memory child.now.memory parent.now.memory page out.new) }
+    ensures same { IfOk result (λ changed. IsFalse changed → SameBytes child.now.memory snapshot.now.memory page (page + 1)) }
+    ensures sure { OnOk result (NoneInConflict snapshot.now.memory child.now.memory parent.now.memory (page_size * page) (page_size * (page + 1))) }
     ensures conflict { IfErr result (IsConflictAt (IsFirstConflict snapshot.now.memory child.now.memory parent.now.memory page)) }
 {
     let before = page_bytes(snapshot, page);
-    match merge_page(
-        before,
-        page_bytes(child, page),
-        page_bytes(parent, page),
-        out,
-    ) {
-        Ok(()) => Ok(()),
+    let written = page_bytes(child, page);
+    if written == before {
+        return Ok(false);
+    }
+    match merge_page(before, written, page_bytes(parent, page), out) {
+        Ok(()) => Ok(true),
         Err(offset) => {
             let addr = PAGE_SIZE * page + u32::from(offset);
             Err(MergeError::Conflict { addr })

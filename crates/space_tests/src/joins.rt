@@ -26,7 +26,7 @@ enum Child {
     Parent,
 }
 
-const RETURNED: Status = Status::Stopped {
+pub const RETURNED: Status = Status::Stopped {
     cause: Cause::Ret,
     value: 9,
 };
@@ -42,7 +42,7 @@ fn memory(alloc: Global, bytes: [u8; 2]) -> Result<Mem, AllocError> {
 }
 
 // A state at pc 0x100, with 10 units of fuel.
-fn state(alloc: Global, status: Status, bytes: [u8; 2]) -> Result<Top, AllocError> {
+pub fn state(alloc: Global, status: Status, bytes: [u8; 2]) -> Result<Top, AllocError> {
     let mut top = Top::fresh(alloc, 10);
     top.registers = Regs::new(0x100);
     top.memory = memory(alloc, bytes)?;
@@ -51,7 +51,7 @@ fn state(alloc: Global, status: Status, bytes: [u8; 2]) -> Result<Top, AllocErro
 }
 
 // The child: its bytes are 7 and 8, and were 3 and 0 when its snapshot was taken.
-fn child(alloc: Global, how: Child) -> Result<Space, AllocError> {
+fn child_that(alloc: Global, how: Child) -> Result<Space, AllocError> {
     let status = match how {
         Child::Running => Status::Running,
         _ => RETURNED,
@@ -82,13 +82,13 @@ fn caller(alloc: Global, number: u32, how: Child, byte: u8) -> Result<Space, All
     top.registers.set_register(17, number);
     let mut space = Space::alone(alloc, top);
     if how != Child::Missing {
-        space.children.insert(1, child(alloc, how)?)?;
+        space.children.insert(1, child_that(alloc, how)?)?;
     }
     Ok(space)
 }
 
 // That space as child 0 of a space, and so on, so that it is at this depth.
-fn at_depth(alloc: Global, space: Space, depth: u8) -> Result<Space, AllocError> {
+pub fn at_depth(alloc: Global, space: Space, depth: u8) -> Result<Space, AllocError> {
     let mut whole = space;
     for _ in 0..depth {
         let mut parent = Space::alone(alloc, Top::fresh(alloc, 10));
@@ -99,7 +99,7 @@ fn at_depth(alloc: Global, space: Space, depth: u8) -> Result<Space, AllocError>
 }
 
 // What is seen of a state: the number of its cause and its value, 22 and 0 where it runs; pc, a0 to a3, and its two bytes.
-fn seen(top: &Top) -> [u32; 9] {
+pub fn seen(top: &Top) -> [u32; 9] {
     let (cause, value) = match top.status {
         Status::Running => (22, 0),
         Status::Stopped { cause, value } => (cause_number(cause), value),
@@ -128,7 +128,7 @@ struct Outcome {
     child: Option<([u32; 9], [u32; 3])>,
 }
 
-fn outcome(happened: bool, space: &Space) -> Outcome {
+fn outcome_of(happened: bool, space: &Space) -> Outcome {
     let child = match space.children.get(&1) {
         Some(child) => {
             let snapshot = match &child.top.snapshot {
@@ -165,7 +165,7 @@ fn event(
     }
     let happened = step(alloc, &mut whole, &path)?;
     match space_tree::at(&whole, &path) {
-        Some(space) => Ok(outcome(happened, space)),
+        Some(space) => Ok(outcome_of(happened, space)),
         None => panic!(rt; "no caller"),
     }
 }

@@ -1,9 +1,9 @@
-use put_get::apply;
 use space_tree::{Cause, Mem, Pages, Regs, Space, Status, Top};
 use std::alloc::{AllocError, Global};
 use std::process::Abort;
 use std::test::Fail;
 use trap_ret::{Call, cause_number, read_call};
+use user_runtime::meet;
 
 const PUT: u32 = 1;
 
@@ -26,7 +26,7 @@ fn applied(
         panic!(rt; "refused");
     };
     match call.call() {
-        Call::Put(_) | Call::Get(_) => apply(alloc, call, 0, space),
+        Call::Put(_) | Call::Get(_) => meet(alloc, call, 0, space),
         _ => panic!(rt; "another call"),
     }
 }

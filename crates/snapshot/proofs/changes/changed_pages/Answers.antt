@@ -28,8 +28,8 @@ returns-then-page-end-clause-sure c =
     none_join s d c.args.parent.now.memory _ (4096 * l.from) _ l.invariant.none
     (none_unchanged s d c.args.parent.now.memory l.from _ (same_less d s l.from _ _ c.if-page-end.true c.in-Some.ensures.some.same))
 
-pub returns-in_err-is_changed-clause-conflict : goal.returns-in_err-is_changed-clause-conflict
-returns-in_err-is_changed-clause-conflict c =
+pub returns-in_err-merge_in_page-clause-conflict : goal.returns-in_err-merge_in_page-clause-conflict
+returns-in_err-merge_in_page-clause-conflict c =
     let l = c.loop-page in
     let s = c.args.snapshot.now.memory in
     let d = c.args.child.now.memory in
@@ -37,7 +37,7 @@ returns-in_err-is_changed-clause-conflict c =
     let next = c.in-Some.ensures.some in
     let none = none_join s d p _ (4096 * l.from) _ l.invariant.none (none_unchanged s d p l.from c.in-Some.page next.same) in
     let told = err_from_is_err_and c.from_residual.result c.from_residual.ensures.1 in
-    rw (told.1, told.2) (fails_at s d p c.args.range.first c.args.range.count c.in-Some.page c.in_err-is_changed.field-0.0 (omega (arith, next.above, l.invariant.above)) c.if-page-end.false none c.in_err-is_changed.ensures.conflict)
+    rw (told.1, told.2) (fails_at s d p c.args.range.first c.args.range.count c.in-Some.page c.in_err-merge_in_page.field-0.0 (omega (arith, next.above, l.invariant.above)) c.if-page-end.false none c.in_err-merge_in_page.ensures.conflict)
 
 pub loop-page-preserved : goal.loop-page-preserved
 loop-page-preserved c =
@@ -58,11 +58,11 @@ loop-page-preserved c =
         | else-branch w ↦
             let is = ap (λ v. v.items) w.changed-is in
             subst (AreChanged d s c.args.range.first (page + 1)) (sym is)
-            (changed_more d s c.args.range.first l.from (page + 1) l.changed.items l.invariant.changed (omega (arith, next.above)) (same_join d s l.from page (page + 1) next.same (c.in_ok-is_changed.ensures.same w.if-branch.false)))
+            (changed_more d s c.args.range.first l.from (page + 1) l.changed.items l.invariant.changed (omega (arith, next.above)) (same_join d s l.from page (page + 1) next.same (c.in_ok-merge_in_page.ensures.same w.if-branch.false)))
       ];
       none = none_join s d p _ (4096 * page) _
           (none_join s d p _ (4096 * l.from) _ l.invariant.none (none_unchanged s d p l.from page next.same))
-          c.in_ok-is_changed.ensures.sure;
+          c.in_ok-merge_in_page.ensures.sure;
     }
 
 pub returns-clause-changed : goal.returns-clause-changed

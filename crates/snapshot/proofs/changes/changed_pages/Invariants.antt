@@ -1,5 +1,5 @@
 use Rattle.std.proofs.Common.{◌≤◌, ◌*◌, ◌-◌}
-use Rattle.snapshot.specs.Pages.{AreChanged, NoneConflicts}
+use Rattle.snapshot.specs.Pages.{AreChanged, NoneInConflict}
 use Rattle.snapshot.proofs.changes.changed_pages.Given as goal
 
 abbrev pub invariant-loop-page : goal.invariant-loop-page
@@ -7,7 +7,7 @@ invariant-loop-page l = record {
   above : l.fn.range.first ≤ l.from;
   within : l.from ≤ l.end;
   changed : AreChanged l.child.memory l.snapshot.memory l.fn.range.first l.from l.changed.items;
-  none : NoneConflicts l.snapshot.memory l.child.memory l.parent.memory (4096 * l.fn.range.first) (4096 * l.from);
+  none : NoneInConflict l.snapshot.memory l.child.memory l.parent.memory (4096 * l.fn.range.first) (4096 * l.from);
 }
 
 abbrev pub decreases-loop-page : goal.decreases-loop-page
