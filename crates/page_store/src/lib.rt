@@ -128,14 +128,8 @@ impl PageRef {
         ensures err { OnErr result (self.new ≡ self.old) }
         ensures idle { is_own self.old ≡ true → IsOk result }
     {
-        match self {
-            PageRef::Own(page) => page.bytes[at as usize] = value,
-            PageRef::Shared(page) => {
-                let mut own = copy_of(page, alloc)?;
-                own.bytes[at as usize] = value;
-                *self = PageRef::Own(own);
-            }
-        }
+        self.own(alloc)?;
+        self.write_own_byte(at, value);
         Ok(())
     }
 
@@ -166,14 +160,8 @@ impl PageRef {
         ensures err { OnErr result (self.new ≡ self.old) }
         ensures idle { is_own self.old ≡ true → IsOk result }
     {
-        match self {
-            PageRef::Own(page) => write_number_in(&mut page.bytes, at as usize, width, value),
-            PageRef::Shared(page) => {
-                let mut own = copy_of(page, alloc)?;
-                write_number_in(&mut own.bytes, at as usize, width, value);
-                *self = PageRef::Own(own);
-            }
-        }
+        self.own(alloc)?;
+        self.write_own_number(at, width, value);
         Ok(())
     }
 
@@ -186,15 +174,52 @@ impl PageRef {
         ensures err { OnErr result (self.new ≡ self.old) }
         ensures idle { is_own self.old ≡ true → IsOk result }
     {
+        self.own(alloc)?;
+        self.write_own_bytes(at, bytes);
+        Ok(())
+    }
+
+    /// Makes the byte at `at`, below 4,096, of an own page `value`.
+    #[inline(always)]
+    pub fn write_own_byte(&mut self, at: u16, value: u8)
+        requires within { at < page_size }
+        requires own { is_own self.old ≡ true }
+        ensures bytes { bytes_of self.new ≡ slice_set (bytes_of self.old) at value }
+        ensures own { is_own self.new ≡ true }
+    {
+        match self {
+            PageRef::Own(page) => page.bytes[at as usize] = value,
+            PageRef::Shared(_) => {}
+        }
+    }
+
+    /// Writes the lowest `width` bytes of `value` at `at` of an own page. The place lies below 4,096 and is a multiple of the width;
+    /// the least byte comes first.
+    #[inline(always)]
+    pub fn write_own_number(&mut self, at: u16, width: Width, value: u32)
+        requires within { at < page_size }
+        requires aligned { at % width_bytes width ≡ 0 }
+        requires own { is_own self.old ≡ true }
+        ensures bytes { bytes_of self.new ≡ with_number_in (bytes_of self.old) at width value }
+        ensures own { is_own self.new ≡ true }
+    {
+        match self {
+            PageRef::Own(page) => write_number_in(&mut page.bytes, at as usize, width, value),
+            PageRef::Shared(_) => {}
+        }
+    }
+
+    /// Writes `bytes` from `at` of an own page on; they end within the page.
+    pub fn write_own_bytes(&mut self, at: u16, bytes: &[u8])
+        requires within { at + length bytes.now ≤ page_size }
+        requires own { is_own self.old ≡ true }
+        ensures bytes { bytes_of self.new ≡ overwritten (bytes_of self.old) at bytes.now }
+        ensures own { is_own self.new ≡ true }
+    {
         match self {
             PageRef::Own(page) => overwrite(&mut page.bytes, at as usize, bytes),
-            PageRef::Shared(page) => {
-                let mut own = copy_of(page, alloc)?;
-                overwrite(&mut own.bytes, at as usize, bytes);
-                *self = PageRef::Own(own);
-            }
+            PageRef::Shared(_) => {}
         }
-        Ok(())
     }
 
     /// Whether every byte is 0.

@@ -1,5 +1,5 @@
 -- What an edit of a page's bytes does to an ordered list.
-use Rattle.std.specs.Prelude.{◌≡◌, ℕ, ◌+◌, ◌-◌, ◌%◌, ◌<◌, ◌≤◌, List, ◌++◌, take, drop, length, slice_index, slice_set, Some, IsOk, OnOk, OnErr, true}
+use Rattle.std.specs.Prelude.{◌≡◌, ℕ, ◌+◌, ◌-◌, ◌%◌, ◌<◌, ◌≤◌, List, ◌++◌, take, drop, length, slice_index, slice_set, Option, Some, None, IsOk, OnOk, OnErr, true}
 use Rattle.std.proofs.Common.{Result, Ok, Err, refl, sym, ◌∙◌, ap, arith, get_or, set, subst, inl, inr}
 use Rattle.std.proofs.lemmas.List.{get_or-set_same, get_or-set_other, length-set, length-take-le, length-append, length-drop, get_or_append_left, get_or-append_right, get_or-take, get_or-drop}
 use Rattle.std.proofs.lemmas.Bool.{cases_eq, cases_lt, false≢true}
@@ -9,7 +9,7 @@ use Rattle.memory_model.specs.Memory.{width_bytes}
 use Rattle.page_store.specs.declared.PageRef.{PageRef}
 use Rattle.page_store.specs.Bytes.{bytes_of, is_own, IsPage, with_number_in, overwritten}
 use Rattle.space_mem.specs.declared.layout.Run.{Run}
-use Rattle.space_mem.specs.Runs.{run_of, byte_in, byte_of, is_own_in, IsRun, Ordered, IsEntry, HasOwnPage, OwnsToo, SamePages, SetsPage, IsEdited}
+use Rattle.space_mem.specs.Runs.{run_of, byte_in, byte_of, is_own_in, IsKept, IsRun, Ordered, IsEntry, HasOwnPage, OwnsToo, SamePages, SetsPage, IsEdited}
 use Rattle.space_mem.proofs.Places.{read_at}
 use Rattle.space_mem.proofs.Lookups.{run_of-read}
 use Rattle.space_mem.proofs.Sets.{ordered_set, sets_page, same_set}
@@ -33,13 +33,21 @@ page_number bytes k Two v page below aligned = page_set _ (k + 1) _ (page_set by
 page_number bytes k Four v page below aligned =
     page_set _ (k + 3) _ (page_set _ (k + 2) _ (page_set _ (k + 1) _ (page_set bytes k _ page below (omega arith)) (omega arith) (omega arith)) (omega arith) (omega arith)) (omega arith) (omega arith)
 
+-- the bytes that a page's run keeps
+pub kept_page : (o : Option PageRef) (n : ℕ) (p : PageRef) → IsKept o n → o ≡ Some p → IsPage (bytes_of p)
+kept_page None n p kept is = cc
+kept_page (Some q) n p kept is =
+    let same : q ≡ p = cc in subst (λ x. IsPage (bytes_of x)) same kept.1
+
 pub record IsEditedList (page : ℕ) (edit : List ℕ → List ℕ) (rs ss : List Run) : Type 0 where
   pub ordered : Ordered 0 1048576 ss
   pub edited : IsEdited page edit rs ss
 
-pub edited_list : (page : ℕ) (rs : List Run) (i : ℕ) (r : Run) (p q : PageRef) (edit : List ℕ → List ℕ) → is_own q ≡ true → Ordered 0 1048576 rs → IsEntry page rs i → r ≡ get_or rs i r → r.page ≡ Some p → IsPage (bytes_of p) → bytes_of q ≡ edit (bytes_of p) → IsPage (edit (bytes_of p)) → IsEditedList page edit rs (set rs i (record r { page = Some q }))
-edited_list page rs i r p q edit own o entry is has whole is_edit new =
+pub edited_list : (page : ℕ) (rs : List Run) (i : ℕ) (r : Run) (p q : PageRef) (edit : List ℕ → List ℕ) → is_own q ≡ true → Ordered 0 1048576 rs → IsEntry page rs i → r ≡ get_or rs i r → r.page ≡ Some p → bytes_of q ≡ edit (bytes_of p) → (IsPage (bytes_of p) → IsPage (edit (bytes_of p))) → IsEditedList page edit rs (set rs i (record r { page = Some q }))
+edited_list page rs i r p q edit own o entry is has is_edit edits =
     let run = (read_at 0 1048576 rs i r o entry.in_range is).run in
+    let whole = kept_page r.page r.count p run.kept has in
+    let new = edits whole in
     let first : r.first ≡ page = ap (λ x. x.first) is ∙ (entry.run r).0 in
     let count : r.count ≡ 1 = ap (λ x. x.count) is ∙ (entry.run r).1 in
     let good : IsRun (record r { page = Some q }) = record { some = run.some; permission = run.permission; kept = (count, subst IsPage (sym is_edit) new) } in

@@ -6,12 +6,13 @@ use Rattle.std.proofs.lemmas.List.{take_more, take_all}
 use Rattle.memory_model.specs.Ranges.{with_page, IsPageOf}
 use Rattle.memory_model.proofs.Rows.{value_at-row, value_at-row_before, value_at-row_after}
 use Rattle.page_store.specs.declared.PageRef.{PageRef}
-use Rattle.page_store.specs.Bytes.{bytes_of, IsPage}
+use Rattle.page_store.specs.Bytes.{bytes_of}
 use Rattle.space_mem.specs.declared.layout.Run.{Run}
-use Rattle.space_mem.specs.Runs.{end_of, covers, run_of, permission_of, byte_in, byte_of, is_own_in, is_owned_by, IsKept, memory_by, memory_of, IsRun, Ordered, SamePages, SetsPage, IsCopy, AreCopies, NoneOwned, IsFound}
+use Rattle.space_mem.specs.Runs.{end_of, covers, run_of, permission_of, byte_in, byte_of, is_own_in, is_owned_by, memory_by, memory_of, IsRun, Ordered, SamePages, SetsPage, IsCopy, AreCopies, NoneOwned, IsFound}
 use Rattle.space_mem.proofs.Places.{read_at}
 use Rattle.space_mem.proofs.Lookups.{run_of-here, run_of-before, run_of-after, cases_run}
 use Rattle.space_mem.proofs.Memories.{memory_same, edited_is, byte_at-page}
+use Rattle.space_mem.proofs.PageEdits.{kept_page}
 use Rattle.space_mem.proofs.Readings.{found_run}
 
 -- a page that was put
@@ -26,12 +27,6 @@ put page bytes rs ss ts o q same sets =
       permission = λ p. refl;
     })
     ∙ ap (λ m. with_page m page bytes) (memory_same ss rs same)
-
--- the bytes that a page's run keeps
-kept_page : (o : Option PageRef) (n : ℕ) (p : PageRef) → IsKept o n → o ≡ Some p → IsPage (bytes_of p)
-kept_page None n p kept is = cc
-kept_page (Some q) n p kept is =
-    let same : q ≡ p = cc in subst (λ x. IsPage (bytes_of x)) same kept.1
 
 pub page_of : (page : ℕ) (rs : List Run) (i : ℕ) (r : Run) (p : PageRef) → Ordered 0 1048576 rs → IsFound page rs i → r ≡ get_or rs i r → r.page ≡ Some p → IsPageOf (memory_of rs) page (bytes_of p)
 page_of page rs i r p o found is kept = record {

@@ -77,86 +77,52 @@ fn own_page(alloc: Global, kept: &Option<PageRef>) -> Result<PageRef, AllocError
 
 // Makes a byte of a page that is owned `value`.
 #[inline(always)]
-pub fn set_byte(
-    runs: &mut Vec<Run>,
-    at: usize,
-    page: u32,
-    place: u16,
-    value: u8,
-) -> Result<(), AllocError>
+pub fn set_byte(runs: &mut Vec<Run>, at: usize, page: u32, place: u16, value: u8)
     requires ordered { InOrder runs.old.items }
     requires entry { IsEntry page runs.old.items at }
     requires kept { HasOwnPage runs.old.items at }
     requires within { place < page_size }
     ensures ordered { InOrder runs.new.items }
-    ensures ok { OnOk result (IsEdited page (λ bytes. slice_set bytes place value) runs.old.items runs.new.items) }
-    ensures own { IsOk result }
+    ensures edited { IsEdited page (λ bytes. slice_set bytes place value) runs.old.items runs.new.items }
 {
-    let alloc = *runs.allocator();
     let run = &mut runs[at];
     match &mut run.page {
-        Some(bytes) => {
-            let _whole = bytes.bytes();
-            bytes.write_byte(alloc, place, value)
-        }
-        None => Ok(()),
+        Some(kept) => kept.write_own_byte(place, value),
+        None => {}
     }
 }
 
 // Writes the lowest `width` bytes of `value` at an aligned place of a page that is owned.
 #[inline(always)]
-pub fn set_number(
-    runs: &mut Vec<Run>,
-    at: usize,
-    page: u32,
-    place: u16,
-    width: Width,
-    value: u32,
-) -> Result<(), AllocError>
+pub fn set_number(runs: &mut Vec<Run>, at: usize, page: u32, place: u16, width: Width, value: u32)
     requires ordered { InOrder runs.old.items }
     requires entry { IsEntry page runs.old.items at }
     requires kept { HasOwnPage runs.old.items at }
     requires within { place < page_size }
     requires aligned { place % width_bytes width ≡ 0 }
     ensures ordered { InOrder runs.new.items }
-    ensures ok { OnOk result (IsEdited page (λ bytes. with_number_in bytes place width value) runs.old.items runs.new.items) }
-    ensures own { IsOk result }
+    ensures edited { IsEdited page (λ bytes. with_number_in bytes place width value) runs.old.items runs.new.items }
 {
-    let alloc = *runs.allocator();
     let run = &mut runs[at];
     match &mut run.page {
-        Some(bytes) => {
-            let _whole = bytes.bytes();
-            bytes.write_number(alloc, place, width, value)
-        }
-        None => Ok(()),
+        Some(kept) => kept.write_own_number(place, width, value),
+        None => {}
     }
 }
 
 // Writes bytes from a place of a page that is owned on; they end within the page.
-pub fn set_bytes(
-    runs: &mut Vec<Run>,
-    at: usize,
-    page: u32,
-    place: u16,
-    new: &[u8],
-) -> Result<(), AllocError>
+pub fn set_bytes(runs: &mut Vec<Run>, at: usize, page: u32, place: u16, new: &[u8])
     requires ordered { InOrder runs.old.items }
     requires entry { IsEntry page runs.old.items at }
     requires kept { HasOwnPage runs.old.items at }
     requires within { place + length new.now ≤ page_size }
     ensures ordered { InOrder runs.new.items }
-    ensures ok { OnOk result (IsEdited page (λ bytes. overwritten bytes place new.now) runs.old.items runs.new.items) }
-    ensures own { IsOk result }
+    ensures edited { IsEdited page (λ bytes. overwritten bytes place new.now) runs.old.items runs.new.items }
 {
-    let alloc = *runs.allocator();
     let run = &mut runs[at];
     match &mut run.page {
-        Some(bytes) => {
-            let _whole = bytes.bytes();
-            bytes.write_bytes(alloc, place, new)
-        }
-        None => Ok(()),
+        Some(kept) => kept.write_own_bytes(place, new),
+        None => {}
     }
 }
 

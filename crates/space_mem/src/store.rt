@@ -33,7 +33,7 @@ pub fn store(
 {
     let asked = guesses.of(at / PAGE_SIZE);
     if asked < runs.len() && keeps(runs, asked, at / PAGE_SIZE) {
-        return set_number(
+        set_number(
             runs,
             asked,
             at / PAGE_SIZE,
@@ -41,6 +41,7 @@ pub fn store(
             width,
             value,
         );
+        return Ok(());
     }
     store_slow(runs, guesses, at, width, value)
 }
@@ -74,7 +75,8 @@ fn store_slow(
     let page = at / PAGE_SIZE;
     let place = page_at(runs, page)?;
     guesses.remember(at / PAGE_SIZE, place);
-    set_number(runs, place, page, (at % PAGE_SIZE) as u16, width, value)
+    set_number(runs, place, page, (at % PAGE_SIZE) as u16, width, value);
+    Ok(())
 }
 
 // Stores at an aligned address whose page may be written, and tells whether it may be. A guess at its run is tried first.
@@ -108,7 +110,7 @@ pub fn try_store(
             (at % PAGE_SIZE) as u16,
             width,
             value,
-        )?;
+        );
         return Ok(true);
     }
     try_store_slow(runs, guesses, at, width, value)
@@ -148,7 +150,8 @@ pub fn write(runs: &mut Vec<Run>, at: u32, value: u8) -> Result<(), AllocError>
 {
     let page = at / PAGE_SIZE;
     let place = page_at(runs, page)?;
-    set_byte(runs, place, page, (at % PAGE_SIZE) as u16, value)
+    set_byte(runs, place, page, (at % PAGE_SIZE) as u16, value);
+    Ok(())
 }
 
 // Writes bytes from an address on. Where they pass the end of a page, each page is owned before any is written.
@@ -206,7 +209,8 @@ fn write_in_page(runs: &mut Vec<Run>, at: u32, bytes: &[u8]) -> Result<(), Alloc
 {
     let page = at / PAGE_SIZE;
     let place = page_at(runs, page)?;
-    set_bytes(runs, place, page, (at % PAGE_SIZE) as u16, bytes)
+    set_bytes(runs, place, page, (at % PAGE_SIZE) as u16, bytes);
+    Ok(())
 }
 
 // Puts a page's bytes in the place of those of `page`. A shared page is copied.

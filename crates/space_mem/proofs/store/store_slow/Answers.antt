@@ -1,13 +1,12 @@
 use Rattle.std.proofs.lemmas.Bool.{false≢true}
-use Rattle.space_mem.proofs.PageEdits.{always, at_error, promised}
+use Rattle.space_mem.proofs.PageEdits.{at_error}
 use Rattle.space_mem.proofs.Owned.{held_same, owns_kept, owns_twice, stored_number}
 use Rattle.space_mem.proofs.store.store_slow.Goals as goal
 
 pub returns-clause-ok : goal.returns-clause-ok
 returns-clause-ok c =
-    let edited = promised c.set_number.result _ c.set_number.ensures.own c.set_number.ensures.ok in
+    let edited = c.set_number.ensures.edited in
     let page = c.in_ok-place.ensures in
-    always c.set_number.result _
     (stored_number c.args.runs.now.items _ _ c.args.at c.args.width c.args.value c.requires.ordered page.ordered c.set_number.ensures.ordered c.requires.aligned page.same (owns_twice _ _ _ _ page.more edited.sets.owned) edited)
 
 pub returns-in_err-place-clause-err : goal.returns-in_err-place-clause-err

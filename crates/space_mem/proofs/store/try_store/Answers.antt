@@ -1,7 +1,6 @@
 use Rattle.std.proofs.Common.{◌∙◌, ◌/◌, eq-eqb, ne_eqb, refl, subst, sym}
 use Rattle.space_mem.specs.Runs.{IsEntry}
 use Rattle.space_mem.proofs.Lookups.{same_refl}
-use Rattle.space_mem.proofs.PageEdits.{promised}
 use Rattle.space_mem.proofs.Readings.{entry_writes}
 use Rattle.space_mem.proofs.Owned.{stored_number}
 use Rattle.space_mem.proofs.store.try_store.Goals as goal
@@ -18,5 +17,5 @@ returns-then-keeps-clause-allowed c =
 
 pub returns-then-keeps-clause-ok : goal.returns-then-keeps-clause-ok
 returns-then-keeps-clause-ok c =
-    let edited = promised c.set_number.result _ c.set_number.ensures.own c.set_number.ensures.ok in
+    let edited = c.set_number.ensures.edited in
     stored_number c.args.runs.now.items _ _ c.args.at c.args.width c.args.value c.requires.ordered c.requires.ordered c.set_number.ensures.ordered c.requires.aligned (same_refl c.args.runs.now.items) edited.sets.owned edited
