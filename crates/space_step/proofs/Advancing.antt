@@ -1,6 +1,7 @@
 -- Local events some at a time.
-use Rattle.std.proofs.Common.{◌≡◌, ℕ, zero, suc, ◌+◌, ◌-◌, ◌≤◌, ◌<◌, Option, Some, None, refl, sym, subst, arith}
+use Rattle.std.proofs.Common.{◌≡◌, ℕ, zero, suc, false, ◌+◌, ◌-◌, ◌≤◌, ◌<◌, Option, Some, None, refl, sym, subst, arith}
 use Rattle.std.specs.Option.{ok_or}
+use Rattle.std.specs.Prelude.{is_some}
 use Rattle.std.specs.declared.alloc.AllocError.{AllocError}
 use Rattle.space_model.specs.Space.{Top}
 use Rattle.space_model.specs.Change.{after_payment}
@@ -9,7 +10,7 @@ use Rattle.space_step.specs.declared.event.Next.{Next}
 use Rattle.space_step.specs.declared.event.Next.TheVariants.{Local, Meet, Stopped}
 use Rattle.space_step.specs.declared.event.Advance.{Advance}
 use Rattle.space_step.specs.declared.running.Progress.TheVariants.{Went, Blocked}
-use Rattle.space_step.specs.Steps.{Steps}
+use Rattle.space_step.specs.Steps.{IsNextLocal, Steps}
 use Rattle.space_step.specs.Running.{IsBlocked, Ended, Advances, Goes}
 use Rattle.space_step.proofs.Following.{follows_more, follows_one}
 
@@ -21,6 +22,10 @@ one_goes levels quantum t u h e = (follows_one levels t u e, h, omega arith)
 
 pub one_more_goes : (levels n quantum : ℕ) (t u v : Top) → Follows levels n t u → n < quantum → next levels u ≡ moves v → Goes levels quantum (Went (n + 1)) t v
 one_more_goes levels n quantum t u v f h e = (follows_more levels n t u v f e, omega arith, omega arith)
+
+-- there was no memory for the event that is next
+pub wanting_is_blocked : (levels n quantum : ℕ) (t u v : Top) → Follows levels n t u → n < quantum → IsNextLocal levels u → v ≡ u → Goes levels quantum (Blocked n None) t v
+wanting_is_blocked levels n quantum t u v f h local same = (subst (Follows levels n t) (sym same) f, h, subst (IsNextLocal levels) (sym same) local)
 
 -- what blocks a space in the rest of a quantum blocks it in the whole
 pub blocked_ends : (levels quantum ran n : ℕ) (o : Option Next) (t : Top) → n < quantum - ran → IsBlocked levels o t → Ended levels quantum (ran + n) o t
@@ -51,10 +56,18 @@ one_followed levels (suc zero) t u h f = rw f.2 f.1
 one_followed levels (suc (suc n)) t u h f = absurd (omega arith)
 
 one_event : (levels n : ℕ) (o : Option Next) (e : AllocError) (t u : Top) → Follows levels n t u → Ended levels 1 n o u → Steps levels (ok_or o e) t u
-one_event levels n None e t u f h = none_followed levels n t u h.0 f
+one_event levels n None e t u f h = let same : u ≡ t = none_followed levels n t u h.0 f in (subst (IsNextLocal levels) same h.1, same)
 one_event levels n (Some Local) e t u f h = one_followed levels n t u h f
 one_event levels n (Some (Meet k)) e t u f h = let same : u ≡ t = none_followed levels n t u h.0 f in (subst (λ (v : Top). next levels v ≡ meets k (after_payment v v)) same h.1, same)
 one_event levels n (Some Stopped) e t u f h = let same : u ≡ t = none_followed levels n t u h.0 f in (subst (λ (v : Top). next levels v ≡ rests) same h.1, same)
+
+first_wanted : (levels quantum n : ℕ) (o : Option Next) (t u : Top) → Follows levels n t u → Ended levels quantum n o u → n ≡ 0 → is_some o ≡ false → IsNextLocal levels t
+first_wanted levels quantum n None t u f h first none = subst (IsNextLocal levels) (none_followed levels n t u (omega arith) f) h.1
+first_wanted levels quantum n (Some a) t u f h first none = cc
+
+-- where there was no memory for the first event, it is a local one
+pub first_is_local : (levels quantum : ℕ) (a : Advance) (t u : Top) → Advances levels quantum a t u → a.ran ≡ 0 → is_some a.next ≡ false → IsNextLocal levels t
+first_is_local levels quantum a t u h first none = first_wanted levels quantum a.ran a.next t u h.follows h.ended first none
 
 -- a quantum of one event
 pub one_event_steps : (levels : ℕ) (a : Advance) (e : AllocError) (t u : Top) → Advances levels 1 a t u → Steps levels (ok_or a.next e) t u

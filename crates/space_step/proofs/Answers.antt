@@ -10,8 +10,8 @@ use Rattle.space_model.specs.Change.{after_payment}
 use Rattle.space_model.specs.Event.{Effect, becomes, asks, charge, with_devices, output, console_out, effect_of, by_reading, call, after_outcome, instruction, MayPay}
 use Rattle.space_step.specs.declared.event.Next.{Next}
 use Rattle.space_step.specs.declared.event.Next.TheVariants as answers
-use Rattle.space_step.specs.Steps.{IsNext, IsLocal, IsAnswer}
-use Rattle.space_step.specs.Stretch.{is_call}
+use Rattle.space_step.specs.Steps.{IsNextLocal, IsNext, IsLocal, IsAnswer}
+use Rattle.space_step.specs.Stretch.{is_call, is_store}
 use Rattle.space_step.proofs.Events.{next_pays}
 
 no_call_is_local : (levels : ℕ) (t : Top) (o : Outcome) → is_call o ≡ false → IsLocal (after_outcome levels t o)
@@ -19,6 +19,12 @@ no_call_is_local levels t (goes r) h = tt
 no_call_is_local levels t (stores r at width value) h = tt
 no_call_is_local levels t calls h = cc
 no_call_is_local levels t (traps number value) h = tt
+
+store_is_local : (levels : ℕ) (t : Top) (o : Outcome) → is_store o ≡ true → IsLocal (after_outcome levels t o)
+store_is_local levels t (goes r) h = tt
+store_is_local levels t (stores r at width value) h = tt
+store_is_local levels t calls h = cc
+store_is_local levels t (traps number value) h = tt
 
 output_is_local : (t : Top) (d : Devices) (addr len : ℕ) (o : Option ℕ) → IsLocal (output t d addr len o)
 output_is_local t d addr len (Some a) = tt
@@ -41,6 +47,10 @@ pub next_is_effect : (levels : ℕ) (t : Top) (a : Next) → MayPay t → IsAnsw
 next_is_effect levels t answers.Local may e = local_is_next levels t _ may refl e
 next_is_effect levels t (answers.Meet k) may e = next_pays levels t may ∙ ap (charge t) e
 next_is_effect levels t answers.Stopped may e = absurd e
+
+-- a store is a local event
+pub store_is_next : (levels : ℕ) (t : Top) → MayPay t → is_store (outcome (view_of t.memory) t.registers) ≡ true → IsNextLocal levels t
+store_is_next levels t may h = next_is_effect levels t answers.Local may (store_is_local levels t _ h)
 
 pub no_call_is_next : (levels : ℕ) (t : Top) → MayPay t → is_call (outcome (view_of t.memory) t.registers) ≡ false → IsNext levels answers.Local t
 no_call_is_next levels t may h = next_is_effect levels t answers.Local may (no_call_is_local levels t _ h)

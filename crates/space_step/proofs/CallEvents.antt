@@ -1,5 +1,7 @@
 -- What is next of a space at whose pc an ECALL stands, by what it does.
 use Rattle.std.proofs.Common.{◌≡◌, ℕ, ◌-◌, ◌≤◌, Ok, refl, sym, ap, ◌∙◌, arith}
+use Rattle.std.specs.Prelude.{Result, Err, IsErr}
+use Rattle.std.specs.declared.alloc.AllocError.{AllocError}
 use Rattle.instruction_model.specs.Outcome.{calls, view_of, outcome}
 use Rattle.call_model.specs.Reading.{read}
 use Rattle.space_model.specs.Sound.{has_devices}
@@ -8,7 +10,9 @@ use Rattle.space_model.specs.Change.{after_spending, after_payment}
 use Rattle.space_model.specs.Event.{moves, charge, by_reading, after_outcome, next, MayPay}
 use Rattle.space_step.specs.declared.event.Next.{Next}
 use Rattle.space_step.specs.declared.event.Next.TheVariants as answers
-use Rattle.space_step.specs.Steps.{PaysNothing, Acts, Answers}
+use Rattle.space_step.specs.Steps.{IsLocal, PaysNothing, Acts, Answers, Steps}
+use Rattle.space_step.specs.Stretch.{is_call}
+use Rattle.space_step.proofs.Answers.{call_is_next}
 use Rattle.space_step.proofs.Events.{next_pays}
 
 -- the effect of the call is next
@@ -29,6 +33,12 @@ pub call_happens : (depth : ℕ) (t u : Top) → MayPay t → depth ≤ 8 → ou
     → Acts (by_reading t (read t.registers.x (has_devices t.devices) depth)) (Ok answers.Local) t u → next (8 - depth) t ≡ moves (after_spending 1 u u)
 call_happens depth t u may low is h =
     next_of_call (8 - depth) depth t may (omega arith) is ∙ ap (charge t) h.0 ∙ ap moves (sym (paid_afterwards t u h.1))
+
+-- a call for which there was no memory is a local event
+pub call_fails : (depth : ℕ) (t u : Top) (r : Result Next AllocError) → MayPay t → depth ≤ 8 → outcome (view_of t.memory) t.registers ≡ calls
+    → IsErr r → IsLocal (by_reading t (read t.registers.x (has_devices t.devices) depth)) → u ≡ t → Steps (8 - depth) r t u
+call_fails depth t u (Ok a) may low is failed local same = cc
+call_fails depth t u (Err e) may low is failed local same = (call_is_next (8 - depth) depth t answers.Local may (omega arith) (ap is_call is) local, same)
 
 pub call_waits : (depth : ℕ) (t u : Top) (a : Next) → MayPay t → depth ≤ 8 → outcome (view_of t.memory) t.registers ≡ calls
     → (a ≡ answers.Local → ⊥) → Acts (by_reading t (read t.registers.x (has_devices t.devices) depth)) (Ok a) t u → Answers (8 - depth) a t u

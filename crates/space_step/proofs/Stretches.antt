@@ -1,19 +1,27 @@
 -- A stretch of instructions, one instruction after another.
-use Rattle.std.proofs.Common.{ℕ, zero, suc, ◌+◌, ◌-◌, ◌≤◌, Bool, Ok, add-one, arith}
+use Rattle.std.proofs.Common.{◌≡◌, ℕ, zero, suc, ◌+◌, ◌-◌, ◌≤◌, Bool, true, Ok, Err, refl, add-one, arith}
 use Rattle.std.proofs.Math.Nat.{add-suc, add-zero}
+use Rattle.std.specs.declared.alloc.AllocError.{AllocError}
 use Rattle.memory_model.specs.Memory.{Memory, with_number}
 use Rattle.instruction_model.specs.Outcome.{Registers, Outcome, goes, stores, calls, traps, view_of, outcome}
 use Rattle.rv_exec.specs.declared.stepping.Stepped.TheVariants.{Next}
 use Rattle.rv_exec.specs.Steps.{Steps}
 use Rattle.space_step.specs.declared.stretch.End.{End}
 use Rattle.space_step.specs.declared.stretch.End.TheVariants as ends
-use Rattle.space_step.specs.Stretch.{IsDone, Executes, Ends}
+use Rattle.space_step.specs.Stretch.{is_store, IsDone, Executes, Ends}
 
 step_is_done : (takes : Bool) (o : Outcome) (r s : Registers) (m n : Memory) → Steps with_number takes o (Ok Next) r m s n → IsDone o m s n
 step_is_done takes (goes t) r s m n h = h
 step_is_done takes (stores t at width value) r s m n h = h
 step_is_done takes calls r s m n h = absurd h
 step_is_done takes (traps number value) r s m n h = absurd h
+
+-- an instruction for which there was no memory is a store
+pub wants_memory : (takes : Bool) (o : Outcome) (e : AllocError) (r s : Registers) (m n : Memory) → Steps with_number takes o (Err e) r m s n → is_store o ≡ true
+wants_memory takes (goes t) e r s m n h = absurd h
+wants_memory takes (stores t at width value) e r s m n h = refl
+wants_memory takes calls e r s m n h = absurd h
+wants_memory takes (traps number value) e r s m n h = absurd h
 
 pub executes_more : (count : ℕ) (r q s : Registers) (m k n : Memory) (takes : Bool) → Executes count r m q k
     → Steps with_number takes (outcome (view_of k) q) (Ok Next) q k s n → Executes (count + 1) r m s n
@@ -27,4 +35,4 @@ pub ends_on : (a b budget : ℕ) (e : End) (o : Outcome) → a ≤ budget → En
 ends_on a b budget ends.Budget o h f = omega (arith, h, f)
 ends_on a b budget ends.Call o h f = (omega (arith, h, f.0), f.1)
 ends_on a b budget (ends.Trap number value) o h f = (omega (arith, h, f.0), f.1)
-ends_on a b budget ends.Memory o h f = omega (arith, h, f)
+ends_on a b budget ends.Memory o h f = (omega (arith, h, f.0), f.1)

@@ -9,10 +9,11 @@ use Rattle.space_step.specs.declared.event.Next.TheVariants.{Local, Meet, Stoppe
 use Rattle.space_step.specs.declared.event.Advance.{Advance}
 use Rattle.space_step.specs.declared.running.Progress.{Progress}
 use Rattle.space_step.specs.declared.running.Progress.TheVariants.{Went, Blocked}
+use Rattle.space_step.specs.Steps.{IsNextLocal}
 
--- what is next is no local event, and this; or there was no memory for it
+-- what is next is no local event, and this; or a local event, for which there was no memory
 abbrev pub IsBlocked : ℕ → Option Next → Top → Type 0
-IsBlocked levels None t = Unit {0}
+IsBlocked levels None t = IsNextLocal levels t
 IsBlocked levels (Some Local) t = ⊥
 IsBlocked levels (Some (Meet k)) t = next levels t ≡ meets k (after_payment t t)
 IsBlocked levels (Some Stopped) t = next levels t ≡ rests

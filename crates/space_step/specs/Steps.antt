@@ -8,9 +8,13 @@ use Rattle.space_model.specs.Space.{Top}
 use Rattle.space_model.specs.Change.{after_payment}
 use Rattle.space_model.specs.Event as event
 
+-- a local event is next
+abbrev pub IsNextLocal : ℕ → Top → Type 0
+IsNextLocal levels t = (u : Top) × (event.next levels t ≡ event.moves u)
+
 -- a local event, a call that meets a child, or nothing
 abbrev pub IsNext : ℕ → Next → Top → Type 0
-IsNext levels answers.Local t = (u : Top) × (event.next levels t ≡ event.moves u)
+IsNext levels answers.Local t = IsNextLocal levels t
 IsNext levels (answers.Meet k) t = event.next levels t ≡ event.meets k (after_payment t t)
 IsNext levels answers.Stopped t = event.next levels t ≡ event.rests
 
@@ -20,10 +24,10 @@ Answers levels answers.Local old new = event.next levels old ≡ event.moves new
 Answers levels (answers.Meet k) old new = (event.next levels old ≡ event.meets k (after_payment old old)) × (new ≡ old)
 Answers levels answers.Stopped old new = (event.next levels old ≡ event.rests) × (new ≡ old)
 
--- and where memory ran out, nothing
+-- and where memory ran out, a local event is next, and nothing has changed
 abbrev pub Steps : ℕ → Result Next AllocError → Top → Top → Type 0
 Steps levels (Ok n) old new = Answers levels n old new
-Steps levels (Err e) old new = new ≡ old
+Steps levels (Err e) old new = IsNextLocal levels old × (new ≡ old)
 
 -- an effect that meets no child
 abbrev pub IsLocal : event.Effect → Type 0
@@ -47,7 +51,7 @@ abbrev pub Acts : event.Effect → Result Next AllocError → Top → Top → Ty
 Acts effect (Ok answers.Local) old new = (effect ≡ event.becomes new) × PaysNothing old new
 Acts effect (Ok (answers.Meet k)) old new = (effect ≡ event.asks k) × (new ≡ old)
 Acts effect (Ok answers.Stopped) old new = ⊥
-Acts effect (Err e) old new = new ≡ old
+Acts effect (Err e) old new = IsLocal effect × (new ≡ old)
 
 -- the same of an effect that meets no child
 abbrev pub Does : event.Effect → Result (Unit {0}) AllocError → Top → Top → Type 0

@@ -15,6 +15,12 @@ is_call (stores r at width value) = false
 is_call calls = true
 is_call (traps number value) = false
 
+abbrev pub is_store : Outcome → Bool
+is_store (goes r) = false
+is_store (stores r at width value) = true
+is_store calls = false
+is_store (traps number value) = false
+
 -- an instruction has this outcome: registers and memory before and after it
 abbrev pub IsDone : Outcome → Memory → Registers → Memory → Type 0
 IsDone (goes r) m s n = (s ≡ r) × (n ≡ m)
@@ -32,7 +38,7 @@ abbrev pub Ends : End → ℕ → ℕ → Outcome → Type 0
 Ends ends.Budget count budget o = count ≡ budget
 Ends ends.Call count budget o = (count < budget) × (o ≡ calls)
 Ends (ends.Trap number value) count budget o = (count < budget) × (o ≡ traps number value)
-Ends ends.Memory count budget o = count < budget
+Ends ends.Memory count budget o = (count < budget) × (is_store o ≡ true)
 
 abbrev pub within_limit : Option ℕ → ℕ → ℕ
 within_limit None n = n

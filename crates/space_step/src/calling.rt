@@ -45,6 +45,7 @@ fn console_out(top: &mut Top, addr: u32, len: u32) -> Result<(), AllocError>
 }
 
 // What a call does, but for what it costs. A call that meets children is left to do.
+#[tactic(auto, using(crate::proofs::Answers::console_is_local))]
 fn act(top: &mut Top, accepted: AcceptedCall) -> Result<Next, AllocError>
     ensures { Acts (event.effect_of top.old accepted) result top.old top.new }
 {
@@ -75,7 +76,7 @@ fn act_as_read(top: &mut Top, reading: Result<AcceptedCall, Badcall>) -> Result<
 /// The ECALL at pc of a space that may pay for it, at a depth of at most 8: a local event, which is done and paid for, or a
 /// call that meets a child, which is left to do.
 #[inline(never)]
-#[tactic(auto, using(crate::proofs::CallEvents::call_happens, crate::proofs::CallEvents::call_waits))]
+#[tactic(auto, using(crate::proofs::CallEvents::call_happens, crate::proofs::CallEvents::call_waits, crate::proofs::CallEvents::call_fails))]
 pub(crate) fn call(top: &mut Top, depth: u8) -> Result<Next, AllocError>
     requires depth { depth ≤ 8 }
     requires may_pay { MayPay top.old }

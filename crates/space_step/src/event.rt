@@ -17,6 +17,6 @@ pub struct Advance {
     /// How many local events there were.
     pub ran: u32,
     /// What is next: `Local` where there were as many events as there might be, and nothing is said of the next one. None where
-    /// there was no memory for it.
+    /// it is a local event for which there was no memory.
     pub next: Option<Next>,
 }

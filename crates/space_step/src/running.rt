@@ -4,7 +4,7 @@ ghost use Rattle.space_model.specs.Event.{next, moves, Follows, MayPay};
 ghost use Rattle.space_model.specs.Sound.{IsSoundTop};
 ghost use Rattle.space_step.specs.Stretch.{Ends, Pays};
 ghost use Rattle.space_step.specs.Running.{Advances, Goes};
-ghost use Rattle.space_step.specs.Steps.{Steps};
+ghost use Rattle.space_step.specs.Steps.{Steps, IsNextLocal};
 
 use crate::calling::call;
 use crate::event::{Advance, Next};
@@ -20,7 +20,7 @@ use trap_ret::cause_of;
 pub(crate) enum Progress {
     /// At least one; what is next is not known.
     Went(u32),
-    /// Any number, and what is next, which is no local event; none where there was no memory for it.
+    /// Any number, and what is next, which is no local event; none where it is one, for which there was no memory.
     Blocked(u32, Option<Next>),
 }
 
@@ -62,7 +62,8 @@ fn run_stretch(top: &mut Top, depth: u8, budget: u32) -> Progress
         End::Budget => Progress::Went(count),
         End::Call => match call(top, depth) {
             Ok(Next::Local) => Progress::Went(count + 1),
-            other => Progress::Blocked(count, other.ok()),
+            Ok(next) => Progress::Blocked(count, Some(next)),
+            Err(_) => Progress::Blocked(count, None),
         },
         End::Trap { number, value } => {
             trap(top, number, value);
@@ -113,14 +114,15 @@ fn go_on(top: &mut Top, depth: u8, quantum: u32) -> Advance
 }
 
 /// Local events of a space at a depth of at most 8: as many as the quantum, which is at least 1, and fewer only where what is
-/// next is no local event, or where there was no memory for it. Its one error is want of memory for the first event, and then
-/// nothing has changed.
+/// next is no local event, or a local event for which there was no memory. Its one error is want of memory for the first event,
+/// a local one, and then nothing has changed.
 pub fn advance(top: &mut Top, depth: u8, quantum: u32) -> Result<Advance, AllocError>
     requires depth { depth ≤ 8 }
     requires quantum { 1 ≤ quantum }
     ensures ok { IfOk result (λ a. Advances (8 - depth) quantum a top.old top.new) }
     ensures some { IfOk result (λ a. a.next ≡ None → 1 ≤ a.ran) }
     ensures err { OnErr result (top.new ≡ top.old) }
+    ensures local { OnErr result (IsNextLocal (8 - depth) top.old) }
     ensures sound { (fuel : ℕ) (root : Bool) → IsSoundTop fuel root top.old → IsSoundTop fuel root top.new }
 {
     let advance = go_on(top, depth, quantum);
@@ -131,7 +133,7 @@ pub fn advance(top: &mut Top, depth: u8, quantum: u32) -> Result<Advance, AllocE
 }
 
 /// The next event of a space at a depth of at most 8: a local event, which has happened, or a call that meets a child or
-/// nothing, and then nothing has changed. Where memory ran out nothing has changed.
+/// nothing, and then nothing has changed. Its one error is want of memory for a local event, and then nothing has changed.
 pub fn next(top: &mut Top, depth: u8) -> Result<Next, AllocError>
     requires { depth ≤ 8 }
     ensures steps { Steps (8 - depth) result top.old top.new }

@@ -33,6 +33,7 @@ const UNCACHED: u32 = 1000;
 
 // Executes instructions from a source, at most as many as the budget, up to a call or a trap.
 #[inline(never)]
+#[tactic(auto, using(crate::proofs::Stretches::wants_memory))]
 fn execute_from<S: Source>(
     source: &mut S,
     registers: &mut Regs,
