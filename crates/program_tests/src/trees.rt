@@ -15,7 +15,7 @@ fn image_of(alloc: Global, source: &str) -> Result<Vec<u8>, Fail> {
 }
 
 // Runs a source, which writes nothing to its console, and asserts the status and the report.
-fn one_of_sources<R: AllocGlobal + Abort>(
+pub fn one_of_sources<R: AllocGlobal + Abort>(
     rt: &R,
     words: &str,
     source: &str,
