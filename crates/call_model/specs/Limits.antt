@@ -1,6 +1,6 @@
 -- The numbers that bound what a call may name.
 -- Our choice: the numbers.
-use Rattle.std.specs.Prelude.{ℕ, ◌+◌, ◌<◌}
+use Rattle.std.specs.Prelude.{ℕ, ◌+◌, ◌-◌, ◌<◌}
 
 -- the greatest number of a child
 abbrev pub greatest_child : ℕ
@@ -14,10 +14,18 @@ IsChild n = n < greatest_child + 1
 abbrev pub greatest_depth : ℕ
 greatest_depth = 8
 
+-- how many levels of children a space at this depth may have below it
+abbrev pub levels_below : ℕ → ℕ
+levels_below depth = greatest_depth - depth
+
 -- the greatest length, in bytes, that a call of a device names
 abbrev pub greatest_length : ℕ
 greatest_length = 65536
 
--- the last address from which on there are the 136 bytes of a register block
+-- the bytes of a register block
+abbrev pub block_size : ℕ
+block_size = 136
+
+-- the last address from which on there are the bytes of a register block
 abbrev pub last_block : ℕ
 last_block = 0xFFFFFF78

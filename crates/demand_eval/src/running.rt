@@ -1,4 +1,5 @@
 ghost use Rattle.std.specs.Prelude.{◌≡◌, ◌≤◌, ◌-◌, map, pred, true, OnOk, IfOk};
+ghost use Rattle.call_model.specs.Limits.{greatest_depth, levels_below};
 ghost use Rattle.space_model.specs.Space.{over, top_of, is_settled};
 ghost use Rattle.space_model.specs.Sound.{IsSound};
 ghost use Rattle.space_model.specs.Change.{after_payment};
@@ -26,9 +27,9 @@ fn wait_for_child(
     reach: Reach,
     depth: u8,
 ) -> Result<(), AllocError>
-    requires depth { depth ≤ 8 }
-    requires sound { IsSoundBelow (8 - depth) space.old }
-    ensures { OnOk result (space.new ≡ under (over number (end_of (pred (8 - depth)) reach)) space.old) }
+    requires depth { depth ≤ greatest_depth }
+    requires sound { IsSoundBelow (levels_below depth) space.old }
+    ensures { OnOk result (space.new ≡ under (over number (end_of (pred (levels_below depth)) reach)) space.old) }
 {
     match space.children.get_mut(&number) {
         Some(child) => finish(alloc, child, reach, depth + 1),
@@ -39,9 +40,9 @@ fn wait_for_child(
 // What a call waits for is ready: each child that it names, one after the other, has run until it stopped, or settled.
 #[cycle(settle)]
 fn wait_for(alloc: Global, call: Call, space: &mut Space, depth: u8) -> Result<(), AllocError>
-    requires depth { depth ≤ 8 }
-    requires sound { IsSoundBelow (8 - depth) space.old }
-    ensures { OnOk result (space.new ≡ with_awaited (8 - depth) call space.old) }
+    requires depth { depth ≤ greatest_depth }
+    requires sound { IsSoundBelow (levels_below depth) space.old }
+    ensures { OnOk result (space.new ≡ with_awaited (levels_below depth) call space.old) }
 {
     let all = awaits(call);
     for awaited in all.as_slice() {
@@ -53,10 +54,10 @@ fn wait_for(alloc: Global, call: Call, space: &mut Space, depth: u8) -> Result<(
 // The call that is next, once what it waits for is ready.
 #[cycle(settle)]
 fn meet(alloc: Global, call: AcceptedCall, space: &mut Space, depth: u8) -> Result<(), AllocError>
-    requires depth { depth ≤ 8 }
-    requires sound { IsSoundBelow (8 - depth) space.old }
-    requires next { event.next (8 - depth) (top_of space.old) ≡ event.meets call (after_payment (top_of space.old) (top_of space.old)) }
-    ensures { OnOk result (GoesOn (8 - depth) space.old space.new) }
+    requires depth { depth ≤ greatest_depth }
+    requires sound { IsSoundBelow (levels_below depth) space.old }
+    requires next { event.next (levels_below depth) (top_of space.old) ≡ event.meets call (after_payment (top_of space.old) (top_of space.old)) }
+    ensures { OnOk result (GoesOn (levels_below depth) space.old space.new) }
 {
     wait_for(alloc, call.call(), space, depth)?;
     user_runtime::meet(alloc, call, depth, space)
@@ -65,9 +66,9 @@ fn meet(alloc: Global, call: AcceptedCall, space: &mut Space, depth: u8) -> Resu
 // Local events, and then the call that is next, if there is one. It says whether the space has stopped.
 #[cycle(settle)]
 fn turn(alloc: Global, space: &mut Space, depth: u8) -> Result<bool, AllocError>
-    requires depth { depth ≤ 8 }
-    requires sound { IsSoundBelow (8 - depth) space.old }
-    ensures { IfOk result (λ stopped. Turned (8 - depth) stopped space.old space.new) }
+    requires depth { depth ≤ greatest_depth }
+    requires sound { IsSoundBelow (levels_below depth) space.old }
+    ensures { IfOk result (λ stopped. Turned (levels_below depth) stopped space.old space.new) }
 {
     let reached = advance(&mut space.top, depth, STRETCH)?;
     match reached.next.ok_or(AllocError)? {
@@ -83,9 +84,9 @@ fn turn(alloc: Global, space: &mut Space, depth: u8) -> Result<bool, AllocError>
 // A space at a depth of at most 8 runs until it stops. At an error it is somewhere on its way.
 #[cycle(settle)]
 fn run(alloc: Global, space: &mut Space, depth: u8) -> Result<(), AllocError>
-    requires depth { depth ≤ 8 }
-    requires sound { IsSoundBelow (8 - depth) space.old }
-    ensures { OnOk result (space.new ≡ run (8 - depth) space.old) }
+    requires depth { depth ≤ greatest_depth }
+    requires sound { IsSoundBelow (levels_below depth) space.old }
+    ensures { OnOk result (space.new ≡ run (levels_below depth) space.old) }
 {
     'turns: loop {
         let stopped = turn(alloc, space, depth)?;
@@ -105,9 +106,9 @@ fn numbers(alloc: Global, children: &BTreeMap<u16, Space>) -> Result<Vec<u16>, A
 // Every child settles, in the order of their numbers.
 #[cycle(settle)]
 fn settle_children(alloc: Global, space: &mut Space, depth: u8) -> Result<(), AllocError>
-    requires depth { depth ≤ 8 }
-    requires sound { IsSoundBelow (8 - depth) space.old }
-    ensures { OnOk result (space.new ≡ with_everyone (8 - depth) space.old) }
+    requires depth { depth ≤ greatest_depth }
+    requires sound { IsSoundBelow (levels_below depth) space.old }
+    ensures { OnOk result (space.new ≡ with_everyone (levels_below depth) space.old) }
 {
     let numbers = numbers(alloc, &space.children)?;
     for number in &numbers {
@@ -119,9 +120,9 @@ fn settle_children(alloc: Global, space: &mut Space, depth: u8) -> Result<(), Al
 // A space at a depth of at most 8 runs until it stops; waited for whole, each of its children settles then.
 #[cycle(settle)]
 fn finish(alloc: Global, space: &mut Space, reach: Reach, depth: u8) -> Result<(), AllocError>
-    requires depth { depth ≤ 8 }
-    requires sound { IsSoundBelow (8 - depth) space.old }
-    ensures { OnOk result (space.new ≡ end_of (8 - depth) reach space.old) }
+    requires depth { depth ≤ greatest_depth }
+    requires sound { IsSoundBelow (levels_below depth) space.old }
+    ensures { OnOk result (space.new ≡ end_of (levels_below depth) reach space.old) }
 {
     run(alloc, space, depth)?;
     match reach {

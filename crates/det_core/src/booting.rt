@@ -6,6 +6,7 @@ ghost use Rattle.image_file.specs.View.{segment_view};
 ghost use Rattle.space_model.specs.Sound.{IsSound};
 
 use image_file::{Image, Segment};
+use memory_model::PAGE_SIZE;
 use space_tree::{Devices, Mem, Pages, Space, Top};
 use std::alloc::{AllocError, Global};
 
@@ -15,8 +16,8 @@ fn write_segment(memory: &mut Mem, segment: &Segment) -> Result<(), AllocError>
     ensures { OnOk result (memory.new.memory ≡ with_segment memory.old.memory (segment_view segment.now)) }
 {
     let length = segment.bytes.len() as u64;
-    let first = segment.addr / 4096;
-    let last = ((u64::from(segment.addr) + length - 1) / 4096) as u32;
+    let first = segment.addr / PAGE_SIZE;
+    let last = ((u64::from(segment.addr) + length - 1) / u64::from(PAGE_SIZE)) as u32;
     let pages = Pages {
         first,
         count: last + 1 - first,

@@ -1,4 +1,5 @@
 ghost use Rattle.std.specs.Prelude.{◌≡◌, ◌-◌, ◌≤◌};
+ghost use Rattle.call_model.specs.Limits.{greatest_depth, levels_below};
 ghost use Rattle.space_model.specs.Meeting.{awaits};
 ghost use Rattle.space_model.specs.Event.{next};
 ghost use Rattle.space_model.specs.Space.{top_of, children_of, children_from, find};
@@ -39,8 +40,8 @@ pub(crate) fn are_ready(call: AcceptedCall, children: &BTreeMap<u16, Space>) -> 
 
 // Whether the next event of a space at this depth may happen.
 fn may_go_on(space: &Space, depth: u8) -> bool
-    requires { depth ≤ 8 }
-    ensures { result ≡ may_happen (next (8 - depth) (top_of space.now)) (children_of space.now) }
+    requires { depth ≤ greatest_depth }
+    ensures { result ≡ may_happen (next (levels_below depth) (top_of space.now)) (children_of space.now) }
 {
     match peek(&space.top, depth) {
         Next::Local => true,
@@ -52,7 +53,7 @@ fn may_go_on(space: &Space, depth: u8) -> bool
 /// Whether the event at a path may happen: a space stands there that has not stopped, and what it waits for is ready.
 #[tactic(auto, using(crate::proofs::Paths::enabled_at, crate::proofs::Paths::enabled_missing))]
 pub fn enabled(space: &Space, path: &Path) -> bool
-    ensures { result ≡ is_enabled path.now.items 8 space.now }
+    ensures { result ≡ is_enabled path.now.items greatest_depth space.now }
 {
     match at(space, path) {
         Some(found) => may_go_on(found, path.len() as u8),

@@ -1,4 +1,5 @@
 ghost use Rattle.std.specs.Prelude.{◌≡◌, ◌+◌, ◌-◌, ◌≤◌, [], true, cond, ℕ, length, IfOk, OnOk, OnErr};
+ghost use Rattle.call_model.specs.Limits.{greatest_depth, levels_below};
 ghost use Rattle.space_model.specs.Sound.{IsSoundAt};
 ghost use Rattle.space_model.specs.Event.{MayPay};
 ghost use Rattle.space_model.specs.Meeting.{MayMeet, meet, awaits};
@@ -19,11 +20,11 @@ fn try_call(
     space: &mut Space,
     depth: u8,
 ) -> Result<bool, AllocError>
-    requires depth { depth ≤ 8 }
-    requires may_meet { MayMeet (8 - depth) call }
+    requires depth { depth ≤ greatest_depth }
+    requires may_meet { MayMeet (levels_below depth) call }
     requires may_pay { MayPay (top_of space.old) }
     ensures ok { IfOk result (λ b. b ≡ are_ready (awaits call) (children_of space.old)) }
-    ensures called { OnOk result (space.new ≡ cond (are_ready (awaits call) (children_of space.old)) (meet (8 - depth) call (after_payment (top_of space.old) (top_of space.old)) (children_of space.old)) space.old) }
+    ensures called { OnOk result (space.new ≡ cond (are_ready (awaits call) (children_of space.old)) (meet (levels_below depth) call (after_payment (top_of space.old) (top_of space.old)) (children_of space.old)) space.old) }
     ensures err { OnErr result (space.new ≡ space.old) }
 {
     let ready = are_ready(call, &space.children);
@@ -35,9 +36,9 @@ fn try_call(
 
 // The next event of a space at this depth, where it may happen; else nothing.
 fn try_event(alloc: Global, space: &mut Space, depth: u8) -> Result<bool, AllocError>
-    requires { depth ≤ 8 }
-    ensures ok { IfOk result (λ b. b ≡ is_enabled [] (8 - depth) space.old) }
-    ensures stepped { OnOk result (space.new ≡ try_step [] (8 - depth) space.old) }
+    requires { depth ≤ greatest_depth }
+    ensures ok { IfOk result (λ b. b ≡ is_enabled [] (levels_below depth) space.old) }
+    ensures stepped { OnOk result (space.new ≡ try_step [] (levels_below depth) space.old) }
     ensures err { OnErr result (space.new ≡ space.old) }
 {
     match next(&mut space.top, depth)? {
@@ -49,9 +50,9 @@ fn try_event(alloc: Global, space: &mut Space, depth: u8) -> Result<bool, AllocE
 
 // The event at a path from a space at this depth, where it may happen; else nothing.
 fn try_step(alloc: Global, space: &mut Space, path: &[u16], depth: u8) -> Result<bool, AllocError>
-    requires { depth + length path.now ≤ 8 }
-    ensures ok { IfOk result (λ b. b ≡ is_enabled path.now (8 - depth) space.old) }
-    ensures stepped { OnOk result (space.new ≡ try_step path.now (8 - depth) space.old) }
+    requires { depth + length path.now ≤ greatest_depth }
+    ensures ok { IfOk result (λ b. b ≡ is_enabled path.now (levels_below depth) space.old) }
+    ensures stepped { OnOk result (space.new ≡ try_step path.now (levels_below depth) space.old) }
     ensures err { OnErr result (space.new ≡ space.old) }
 {
     match path {
@@ -68,10 +69,10 @@ fn try_step(alloc: Global, space: &mut Space, path: &[u16], depth: u8) -> Result
 /// The event at a path, where it may happen, and whether it has happened; where it may not, nothing changes. Its one error is want
 /// of memory, and then nothing has changed.
 pub fn step(alloc: Global, space: &mut Space, path: &Path) -> Result<bool, AllocError>
-    ensures ok { IfOk result (λ b. b ≡ is_enabled path.now.items 8 space.old) }
-    ensures stepped { OnOk result (space.new ≡ try_step path.now.items 8 space.old) }
+    ensures ok { IfOk result (λ b. b ≡ is_enabled path.now.items greatest_depth space.old) }
+    ensures stepped { OnOk result (space.new ≡ try_step path.now.items greatest_depth space.old) }
     ensures err { OnErr result (space.new ≡ space.old) }
-    ensures sound { (fuel : ℕ) → IsSoundAt 8 true fuel space.old → IsSoundAt 8 true fuel space.new }
+    ensures sound { (fuel : ℕ) → IsSoundAt greatest_depth true fuel space.old → IsSoundAt greatest_depth true fuel space.new }
 {
     try_step(alloc, space, path.as_slice(), 0)
 }

@@ -1,4 +1,5 @@
 ghost use Rattle.std.specs.Prelude.{◌≡◌, ◌-◌, ◌≤◌, ℕ, Bool, OnOk, OnErr, IfErr, None};
+ghost use Rattle.call_model.specs.Limits.{greatest_depth, levels_below};
 ghost use Rattle.space_model.specs.Change.{after_payment};
 ghost use Rattle.space_model.specs.Event.{MayPay};
 ghost use Rattle.space_model.specs.Meeting.{MayMeet, meet};
@@ -71,13 +72,13 @@ pub fn apply(
     depth: u8,
     space: &mut Space,
 ) -> Result<(), AllocError>
-    requires depth { depth ≤ 8 }
+    requires depth { depth ≤ greatest_depth }
     requires is_call { IsPutOrGet call }
-    requires may_meet { MayMeet (8 - depth) call }
+    requires may_meet { MayMeet (levels_below depth) call }
     requires may_pay { MayPay (top_of space.old) }
-    ensures ok { OnOk result (space.new ≡ meet (8 - depth) call (after_payment (top_of space.old) (top_of space.old)) (children_of space.old)) }
+    ensures ok { OnOk result (space.new ≡ meet (levels_below depth) call (after_payment (top_of space.old) (top_of space.old)) (children_of space.old)) }
     ensures err { OnErr result (space.new ≡ space.old) }
-    ensures sound { (root : Bool) (fuel : ℕ) → IsSoundAt (8 - depth) root fuel space.old → IsSoundAt (8 - depth) root fuel space.new }
+    ensures sound { (root : Bool) (fuel : ℕ) → IsSoundAt (levels_below depth) root fuel space.old → IsSoundAt (levels_below depth) root fuel space.new }
 {
     match refusal(call, space, depth) {
         Some(refusal) => {

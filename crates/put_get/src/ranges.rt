@@ -1,4 +1,5 @@
 ghost use Rattle.std.specs.Prelude.{◌≡◌, ◌+◌, ◌/◌, ◌≤◌, OnOk, OnErr, true, ◌||◌, [], ◌∷◌};
+ghost use Rattle.memory_model.specs.Sizes.{pages};
 ghost use Rattle.call_model.specs.Options as options_of;
 ghost use Rattle.call_model.specs.Reading.{IsTransfer};
 ghost use Rattle.space_model.specs.Part.{part_if, with_parts, zero_part, copy_part, permission_part, source_page, destination_page, page_count};
@@ -12,7 +13,7 @@ use trap_ret::Transfer;
 
 // The pages of the destination's range.
 pub fn destination(x: &Transfer) -> Pages
-    requires { x.now.destination / 4096 + x.now.size / 4096 ≤ 1048576 }
+    requires { destination_page x.now + page_count x.now ≤ pages }
     ensures first { result.first ≡ destination_page x.now }
     ensures count { result.count ≡ page_count x.now }
 {

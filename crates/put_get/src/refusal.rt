@@ -1,4 +1,5 @@
 ghost use Rattle.std.specs.Prelude.{◌≡◌, ◌-◌, ◌≤◌, Some, is_none};
+ghost use Rattle.call_model.specs.Limits.{greatest_depth, levels_below};
 ghost use Rattle.memory_model.specs.Memory.{may_read, may_write};
 ghost use Rattle.call_model.specs.Reading.{IsTransfer};
 ghost use Rattle.space_model.specs.Meeting.{block_refusal, test_refusal, height_refusal};
@@ -10,10 +11,8 @@ use crate::options::{has_merge, has_regs};
 use space_model::Refusal;
 use space_tree::{Cause, Space, Top, height};
 use std::collections::BTreeMap;
+use trap_ret::limits::{BLOCK_SIZE, GREATEST_DEPTH};
 use trap_ret::{AcceptedCall, Call, Transfer};
-
-// The bytes of a register block.
-const BLOCK: u32 = 136;
 
 // With Regs, the least address of the register block that the caller may not read.
 #[tactic(auto, using(crate::proofs::Places::block_end))]
@@ -24,7 +23,7 @@ fn unreadable_block(x: &Transfer, caller: &Top) -> Option<Refusal>
     if !has_regs(x) {
         return None;
     }
-    let value = caller.memory.first_unreadable(x.block, BLOCK)?;
+    let value = caller.memory.first_unreadable(x.block, BLOCK_SIZE)?;
     Some(Refusal {
         cause: Cause::LoadFault,
         value,
@@ -40,7 +39,7 @@ fn unwritable_block(x: &Transfer, caller: &Top) -> Option<Refusal>
     if !has_regs(x) {
         return None;
     }
-    let value = caller.memory.first_unwritable(x.block, BLOCK)?;
+    let value = caller.memory.first_unwritable(x.block, BLOCK_SIZE)?;
     Some(Refusal {
         cause: Cause::StoreFault,
         value,
@@ -80,11 +79,11 @@ fn get_refusal(x: &Transfer, caller: &Space) -> Option<Refusal>
 
 // Test 8 of a space that is copied to a child's child of a caller at this depth.
 fn tree_refusal(children: &BTreeMap<u16, Space>, from: u16, depth: u8) -> Option<Refusal>
-    requires { depth ≤ 8 }
-    ensures { result ≡ height_refusal (8 - depth) (find from (children_from children.now.entries)) }
+    requires { depth ≤ greatest_depth }
+    ensures { result ≡ height_refusal (levels_below depth) (find from (children_from children.now.entries)) }
 {
     let copied = children.get(&from)?;
-    if height(copied).saturating_add(2) > 8 - depth {
+    if height(copied).saturating_add(2) > GREATEST_DEPTH - depth {
         return Some(failed_test(8));
     }
     None
@@ -93,9 +92,9 @@ fn tree_refusal(children: &BTreeMap<u16, Space>, from: u16, depth: u8) -> Option
 // The first test of a call that stops its caller before a conflict may, at this depth, if one does.
 #[tactic(auto, using(crate::proofs::Tests::get_test, crate::proofs::Tests::get_tree_test))]
 pub fn refusal(call: AcceptedCall, space: &Space, depth: u8) -> Option<Refusal>
-    requires depth { depth ≤ 8 }
+    requires depth { depth ≤ greatest_depth }
     requires is_call { IsPutOrGet call }
-    ensures { result ≡ early_of (8 - depth) call space.now }
+    ensures { result ≡ early_of (levels_below depth) call space.now }
 {
     match call.call() {
         Call::Put(x) => unreadable_block(&x, &space.top),

@@ -1,4 +1,5 @@
 ghost use Rattle.std.specs.Prelude.{◌≡◌, ◌+◌, ◌%◌, ◌≤◌, ◌^◌, drop};
+ghost use Rattle.call_model.specs.Limits.{block_size};
 ghost use Rattle.space_model.specs.Block.{registers_at, block_of, stop_number, stop_value};
 
 use space_tree::{Mem, Regs, Status, Top};
@@ -10,7 +11,7 @@ const NO_CAUSE: u32 = 22;
 // The registers that a block of memory holds: pc, then x1 to x31.
 pub fn read_registers(memory: &Mem, at: u32) -> Regs
     requires aligned { at % 4 ≡ 0 }
-    requires within { at + 136 ≤ 2 ^ 32 }
+    requires within { at + block_size ≤ 2 ^ 32 }
     ensures { result ≡ registers_at memory.now.memory at }
 {
     let mut registers = Regs::new(memory.word(at));

@@ -4,6 +4,7 @@
 use Rattle.std.specs.Prelude.{ℕ, zero, suc, ◌+◌, cond, List, [], ◌∷◌, Option, Some, None}
 use Rattle.space_model.specs.Stop.{is_stopped}
 use Rattle.space_model.specs.Space.{Space, space, Children, none, child, Top, top_of, children_of, find, over}
+use Rattle.call_model.specs.Limits.{greatest_depth}
 use Rattle.call_model.specs.declared.Call.{Call}
 use Rattle.space_model.specs.declared.Reach.{Reach}
 use Rattle.space_model.specs.declared.Reach.TheVariants.{Itself, Whole}
@@ -94,6 +95,6 @@ abbrev pub of_children : ℕ → Meaning
 of_children zero = no_events
 of_children (suc levels) = meaning levels
 
--- a whole tree has 8 levels of children below its root
+-- a whole tree has as many levels of children below its root as the depth of the deepest spaces
 abbrev pub settle_tree : Space → Space
-settle_tree s = settle 8 s
+settle_tree s = settle greatest_depth s

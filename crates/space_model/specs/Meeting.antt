@@ -10,7 +10,7 @@ use Rattle.merge_model.specs.Merge.{first_conflict}
 use Rattle.call_model.specs.declared.Transfer.{Transfer}
 use Rattle.call_model.specs.declared.Call.{Call}
 use Rattle.call_model.specs.declared.Call.TheVariants.{Put, PutTree, Get, GetTree, Fork, Wait, Tfork, Tjoin}
-use Rattle.call_model.specs.Limits.{IsChild}
+use Rattle.call_model.specs.Limits.{IsChild, block_size}
 use Rattle.call_model.specs.Options.{has, regs, merging}
 use Rattle.space_model.specs.declared.Cause.{Cause}
 use Rattle.space_model.specs.declared.Cause.TheVariants.{LoadFault, StoreFault, Badcall, Conflict}
@@ -53,7 +53,7 @@ awaits k = []
 
 -- with Regs, the least address of the register block that lacks a right
 abbrev pub block_refusal : Transfer → Cause → (ℕ → Bool) → Option Refusal
-block_refusal x cause right = if has regs x.options then option_map (λ a. record { cause = cause; value = a }) (first_without right x.block 136) else None
+block_refusal x cause right = if has regs x.options then option_map (λ a. record { cause = cause; value = a }) (first_without right x.block block_size) else None
 
 -- the call fails the test of this number, one of those that stand behind the tests on registers
 abbrev pub test_refusal : ℕ → Option Refusal

@@ -1,4 +1,5 @@
 ghost use Rattle.std.specs.Prelude.{◌≡◌, ◌-◌, ◌≤◌, ◌^◌, ◌+◌, OnOk, OnErr, IfOk, IfSome};
+ghost use Rattle.call_model.specs.Limits.{greatest_depth, levels_below};
 ghost use Rattle.memory_model.specs.Memory.{bytes_from};
 ghost use Rattle.instruction_model.specs.Outcome.{calls, view_of, outcome};
 ghost use Rattle.call_model.specs.Reading.{IsAccepted};
@@ -78,10 +79,10 @@ fn act_as_read(top: &mut Top, reading: Result<AcceptedCall, Badcall>) -> Result<
 #[inline(never)]
 #[tactic(auto, using(crate::proofs::CallEvents::call_happens, crate::proofs::CallEvents::call_waits, crate::proofs::CallEvents::call_fails))]
 pub(crate) fn call(top: &mut Top, depth: u8) -> Result<Next, AllocError>
-    requires depth { depth ≤ 8 }
+    requires depth { depth ≤ greatest_depth }
     requires may_pay { MayPay top.old }
     requires calls { outcome (view_of top.old.memory) top.old.registers ≡ calls }
-    ensures { Steps (8 - depth) result top.old top.new }
+    ensures { Steps (levels_below depth) result top.old top.new }
 {
     let reading = read_call(&top.registers.x, top.has_devices(), depth);
     match act_as_read(top, reading)? {

@@ -1,4 +1,5 @@
 ghost use Rattle.std.specs.Prelude.{◌≡◌, ◌-◌, ◌≤◌};
+ghost use Rattle.call_model.specs.Limits.{greatest_depth, levels_below};
 ghost use Rattle.instruction_model.specs.Outcome.{view_of, outcome};
 ghost use Rattle.space_model.specs.Sound.{has_devices};
 ghost use Rattle.space_model.specs.Space as model;
@@ -56,9 +57,9 @@ fn answer_to_call(top: &Top, depth: u8) -> Next
 
 // What is next of a space that runs.
 fn peek_running(top: &Top, depth: u8) -> Next
-    requires depth { depth ≤ 8 }
+    requires depth { depth ≤ greatest_depth }
     requires running { top.now.status ≡ Status.Running }
-    ensures { IsNext (8 - depth) result top.now }
+    ensures { IsNext (levels_below depth) result top.now }
 {
     if budget(top, 1) == 0 {
         return Next::Local;
@@ -72,8 +73,8 @@ fn peek_running(top: &Top, depth: u8) -> Next
 /// What is next of a space at a depth of at most 8. It takes no memory.
 #[tactic(auto, using(crate::proofs::Events::next_rests))]
 pub fn peek(top: &Top, depth: u8) -> Next
-    requires { depth ≤ 8 }
-    ensures { IsNext (8 - depth) result top.now }
+    requires { depth ≤ greatest_depth }
+    ensures { IsNext (levels_below depth) result top.now }
 {
     match top.status {
         Status::Running => peek_running(top, depth),

@@ -1,4 +1,5 @@
 ghost use Rattle.std.specs.Prelude.{◌≡◌, ℕ, Bool, ◌-◌, ◌≤◌, ◌<◌, IfOk};
+ghost use Rattle.call_model.specs.Limits.{greatest_depth, levels_below};
 ghost use Rattle.space_model.specs.Event.{next, IsNotLocal};
 ghost use Rattle.space_model.specs.Sound.{IsSoundTop};
 ghost use Rattle.space_step.specs.Run.{IsRun};
@@ -81,13 +82,13 @@ impl Run {
 /// what is next is no local event. The run's start is a copy. Its one error is want of memory, for the copy or for an event.
 #[tactic(auto, using(crate::proofs::Advancing::ended_within, crate::proofs::Advancing::ended_early))]
 pub fn run_local(mut top: Top, depth: u8, quantum: u32) -> Result<Run, AllocError>
-    requires depth { depth ≤ 8 }
+    requires depth { depth ≤ greatest_depth }
     requires quantum { 1 ≤ quantum }
     ensures depth { IfOk result (λ r. r.depth ≡ depth) }
     ensures start { IfOk result (λ r. r.start ≡ top) }
     ensures within { IfOk result (λ r. r.ran ≤ quantum) }
-    ensures fewer { IfOk result (λ r. r.ran < quantum → IsNotLocal (next (8 - depth) r.top)) }
-    ensures none { IfOk result (λ r. r.ran ≡ 0 → IsNotLocal (next (8 - depth) r.start)) }
+    ensures fewer { IfOk result (λ r. r.ran < quantum → IsNotLocal (next (levels_below depth) r.top)) }
+    ensures none { IfOk result (λ r. r.ran ≡ 0 → IsNotLocal (next (levels_below depth) r.start)) }
     ensures sound { (fuel : ℕ) (root : Bool) → IsSoundTop fuel root top → IfOk result (λ r. IsSoundTop fuel root r.top) }
 {
     let start = copy_top(&mut top)?;

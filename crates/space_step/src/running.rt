@@ -1,4 +1,5 @@
 ghost use Rattle.std.specs.Prelude.{◌≡◌, ℕ, Bool, ◌-◌, ◌≤◌, ◌<◌, None, IfOk, OnErr};
+ghost use Rattle.call_model.specs.Limits.{greatest_depth, levels_below};
 ghost use Rattle.instruction_model.specs.Outcome.{view_of, outcome, traps};
 ghost use Rattle.space_model.specs.Event.{next, moves, Follows, MayPay};
 ghost use Rattle.space_model.specs.Sound.{IsSoundTop};
@@ -51,11 +52,11 @@ fn execute_paid(top: &mut Top, budget: u32) -> Stretch
 
 // Local events of a space that can pay for so many, at least one: instructions, and the call or the trap that ends them.
 fn run_stretch(top: &mut Top, depth: u8, budget: u32) -> Progress
-    requires depth { depth ≤ 8 }
+    requires depth { depth ≤ greatest_depth }
     requires some { 1 ≤ budget }
     requires running { top.old.status ≡ Status.Running }
     requires pays { Pays budget top.old }
-    ensures { Goes (8 - depth) budget result top.old top.new }
+    ensures { Goes (levels_below depth) budget result top.old top.new }
 {
     let Stretch { count, end } = execute_paid(top, budget);
     match end {
@@ -75,9 +76,9 @@ fn run_stretch(top: &mut Top, depth: u8, budget: u32) -> Progress
 
 // Local events of a space at a depth, at most so many: at least one, unless something blocks the first.
 fn proceed(top: &mut Top, depth: u8, quantum: u32) -> Progress
-    requires depth { depth ≤ 8 }
+    requires depth { depth ≤ greatest_depth }
     requires quantum { 1 ≤ quantum }
-    ensures { Goes (8 - depth) quantum result top.old top.new }
+    ensures { Goes (levels_below depth) quantum result top.old top.new }
 {
     if top.is_stopped() {
         return Progress::Blocked(0, Some(Next::Stopped));
@@ -92,8 +93,8 @@ fn proceed(top: &mut Top, depth: u8, quantum: u32) -> Progress
 
 // Local events of a space at a depth, as many as the quantum, unless something blocks it.
 fn go_on(top: &mut Top, depth: u8, quantum: u32) -> Advance
-    requires depth { depth ≤ 8 }
-    ensures { Advances (8 - depth) quantum result top.old top.new }
+    requires depth { depth ≤ greatest_depth }
+    ensures { Advances (levels_below depth) quantum result top.old top.new }
 {
     let mut ran = 0;
     'stretches: while ran < quantum {
@@ -117,12 +118,12 @@ fn go_on(top: &mut Top, depth: u8, quantum: u32) -> Advance
 /// next is no local event, or a local event for which there was no memory. Its one error is want of memory for the first event,
 /// a local one, and then nothing has changed.
 pub fn advance(top: &mut Top, depth: u8, quantum: u32) -> Result<Advance, AllocError>
-    requires depth { depth ≤ 8 }
+    requires depth { depth ≤ greatest_depth }
     requires quantum { 1 ≤ quantum }
-    ensures ok { IfOk result (λ a. Advances (8 - depth) quantum a top.old top.new) }
+    ensures ok { IfOk result (λ a. Advances (levels_below depth) quantum a top.old top.new) }
     ensures some { IfOk result (λ a. a.next ≡ None → 1 ≤ a.ran) }
     ensures err { OnErr result (top.new ≡ top.old) }
-    ensures local { OnErr result (IsNextLocal (8 - depth) top.old) }
+    ensures local { OnErr result (IsNextLocal (levels_below depth) top.old) }
     ensures sound { (fuel : ℕ) (root : Bool) → IsSoundTop fuel root top.old → IsSoundTop fuel root top.new }
 {
     let advance = go_on(top, depth, quantum);
@@ -135,8 +136,8 @@ pub fn advance(top: &mut Top, depth: u8, quantum: u32) -> Result<Advance, AllocE
 /// The next event of a space at a depth of at most 8: a local event, which has happened, or a call that meets a child or
 /// nothing, and then nothing has changed. Its one error is want of memory for a local event, and then nothing has changed.
 pub fn next(top: &mut Top, depth: u8) -> Result<Next, AllocError>
-    requires { depth ≤ 8 }
-    ensures steps { Steps (8 - depth) result top.old top.new }
+    requires { depth ≤ greatest_depth }
+    ensures steps { Steps (levels_below depth) result top.old top.new }
     ensures sound { (fuel : ℕ) (root : Bool) → IsSoundTop fuel root top.old → IsSoundTop fuel root top.new }
 {
     go_on(top, depth, 1).next.ok_or(AllocError)

@@ -1,4 +1,5 @@
 ghost use Rattle.std.specs.Prelude.{◌≡◌, ℕ, ◌-◌, ◌<◌, true, length, slice_index, IfSome, IsNone, OnOk, OnErr};
+ghost use Rattle.call_model.specs.Limits.{IsChild, greatest_depth, levels_below};
 ghost use Rattle.std.specs.Option.{option_copied};
 ghost use Rattle.space_model.specs.Space.{Space, top_of, put_child};
 ghost use Rattle.space_model.specs.Path.{at, under, with_top, with_space, is_root, HasParent};
@@ -27,7 +28,7 @@ pub fn put_at(space: &mut Space, path: &Path, new: Space) -> Result<(), AllocErr
     requires { HasParent path.now.items space.old }
     ensures ok { OnOk result (space.new ≡ with_space path.now.items new space.old) }
     ensures err { OnErr result (space.new ≡ space.old) }
-    ensures sound { (fuel : ℕ) → IsSoundAt 8 true fuel space.old → IsSoundAt (8 - length path.now.items) (is_root true path.now.items) fuel new → IsSoundAt 8 true fuel space.new }
+    ensures sound { (fuel : ℕ) → IsSoundAt greatest_depth true fuel space.old → IsSoundAt (levels_below (length path.now.items)) (is_root true path.now.items) fuel new → IsSoundAt greatest_depth true fuel space.new }
 {
     put(space, path, new)
 }
@@ -37,7 +38,7 @@ pub fn swap_top(space: &mut Space, path: &Path, top: Top) -> Top
     requires { (s : Space) × (at path.now.items space.old ≡ Some s) }
     ensures former { IfSome (at path.now.items space.old) (λ s. result ≡ top_of s) }
     ensures swapped { space.new ≡ with_top path.now.items top space.old }
-    ensures sound { (fuel : ℕ) → IsSoundAt 8 true fuel space.old → IsSoundTop fuel (is_root true path.now.items) top → IsSoundAt 8 true fuel space.new }
+    ensures sound { (fuel : ℕ) → IsSoundAt greatest_depth true fuel space.old → IsSoundTop fuel (is_root true path.now.items) top → IsSoundAt greatest_depth true fuel space.new }
 {
     swap(space, path, top)
 }
@@ -66,7 +67,7 @@ fn put(space: &mut Space, path: &[u16], new: Space) -> Result<(), AllocError>
     requires { HasParent path.now space.old }
     ensures ok { OnOk result (space.new ≡ with_space path.now new space.old) }
     ensures err { OnErr result (space.new ≡ space.old) }
-    ensures numbers { (k : ℕ) → slice_index path.now k < 65536 }
+    ensures numbers { (k : ℕ) → IsChild (slice_index path.now k) }
 {
     match path {
         [] => {

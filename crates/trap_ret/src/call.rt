@@ -1,4 +1,5 @@
 ghost use Rattle.std.specs.Prelude.{◌≡◌, ◌<◌, false};
+ghost use Rattle.call_model.specs.Limits.{IsChild};
 ghost use Rattle.call_model.specs.Tests as table;
 ghost use Rattle.call_model.specs.Reading as reading;
 ghost use Rattle.call_model.specs.Reading.{IsAccepted};
@@ -46,7 +47,7 @@ impl AcceptedCall {
 
 // What registers a0 to a6 say to Put and Get.
 fn transfer(x: &[u32; 32]) -> Transfer
-    requires { table.argument x.now 1 < 65536 }
+    requires { IsChild (table.argument x.now 1) }
     ensures { result ≡ reading.transfer x.now }
 {
     Transfer {

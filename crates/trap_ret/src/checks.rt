@@ -2,11 +2,12 @@ ghost use Rattle.std.specs.Prelude.{◌≡◌, ◌+◌, ◌<◌, ◌≤◌};
 ghost use Rattle.call_model.specs.Options as options_of;
 ghost use Rattle.call_model.specs.Tests as table;
 
-use crate::limits::{GREATEST_CHILD, GREATEST_DEPTH, GREATEST_LENGTH, LAST_BLOCK, PAGE_SIZE};
+use crate::limits::{GREATEST_CHILD, GREATEST_DEPTH, GREATEST_LENGTH, LAST_BLOCK};
 use crate::options::{
     COPY, KNOWN, LIMIT, MERGE, PERM, PERMISSION, REGS, SNAP, START, TREE, ZERO, has,
 };
 use call_model::Kind;
+use memory_model::PAGE_SIZE;
 
 /// Argument `number` of a call, below 8: register a0 and those above it.
 #[inline(always)]

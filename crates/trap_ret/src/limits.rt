@@ -6,11 +6,11 @@ pub const GREATEST_CHILD: u32 = 65_535;
 /// The depth of the deepest spaces; the root is at depth 0.
 pub const GREATEST_DEPTH: u8 = 8;
 
-/// The bytes of a page.
-pub const PAGE_SIZE: u32 = 4096;
-
 /// The greatest length, in bytes, that a call of a device names.
 pub const GREATEST_LENGTH: u32 = 65_536;
 
-/// The last address from which on there are the 136 bytes of a register block.
+/// The bytes of a register block.
+pub const BLOCK_SIZE: u32 = 136;
+
+/// The last address from which on there are the bytes of a register block.
 pub const LAST_BLOCK: u32 = 0xFFFF_FF78;

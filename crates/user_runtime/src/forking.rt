@@ -1,4 +1,5 @@
 ghost use Rattle.std.specs.Prelude.{◌≡◌, ◌+◌, ◌-◌, ◌≤◌, ℕ, Bool, OnOk, OnErr, IfOk, IfSome, is_some, None, option_map, if◌then◌else◌};
+ghost use Rattle.call_model.specs.Limits.{greatest_depth, levels_below};
 ghost use Rattle.call_model.specs.declared.Call.TheVariants.{Fork, Tfork};
 ghost use Rattle.space_model.specs.Beginning.{fresh_top};
 ghost use Rattle.space_model.specs.Call.{edit, change};
@@ -149,12 +150,12 @@ fn memory_copy(space: &mut Space) -> Result<Mem, AllocError>
 /// children, its snapshot, fuel and use stay. The caller pays one unit and goes on with a0 = 0. The one error is want of memory: nothing is
 /// changed then.
 pub fn fork(alloc: Global, child: u16, depth: u8, space: &mut Space) -> Result<(), AllocError>
-    requires depth { depth ≤ 8 }
-    requires may_meet { MayMeet (8 - depth) (Fork child) }
+    requires depth { depth ≤ greatest_depth }
+    requires may_meet { MayMeet (levels_below depth) (Fork child) }
     requires may_pay { MayPay (top_of space.old) }
-    ensures ok { OnOk result (space.new ≡ meet (8 - depth) (Fork child) (after_payment (top_of space.old) (top_of space.old)) (children_of space.old)) }
+    ensures ok { OnOk result (space.new ≡ meet (levels_below depth) (Fork child) (after_payment (top_of space.old) (top_of space.old)) (children_of space.old)) }
     ensures err { OnErr result (space.new ≡ space.old) }
-    ensures sound { (root : Bool) (fuel : ℕ) → IsSoundAt (8 - depth) root fuel space.old → IsSoundAt (8 - depth) root fuel space.new }
+    ensures sound { (root : Bool) (fuel : ℕ) → IsSoundAt (levels_below depth) root fuel space.old → IsSoundAt (levels_below depth) root fuel space.new }
 {
     let memory = memory_copy(space)?;
     fork_by(alloc, child, memory, None, space)
@@ -164,12 +165,12 @@ pub fn fork(alloc: Global, child: u16, depth: u8, space: &mut Space) -> Result<(
 /// abstractions), of a caller at this depth, 0 to 7: as `fork`, but the child's new memory is kept as its snapshot too, for `tjoin` to merge
 /// against. The one error is want of memory: nothing is changed then.
 pub fn tfork(alloc: Global, child: u16, depth: u8, space: &mut Space) -> Result<(), AllocError>
-    requires depth { depth ≤ 8 }
-    requires may_meet { MayMeet (8 - depth) (Tfork child) }
+    requires depth { depth ≤ greatest_depth }
+    requires may_meet { MayMeet (levels_below depth) (Tfork child) }
     requires may_pay { MayPay (top_of space.old) }
-    ensures ok { OnOk result (space.new ≡ meet (8 - depth) (Tfork child) (after_payment (top_of space.old) (top_of space.old)) (children_of space.old)) }
+    ensures ok { OnOk result (space.new ≡ meet (levels_below depth) (Tfork child) (after_payment (top_of space.old) (top_of space.old)) (children_of space.old)) }
     ensures err { OnErr result (space.new ≡ space.old) }
-    ensures sound { (root : Bool) (fuel : ℕ) → IsSoundAt (8 - depth) root fuel space.old → IsSoundAt (8 - depth) root fuel space.new }
+    ensures sound { (root : Bool) (fuel : ℕ) → IsSoundAt (levels_below depth) root fuel space.old → IsSoundAt (levels_below depth) root fuel space.new }
 {
     let mut memory = memory_copy(space)?;
     let snapshot = take(&mut memory)?;

@@ -1,4 +1,5 @@
 ghost use Rattle.std.specs.Prelude.{◌≡◌, ◌-◌, ◌≤◌, ℕ, Bool, Some, OnOk, OnErr, IfOk, is_none, option_map, if◌then◌else◌};
+ghost use Rattle.call_model.specs.Limits.{greatest_depth, levels_below};
 ghost use Rattle.call_model.specs.declared.Call.TheVariants.{Tjoin};
 ghost use Rattle.space_model.specs.Change.{after_payment};
 ghost use Rattle.space_model.specs.Event.{MayPay};
@@ -128,12 +129,12 @@ fn join_space(child: u16, space: &mut Space) -> Result<(), AllocError>
 ///
 /// The one error is want of memory: nothing is changed then.
 pub fn tjoin(_alloc: Global, child: u16, depth: u8, space: &mut Space) -> Result<(), AllocError>
-    requires depth { depth ≤ 8 }
-    requires may_meet { MayMeet (8 - depth) (Tjoin child) }
+    requires depth { depth ≤ greatest_depth }
+    requires may_meet { MayMeet (levels_below depth) (Tjoin child) }
     requires may_pay { MayPay (top_of space.old) }
-    ensures ok { OnOk result (space.new ≡ meet (8 - depth) (Tjoin child) (after_payment (top_of space.old) (top_of space.old)) (children_of space.old)) }
+    ensures ok { OnOk result (space.new ≡ meet (levels_below depth) (Tjoin child) (after_payment (top_of space.old) (top_of space.old)) (children_of space.old)) }
     ensures err { OnErr result (space.new ≡ space.old) }
-    ensures sound { (root : Bool) (fuel : ℕ) → IsSoundAt (8 - depth) root fuel space.old → IsSoundAt (8 - depth) root fuel space.new }
+    ensures sound { (root : Bool) (fuel : ℕ) → IsSoundAt (levels_below depth) root fuel space.old → IsSoundAt (levels_below depth) root fuel space.new }
 {
     join_space(child, space)
 }

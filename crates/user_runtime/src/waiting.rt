@@ -1,4 +1,5 @@
 ghost use Rattle.std.specs.Prelude.{◌≡◌, ◌-◌, ◌≤◌, ℕ, Bool, Ok, OnOk, OnErr};
+ghost use Rattle.call_model.specs.Limits.{greatest_depth, levels_below};
 ghost use Rattle.call_model.specs.declared.Call.TheVariants.{Wait};
 ghost use Rattle.space_model.specs.Call.{edit, take_away};
 ghost use Rattle.space_model.specs.Change.{after_payment, after_success};
@@ -56,13 +57,13 @@ fn report_wait(status: Status, caller: &mut Top)
 /// child is read as one that has never run (21 and 0). The caller pays one unit and goes on with a0 = 0. It takes no memory, so there is no
 /// error.
 pub fn wait(_alloc: Global, child: u16, depth: u8, space: &mut Space) -> Result<(), AllocError>
-    requires depth { depth ≤ 8 }
-    requires may_meet { MayMeet (8 - depth) (Wait child) }
+    requires depth { depth ≤ greatest_depth }
+    requires may_meet { MayMeet (levels_below depth) (Wait child) }
     requires may_pay { MayPay (top_of space.old) }
     ensures done { result ≡ Ok tt }
-    ensures ok { OnOk result (space.new ≡ meet (8 - depth) (Wait child) (after_payment (top_of space.old) (top_of space.old)) (children_of space.old)) }
+    ensures ok { OnOk result (space.new ≡ meet (levels_below depth) (Wait child) (after_payment (top_of space.old) (top_of space.old)) (children_of space.old)) }
     ensures err { OnErr result (space.new ≡ space.old) }
-    ensures sound { (root : Bool) (fuel : ℕ) → IsSoundAt (8 - depth) root fuel space.old → IsSoundAt (8 - depth) root fuel space.new }
+    ensures sound { (root : Bool) (fuel : ℕ) → IsSoundAt (levels_below depth) root fuel space.old → IsSoundAt (levels_below depth) root fuel space.new }
 {
     let status = take_away(&mut space.children, child);
     report_wait(status, &mut space.top);
