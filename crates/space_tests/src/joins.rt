@@ -17,7 +17,7 @@ const TJOIN: u32 = 19;
 
 // How child 1 of the caller stands: a parent has a child that runs, a settled one a child that has stopped.
 #[derive(Clone, Copy, PartialEq, Eq)]
-enum Child {
+pub enum Child {
     Missing,
     Stopped,
     WithoutSnapshot,
@@ -51,7 +51,7 @@ pub fn state(alloc: Global, status: Status, bytes: [u8; 2]) -> Result<Top, Alloc
 }
 
 // The child: its bytes are 7 and 8, and were 3 and 0 when its snapshot was taken.
-fn child_that(alloc: Global, how: Child) -> Result<Space, AllocError> {
+pub fn child_that(alloc: Global, how: Child) -> Result<Space, AllocError> {
     let status = match how {
         Child::Running => Status::Running,
         _ => RETURNED,

@@ -13,6 +13,8 @@ mod local_events;
 #[cfg(test)]
 mod meetings;
 #[cfg(test)]
+mod merging_gets;
+#[cfg(test)]
 mod reports;
 #[cfg(test)]
 mod settling;
