@@ -1,0 +1,11 @@
+use Rattle.std.proofs.Common.{◌≡◌, ℕ, ◌<◌, length, false}
+use Rattle.page_tree.specs.Blocks.{block_pages, page_in, is_own_in, SameBytes, AreWhole}
+use Rattle.page_tree.proofs.block.Block.freeze.Given as goal
+
+abbrev pub invariant-loop-j : goal.invariant-loop-j
+invariant-loop-j l = record {
+  sized : length l.self.pages ≡ block_pages;
+  same : SameBytes l.fn.self l.self;
+  none : (i : ℕ) → i < l.j → is_own_in (page_in l.self i) ≡ false;
+  whole : AreWhole l.fn.self → AreWhole l.self;
+}

@@ -1,0 +1,11 @@
+use Rattle.std.proofs.Common.{◌≡◌, ℕ, ◌<◌, length, slice_index_or, None}
+use Rattle.page_tree.specs.Blocks.{block_pages, page_in, is_own_in, byte_in, IsWhole}
+use Rattle.page_tree.proofs.block.Block.share.Given as goal
+
+abbrev pub invariant-loop-j : goal.invariant-loop-j
+invariant-loop-j l = record {
+  sized : length l.pages ≡ block_pages;
+  byte : (i k : ℕ) → i < l.j → byte_in (slice_index_or l.pages i None) k ≡ byte_in (page_in l.self i) k;
+  own : (i : ℕ) → i < l.j → is_own_in (slice_index_or l.pages i None) ≡ is_own_in (page_in l.self i);
+  whole : (i : ℕ) → i < l.j → IsWhole (slice_index_or l.pages i None);
+}

@@ -1,0 +1,7 @@
+use Rattle.std.proofs.Common.{sym, subst}
+use Rattle.page_tree.specs.Blocks.{AreWhole}
+use Rattle.page_tree.specs.BlockRefs.{AreWholeIn}
+use Rattle.page_tree.proofs.block_ref.BlockRef.own_page.Goals as goal
+
+pub returns-in-Own-clause-whole : goal.returns-in-Own-clause-whole
+returns-in-Own-clause-whole c whole = c.own_page.ensures.whole (subst AreWhole (sym c.deref_mut.ensures.value) (subst AreWholeIn c.in-Own.is (c.in_ok-own.ensures.whole whole)))

@@ -1,0 +1,192 @@
+ghost use Rattle.std.specs.Prelude.{◌≡◌, ℕ, ◌+◌, ◌%◌, ◌<◌, ◌≤◌, cond, IfOk, IsOk, OnOk, OnErr, IfSome, IsNone, false, true};
+ghost use Rattle.memory_model.specs.Memory.{width_bytes};
+ghost use Rattle.memory_model.specs.Sizes.{page_size};
+ghost use Rattle.page_store.specs.Bytes.{with_number_in};
+ghost use Rattle.page_tree.specs.Blocks.{block_pages, SameBytes, NoneOwn, AreWhole};
+ghost use Rattle.page_tree.specs.BlockRefs.{ref_permission, ref_page, ref_own, IsOwnBlock, AreWholeIn, SameRef, SameOwn, NoneOwnIn, IsPermitted, IsCleared, IsOwnedToo, IsWrittenAt, IsBlankAt};
+
+use crate::block::{BLOCK_PAGES, Block};
+use memory_model::Width;
+use page_store::PageRef;
+use std::alloc::{AllocError, Global};
+use std::sync::Arc;
+
+/// What is kept of 64 pages.
+#[derive(Drop)]
+pub enum BlockRef {
+    /// Pages of this permission whose bytes are 0.
+    Uniform(u8),
+    /// A block that others may hold too. No write changes it.
+    Shared(Arc<Block, Global>),
+    /// A block of its holder's own.
+    Own(Box<Block, Global>),
+}
+
+impl BlockRef {
+    /// The permission of a page.
+    #[inline(always)]
+    pub fn permission(&self, j: usize) -> u8
+        requires { j < block_pages }
+        ensures { result ≡ ref_permission self.now j }
+    {
+        match self {
+            BlockRef::Uniform(permission) => *permission,
+            BlockRef::Shared(block) => block.permissions[j],
+            BlockRef::Own(block) => block.permissions[j],
+        }
+    }
+
+    /// What is kept of a page.
+    #[inline(always)]
+    pub fn page(&self, j: usize) -> Option<&PageRef>
+        ensures some { IfSome result (λ page. ref_page self.now j ≡ Some page.now) }
+        ensures none { IsNone result → ref_page self.now j ≡ None }
+    {
+        match self {
+            BlockRef::Uniform(_) => None,
+            BlockRef::Shared(block) => block.page(j),
+            BlockRef::Own(block) => block.page(j),
+        }
+    }
+
+    /// Makes it a block of its holder's own.
+    pub fn own(&mut self, alloc: Global) -> Result<(), AllocError>
+        ensures same { SameRef self.old self.new }
+        ensures owned { OnOk result (SameOwn self.old self.new) }
+        ensures own { OnOk result (IsOwnBlock self.new) }
+        ensures whole { AreWholeIn self.old → AreWholeIn self.new }
+        ensures err { OnErr result (self.new ≡ self.old) }
+        ensures idle { IsOwnBlock self.old → IsOk result }
+    {
+        match self {
+            BlockRef::Uniform(permission) => {
+                let block = Box::new(alloc, Block::uniform(*permission))?;
+                *self = BlockRef::Own(block);
+                Ok(())
+            }
+            BlockRef::Shared(block) => {
+                let block = copy_of(block, alloc)?;
+                *self = BlockRef::Own(block);
+                Ok(())
+            }
+            BlockRef::Own(_) => Ok(()),
+        }
+    }
+
+    /// The same pages: of a shared block another holder, of an own one a copy that shares its shared pages.
+    pub fn share(&self, alloc: Global) -> Result<BlockRef, AllocError>
+        ensures same { IfOk result (λ copy. SameRef self.now copy) }
+        ensures own { IfOk result (λ copy. SameOwn self.now copy) }
+        ensures whole { AreWholeIn self.now → IfOk result (λ copy. AreWholeIn copy) }
+    {
+        match self {
+            BlockRef::Uniform(permission) => Ok(BlockRef::Uniform(*permission)),
+            BlockRef::Shared(block) => Ok(BlockRef::Shared(Arc::try_clone(block)?)),
+            BlockRef::Own(block) => {
+                let copy = Box::new(alloc, block.share(alloc)?)?;
+                Ok(BlockRef::Own(copy))
+            }
+        }
+    }
+
+    /// Makes it one that can be shared, with all its pages. At an error, want of memory, some pages may be shared and others owned.
+    pub fn freeze(&mut self, alloc: Global) -> Result<(), AllocError>
+        ensures same { SameRef self.old self.new }
+        ensures none { OnOk result (NoneOwnIn self.new) }
+        ensures whole { AreWholeIn self.old → AreWholeIn self.new }
+    {
+        if let BlockRef::Own(block) = self {
+            block.freeze(alloc)?;
+            let shared = Arc::new(alloc, block.share(alloc)?)?;
+            *self = BlockRef::Shared(shared);
+        }
+        Ok(())
+    }
+
+    /// Owns a page too.
+    pub fn own_page(&mut self, j: usize, alloc: Global) -> Result<(), AllocError>
+        requires { j < block_pages }
+        ensures same { SameRef self.old self.new }
+        ensures owned { OnOk result (IsOwnedToo j self.old self.new) }
+        ensures whole { AreWholeIn self.old → AreWholeIn self.new }
+        ensures err { OnErr result (SameOwn self.old self.new) }
+        ensures idle { ref_own self.old j ≡ true → IsOk result }
+    {
+        self.own(alloc)?;
+        match self {
+            BlockRef::Own(block) => block.own_page(j, alloc),
+            _ => Ok(()),
+        }
+    }
+
+    /// Writes the lowest `width` bytes of `value` at an aligned place of an own page.
+    #[inline(always)]
+    pub fn write_number(&mut self, j: usize, at: u16, width: Width, value: u32)
+        requires page { j < block_pages }
+        requires own { ref_own self.old j ≡ true }
+        requires within { at < page_size }
+        requires aligned { at % width_bytes width ≡ 0 }
+        ensures { IsWrittenAt j (λ bytes. with_number_in bytes at width value) self.old self.new }
+    {
+        match self {
+            BlockRef::Own(block) => block.write_number(j, at, width, value),
+            _ => {}
+        }
+    }
+
+    /// Gives the pages from `from` to before `to` of an own block the permission.
+    pub fn permit(&mut self, from: usize, to: usize, permission: u8)
+        requires own { IsOwnBlock self.old }
+        requires rise { from ≤ to }
+        requires within { to ≤ block_pages }
+        ensures own { IsOwnBlock self.new }
+        ensures permitted { IsPermitted from to permission self.old self.new }
+    {
+        match self {
+            BlockRef::Own(block) => block.permit(from, to, permission),
+            _ => {}
+        }
+    }
+
+    /// Forgets the pages from `from` to before `to` of an own block; permissions stay.
+    pub fn clear(&mut self, from: usize, to: usize)
+        requires own { IsOwnBlock self.old }
+        requires rise { from ≤ to }
+        requires within { to ≤ block_pages }
+        ensures own { IsOwnBlock self.new }
+        ensures cleared { IsCleared from to self.old self.new }
+    {
+        match self {
+            BlockRef::Own(block) => block.clear(from, to),
+            _ => {}
+        }
+    }
+
+    /// The least page from `from` on that has a permission or a byte other than 0.
+    pub fn next_used(&self, from: usize) -> Option<usize>
+        requires { from < block_pages }
+        ensures from { IfSome result (λ j. from ≤ j) }
+        ensures within { IfSome result (λ j. j < block_pages) }
+        ensures used { IfSome result (λ j. IsBlankAt self.now j → ⊥) }
+        ensures least { IfSome result (λ j. (i : ℕ) → from ≤ i → i < j → IsBlankAt self.now i) }
+        ensures none { IsNone result → (i : ℕ) → from ≤ i → i < block_pages → IsBlankAt self.now i }
+    {
+        match self {
+            BlockRef::Uniform(permission) => { if *permission == 0 { None } else { Some(from) } }
+            BlockRef::Shared(block) => block.next_used(from),
+            BlockRef::Own(block) => block.next_used(from),
+        }
+    }
+}
+
+// A block of the same pages, none of which is an own one.
+fn copy_of(block: &Block, alloc: Global) -> Result<Box<Block, Global>, AllocError>
+    ensures same { IfOk result (λ copy. SameBytes block.now copy.value) }
+    ensures none { IfOk result (λ copy. NoneOwn copy.value) }
+    ensures whole { IfOk result (λ copy. AreWhole copy.value) }
+{
+    let mut copy = block.share(alloc)?;
+    copy.freeze(alloc)?;
+    let copy = Box::new(alloc, copy)?;
+    Ok(copy)
+}

@@ -1,0 +1,149 @@
+ghost use Rattle.std.specs.Prelude.{◌≡◌, ℕ, ◌+◌, ◌%◌, ◌<◌, ◌≤◌, cond, IfOk, IsOk, OnOk, OnErr, IfSome, IsNone, false, true};
+ghost use Rattle.memory_model.specs.Memory.{width_bytes};
+ghost use Rattle.memory_model.specs.Sizes.{page_size};
+ghost use Rattle.page_store.specs.Bytes.{with_number_in};
+ghost use Rattle.page_tree.specs.Branches.{branch_pages, SameBelow, NoneOwnBelow, AreWholeBelow};
+ghost use Rattle.page_tree.specs.BranchRefs.{limb_permission, limb_page, limb_own, IsOwnBranch, AreWholeLimb, SameLimb, SameOwnLimb, NoneOwnLimb, IsOwnedLimb, IsWrittenLimb};
+
+use crate::branch::Branch;
+use memory_model::Width;
+use page_store::PageRef;
+use std::alloc::{AllocError, Global};
+use std::sync::Arc;
+
+/// What is kept of 8,192 pages.
+#[derive(Drop)]
+pub enum BranchRef {
+    /// Pages of this permission whose bytes are 0.
+    Uniform(u8),
+    /// A branch that others may hold too. No write changes it.
+    Shared(Arc<Branch, Global>),
+    /// A branch of its holder's own.
+    Own(Box<Branch, Global>),
+}
+
+impl BranchRef {
+    /// The permission of a page.
+    #[inline(always)]
+    pub fn permission(&self, j: usize) -> u8
+        requires { j < branch_pages }
+        ensures { result ≡ limb_permission self.now j }
+    {
+        match self {
+            BranchRef::Uniform(permission) => *permission,
+            BranchRef::Shared(branch) => branch.permission(j),
+            BranchRef::Own(branch) => branch.permission(j),
+        }
+    }
+
+    /// What is kept of a page.
+    #[inline(always)]
+    pub fn page(&self, j: usize) -> Option<&PageRef>
+        requires { j < branch_pages }
+        ensures some { IfSome result (λ page. limb_page self.now j ≡ Some page.now) }
+        ensures none { IsNone result → limb_page self.now j ≡ None }
+    {
+        match self {
+            BranchRef::Uniform(_) => None,
+            BranchRef::Shared(branch) => branch.page(j),
+            BranchRef::Own(branch) => branch.page(j),
+        }
+    }
+
+    /// Makes it a branch of its holder's own.
+    pub fn own(&mut self, alloc: Global) -> Result<(), AllocError>
+        ensures same { SameLimb self.old self.new }
+        ensures owned { OnOk result (SameOwnLimb self.old self.new) }
+        ensures own { OnOk result (IsOwnBranch self.new) }
+        ensures whole { AreWholeLimb self.old → AreWholeLimb self.new }
+        ensures err { OnErr result (self.new ≡ self.old) }
+        ensures idle { IsOwnBranch self.old → IsOk result }
+    {
+        match self {
+            BranchRef::Uniform(permission) => {
+                let branch = Box::new(alloc, Branch::uniform(*permission))?;
+                *self = BranchRef::Own(branch);
+                Ok(())
+            }
+            BranchRef::Shared(branch) => {
+                let branch = copy_of(branch, alloc)?;
+                *self = BranchRef::Own(branch);
+                Ok(())
+            }
+            BranchRef::Own(_) => Ok(()),
+        }
+    }
+
+    /// The same pages: of a shared branch another holder, of an own one a copy that shares its shared pages.
+    pub fn share(&self, alloc: Global) -> Result<BranchRef, AllocError>
+        ensures same { IfOk result (λ copy. SameLimb self.now copy) }
+        ensures own { IfOk result (λ copy. SameOwnLimb self.now copy) }
+        ensures whole { AreWholeLimb self.now → IfOk result (λ copy. AreWholeLimb copy) }
+    {
+        match self {
+            BranchRef::Uniform(permission) => Ok(BranchRef::Uniform(*permission)),
+            BranchRef::Shared(branch) => Ok(BranchRef::Shared(Arc::try_clone(branch)?)),
+            BranchRef::Own(branch) => {
+                let copy = Box::new(alloc, branch.share(alloc)?)?;
+                Ok(BranchRef::Own(copy))
+            }
+        }
+    }
+
+    /// Makes it one that can be shared, with all its pages. At an error, want of memory, some pages may be shared and others owned.
+    pub fn freeze(&mut self, alloc: Global) -> Result<(), AllocError>
+        ensures same { SameLimb self.old self.new }
+        ensures none { OnOk result (NoneOwnLimb self.new) }
+        ensures whole { AreWholeLimb self.old → AreWholeLimb self.new }
+    {
+        if let BranchRef::Own(branch) = self {
+            branch.freeze(alloc)?;
+            let shared = Arc::new(alloc, branch.share(alloc)?)?;
+            *self = BranchRef::Shared(shared);
+        }
+        Ok(())
+    }
+
+    /// Owns a page too.
+    pub fn own_page(&mut self, j: usize, alloc: Global) -> Result<(), AllocError>
+        requires { j < branch_pages }
+        ensures same { SameLimb self.old self.new }
+        ensures owned { OnOk result (IsOwnedLimb j self.old self.new) }
+        ensures whole { AreWholeLimb self.old → AreWholeLimb self.new }
+        ensures err { OnErr result (SameOwnLimb self.old self.new) }
+        ensures idle { limb_own self.old j ≡ true → IsOk result }
+    {
+        self.own(alloc)?;
+        match self {
+            BranchRef::Own(branch) => branch.own_page(j, alloc),
+            _ => Ok(()),
+        }
+    }
+
+    /// Writes the lowest `width` bytes of `value` at an aligned place of an own page.
+    #[inline(always)]
+    pub fn write_number(&mut self, j: usize, at: u16, width: Width, value: u32)
+        requires page { j < branch_pages }
+        requires own { limb_own self.old j ≡ true }
+        requires within { at < page_size }
+        requires aligned { at % width_bytes width ≡ 0 }
+        ensures { IsWrittenLimb j (λ bytes. with_number_in bytes at width value) self.old self.new }
+    {
+        match self {
+            BranchRef::Own(branch) => branch.write_number(j, at, width, value),
+            _ => {}
+        }
+    }
+}
+
+// A branch of the same pages, none of which is an own one.
+fn copy_of(branch: &Branch, alloc: Global) -> Result<Box<Branch, Global>, AllocError>
+    ensures same { IfOk result (λ copy. SameBelow branch.now copy.value) }
+    ensures none { IfOk result (λ copy. NoneOwnBelow copy.value) }
+    ensures whole { AreWholeBelow branch.now → IfOk result (λ copy. AreWholeBelow copy.value) }
+{
+    let mut copy = branch.share(alloc)?;
+    copy.freeze(alloc)?;
+    let copy = Box::new(alloc, copy)?;
+    Ok(copy)
+}

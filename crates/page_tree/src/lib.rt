@@ -1,0 +1,14 @@
+//! Pages of a memory with their permissions, in a tree of three levels whose parts can be shared.
+#![tactic(auto)]
+
+mod block;
+mod block_ref;
+mod branch;
+mod branch_ref;
+mod tree;
+
+pub use block::{BLOCK_PAGES, Block};
+pub use block_ref::BlockRef;
+pub use branch::{BLOCKS, Branch};
+pub use branch_ref::BranchRef;
+pub use tree::{BRANCHES, Tree};
