@@ -53,7 +53,7 @@ fn below(space: &Space, numbers: &[u16]) -> [u32; 4] {
                 Some(memory) => u32::from(memory.byte(0x2000)),
                 None => 99,
             };
-            let children = found.children.len() as u32;
+            let children = found.children.len().min(99) as u32;
             [found.top.fuel, found.top.used, snapshot, children]
         }
         None => [77; 4],

@@ -98,25 +98,22 @@ pub fn at_depth(alloc: Global, space: Space, depth: u8) -> Result<Space, AllocEr
     Ok(whole)
 }
 
-// What is seen of a state: the number of its cause and its value, 22 and 0 where it runs; pc, a0 to a3, and its two bytes.
+// The number of the cause and the value with which a space has stopped; 22 and 0 where it runs.
+fn stop_of(status: Status) -> [u32; 2] {
+    match status {
+        Status::Running => [22, 0],
+        Status::Stopped { cause, value } => [cause_number(cause), value],
+    }
+}
+
+// What is seen of a state: how it has stopped, pc, a0 to a3, and its two bytes.
 pub fn seen(top: &Top) -> [u32; 9] {
-    let (cause, value) = match top.status {
-        Status::Running => (22, 0),
-        Status::Stopped { cause, value } => (cause_number(cause), value),
-    };
-    let x = &top.registers.x;
-    let bytes = [top.memory.byte(0x2000), top.memory.byte(0x2001)];
-    [
-        cause,
-        value,
-        top.registers.pc,
-        x[10],
-        x[11],
-        x[12],
-        x[13],
-        u32::from(bytes[0]),
-        u32::from(bytes[1]),
-    ]
+    let [cause, value] = stop_of(top.status);
+    let pc = top.registers.pc;
+    let x = top.registers.x;
+    let first = u32::from(top.memory.byte(0x2000));
+    let second = u32::from(top.memory.byte(0x2001));
+    [cause, value, pc, x[10], x[11], x[12], x[13], first, second]
 }
 
 // Whether the event happened; the caller; its child, how much of its fuel is used, the first byte of its snapshot (99 where
@@ -135,7 +132,11 @@ fn outcome_of(happened: bool, space: &Space) -> Outcome {
                 Some(memory) => u32::from(memory.byte(0x2000)),
                 None => 99,
             };
-            let rest = [child.top.used, snapshot, child.children.len() as u32];
+            let rest = [
+                child.top.used,
+                snapshot,
+                child.children.len().min(99) as u32,
+            ];
             Some((seen(&child.top), rest))
         }
         None => None,
