@@ -2,7 +2,7 @@
 -- Source: OSDI 2010, "Efficient System-Enforced Deterministic Parallelism", the section on reconciling memory: Merge copies the bytes
 -- that the child changed since its snapshot, and a byte that both sides changed is a conflict.
 -- Our choice: a byte is changed where it differs from the snapshot's, so equal new values are in conflict too.
-use Rattle.std.specs.Prelude.{◌≡◌, ℕ, ◌<◌, ◌==◌, Bool, true, false, not, ◌&&◌, if◌then◌else◌, List, slice_index}
+use Rattle.std.specs.Prelude.{◌≡◌, ℕ, ◌<◌, ◌≤◌, ◌==◌, Bool, true, false, not, ◌&&◌, if◌then◌else◌, List, slice_index}
 use Rattle.memory_model.specs.Sizes.{page_size}
 
 -- the byte at an offset is another than in the snapshot
@@ -21,6 +21,10 @@ merged_byte snapshot child parent k = if is_changed snapshot child k then slice_
 abbrev pub NoneInConflict : List ℕ → List ℕ → List ℕ → ℕ → Type 0
 NoneInConflict snapshot child parent end = (k : ℕ) → k < end → is_conflict snapshot child parent k ≡ false
 
+-- no offset from one to before another is in conflict
+abbrev pub NoneInConflictFrom : List ℕ → List ℕ → List ℕ → ℕ → ℕ → Type 0
+NoneInConflictFrom snapshot child parent from end = (k : ℕ) → from ≤ k → k < end → is_conflict snapshot child parent k ≡ false
+
 -- the least offset of a page that is in conflict
 pub record IsFirstConflict (snapshot child parent : List ℕ) (k : ℕ) : Type 0 where
   pub within : k < page_size
@@ -30,3 +34,7 @@ pub record IsFirstConflict (snapshot child parent : List ℕ) (k : ℕ) : Type 0
 -- each offset of a page before one has the merged byte
 abbrev pub IsMergeBelow : List ℕ → List ℕ → List ℕ → List ℕ → ℕ → Type 0
 IsMergeBelow snapshot child parent merged end = (k : ℕ) → k < end → slice_index merged k ≡ merged_byte snapshot child parent k
+
+-- two lists have the same bytes at the offsets from one to before another
+abbrev pub SameFrom : List ℕ → List ℕ → ℕ → ℕ → Type 0
+SameFrom a b from end = (k : ℕ) → from ≤ k → k < end → slice_index a k ≡ slice_index b k
