@@ -7,10 +7,16 @@ mod calls;
 #[cfg(test)]
 mod decoding;
 #[cfg(test)]
+mod dirty_pages;
+#[cfg(test)]
 mod instructions;
 #[cfg(test)]
 mod memories;
 #[cfg(test)]
 mod merges;
 #[cfg(test)]
+mod page_ranges;
+#[cfg(test)]
 mod pages;
+#[cfg(test)]
+mod sharing;

@@ -158,7 +158,7 @@ fn assert_own_page(rt: &impl Abort, mem: &Mem) {
 }
 
 fn put_seven(alloc: Global, mem: &mut Mem) -> Result<(), AllocError> {
-    let mut page = PageRef::zeroed(alloc)?;
+    let mut page = PageRef::zeros(alloc)?;
     page.write_byte(alloc, 1, 7)?;
     mem.put_page(10, page)
 }

@@ -1,3 +1,5 @@
+ghost use Rattle.space_mem.specs.Held.{Covers};
+
 use memory_model::PAGE_SIZE;
 use merge3::merge_page;
 use snapshot::{MergeError, merge, take};
@@ -93,7 +95,8 @@ fn write_each(mem: &mut Mem, writes: &[(u32, u8)]) -> Result<(), AllocError> {
     Ok(())
 }
 
-fn range(pages: [u32; 2]) -> Option<Pages> {
+// So many pages from one on, where the memory has them.
+pub(crate) fn range(pages: [u32; 2]) -> Option<Pages> {
     let [first, count] = pages;
     if first <= 1048576 && count <= 1048576 - first {
         Some(Pages { first, count })
@@ -102,17 +105,39 @@ fn range(pages: [u32; 2]) -> Option<Pages> {
     }
 }
 
+// A child and its snapshot. Outside of its dirty pages the child has the snapshot's bytes.
+#[derive(Drop)]
+struct Forked {
+    child: Mem,
+    snapshot: Mem,
+    ghost covers: { Covers child snapshot.memory },
+}
+
+// A child of a memory, which is equal to it.
+fn fork(parent: &mut Mem) -> Result<Forked, AllocError> {
+    let mut child = parent.frozen()?;
+    let snapshot = take(&mut child)?;
+    Ok(Forked { child, snapshot })
+}
+
+#[tactic(auto, using(space_mem::proofs::Dirty::covers_after))]
+fn write_in_child(forked: &mut Forked, at: u32, byte: u8) -> Result<(), AllocError> {
+    forked.child.write(at, byte)
+}
+
+fn write_each_in_child(forked: &mut Forked, writes: &[(u32, u8)]) -> Result<(), AllocError> {
+    for (at, byte) in writes {
+        write_in_child(forked, *at, *byte)?;
+    }
+    Ok(())
+}
+
 // The address in conflict.
-fn conflict(
-    parent: &mut Mem,
-    child: &Mem,
-    snapshot: &Mem,
-    pages: [u32; 2],
-) -> Result<Option<u32>, MergeError> {
+fn conflict(parent: &mut Mem, forked: &Forked, pages: [u32; 2]) -> Result<Option<u32>, MergeError> {
     let Some(range) = range(pages) else {
         return Ok(None);
     };
-    match merge(parent, child, snapshot, range) {
+    match merge(parent, &forked.child, &forked.snapshot, range) {
         Ok(()) => Ok(None),
         Err(MergeError::Conflict { addr }) => Ok(Some(addr)),
         Err(MergeError::Memory) => Err(MergeError::Memory),
@@ -122,11 +147,10 @@ fn conflict(
 fn merged(alloc: Global, row: &Row) -> Result<(Option<u32>, [u8; 4]), MergeError> {
     let mut parent = Mem::new(alloc);
     write_each(&mut parent, row.before)?;
-    let snapshot = take(&mut parent)?;
-    let mut child = take(&mut parent)?;
-    write_each(&mut child, row.child)?;
+    let mut forked = fork(&mut parent)?;
+    write_each_in_child(&mut forked, row.child)?;
     write_each(&mut parent, row.parent)?;
-    let conflict = conflict(&mut parent, &child, &snapshot, row.pages)?;
+    let conflict = conflict(&mut parent, &forked, row.pages)?;
     Ok((conflict, row.at.map(|at| parent.byte(at))))
 }
 
@@ -254,12 +278,25 @@ fn lost(alloc: Global) -> Result<[(u8, u8); 3], MergeError> {
     let mut parent = Mem::new(alloc);
     parent.write(0x2004, 5)?;
     parent.set_perm(two, 3)?;
-    let snapshot = take(&mut parent)?;
-    let mut child = take(&mut parent)?;
-    child.zero(two)?;
-    child.set_perm(two, 1)?;
-    merge(&mut parent, &child, &snapshot, two)?;
-    Ok([shown(&snapshot), shown(&child), shown(&parent)])
+    let mut forked = fork(&mut parent)?;
+    zero_in_child(&mut forked, two)?;
+    permit_in_child(&mut forked, two)?;
+    merge(&mut parent, &forked.child, &forked.snapshot, two)?;
+    Ok([
+        shown(&forked.snapshot),
+        shown(&forked.child),
+        shown(&parent),
+    ])
+}
+
+#[tactic(auto, using(space_mem::proofs::Dirty::covers_after))]
+fn zero_in_child(forked: &mut Forked, pages: Pages) -> Result<(), AllocError> {
+    forked.child.zero(pages)
+}
+
+#[tactic(auto, using(space_mem::proofs::Dirty::covers_after))]
+fn permit_in_child(forked: &mut Forked, pages: Pages) -> Result<(), AllocError> {
+    forked.child.set_perm(pages, 1)
 }
 
 fn shown(mem: &Mem) -> (u8, u8) {

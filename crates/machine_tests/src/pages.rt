@@ -22,9 +22,10 @@ fn assert_written(rt: &impl Abort, page: &PageRef, other: &PageRef) {
 #[test]
 fn pages(rt: HostRuntime) -> Result<(), Fail> {
     let alloc = rt.alloc();
-    let mut page = PageRef::zeroed(alloc)?;
+    let mut page = PageRef::zeros(alloc)?;
     assert!(rt; page.is_zero());
-    let other = page.copied(alloc)?;
+    let mut other = page.share(alloc)?;
+    other.own(alloc)?;
     write(alloc, &mut page)?;
     assert_written(&rt, &page, &other);
     Ok(())
@@ -32,7 +33,7 @@ fn pages(rt: HostRuntime) -> Result<(), Fail> {
 
 // Two holders of a page of zeros, after 1 was written at 0 by the first.
 fn shared_then_written(alloc: Global) -> Result<(PageRef, PageRef), AllocError> {
-    let mut page = PageRef::zeroed(alloc)?;
+    let mut page = PageRef::zeros(alloc)?;
     page.freeze(alloc)?;
     let other = page.share(alloc)?;
     page.write_byte(alloc, 0, 1)?;

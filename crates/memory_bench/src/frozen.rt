@@ -1,5 +1,6 @@
 ghost use Rattle.std.specs.Prelude.{◌<◌, ◌≤◌, ◌*◌};
 
+use snapshot::take;
 use space_mem::{Mem, Pages};
 use std::alloc::{AllocError, Global};
 use std::io;
@@ -9,19 +10,18 @@ use std::time::{Duration, Instant};
 /// How many small memories are measured at once.
 pub const SMALL: u32 = 1000;
 
-// Writes so many of the first pages, far from one another.
+// Writes so many times to the first pages, far from one another: to so many pages, where there are so many.
 fn write_spread(mem: &mut Mem, pages: u32, written: u32) -> Result<(), AllocError>
-    requires some { 0 < written }
-    requires within { pages ≤ 1048576 }
+    requires { 0 < written }
 {
     for place in 0..written {
-        let page = (pages / written).wrapping_mul(place) % 1048576;
+        let page = pages.wrapping_mul(place) / written % 1048576;
         mem.write(4096 * page, 2)?;
     }
     Ok(())
 }
 
-/// The times of `frozen` of a memory of so many pages, of which some were written since it was frozen last, and of the first write
+/// The times of `frozen` of a memory of so many pages, of which some were written since a snapshot was taken, and of the first write
 /// behind it.
 pub fn frozen_after(
     rt: &impl Clock,
@@ -29,10 +29,9 @@ pub fn frozen_after(
     pages: u32,
     written: u32,
 ) -> io::Result<(Duration, Duration)>
-    requires some { 0 < written }
-    requires within { pages ≤ 1048576 }
+    requires { 0 < written }
 {
-    mem.freeze()?;
+    let _snapshot = take(mem)?;
     write_spread(mem, pages, written)?;
     let start = Instant::now(rt)?;
     let _frozen = mem.frozen()?;

@@ -3,11 +3,11 @@ ghost use Rattle.memory_model.specs.Memory.{no_memory, with_permissions};
 
 use crate::accesses::{Access, pass};
 use crate::frozen::{SMALL, frozen_after, small_memories};
-use crate::merges::{MERGED, child_of, time_of_compare, time_of_merge};
-use crate::touches::{PERMITTED, PageOrder, TOUCHED, permits, touches};
+use crate::merges::{child_of, time_of_compare, time_of_merge};
+use crate::page_merges::{Difference, MERGED, time_of_pages};
+use crate::touches::{PageOrder, TOUCHED, permits, touches};
 use crate::walks::{Order, WALK, WordAddress, walk};
 use crate::whole::{Call, time_of};
-use snapshot::take;
 use space_mem::{Mem, Pages};
 use std::alloc::{AllocError, Global};
 use std::io;
@@ -38,7 +38,7 @@ fn print_line(
     best: Duration,
 ) -> io::Result<()> {
     let nanoseconds = best.as_secs_f64() * 1e9 / operations as f64;
-    println!(rt; "{what:<18} {pages:>6} {operations:>10} {nanoseconds:>14.2}")
+    println!(rt; "{what:<18} {pages:>7} {operations:>10} {nanoseconds:>14.2}")
 }
 
 // The best time of a pass. The numbers that the passes gave are added to `sum`.
@@ -112,25 +112,44 @@ fn calls(
     Ok(())
 }
 
-// Measures a merge of pages of which a child changed ten, and beside it the plain comparison of each page with its snapshot's.
-fn merges(rt: &(impl Clock + Print), alloc: Global, rounds: u32) -> io::Result<u32> {
-    let mut mem = memory_of(alloc, MERGED)?;
-    let snapshot = take(&mut mem)?;
-    let child = child_of(&mut mem)?;
+// Measures a merge of so many pages of which a child changed ten, and beside it the plain comparison of each page with its
+// snapshot's. The number that it gives depends on each comparison.
+fn merges_of(rt: &(impl Clock + Print), alloc: Global, rounds: u32, pages: u32) -> io::Result<u32>
+    requires { pages ≤ 1048576 }
+{
+    let mut mem = memory_of(alloc, pages)?;
+    let forked = child_of(&mut mem, pages)?;
     let mut sum: u32 = 0;
-    let mut best_compare = Duration::MAX;
-    let mut best_merge = Duration::MAX;
+    let mut best = (Duration::MAX, Duration::MAX);
     for _round in 0..rounds {
-        best_compare = best_compare.min(time_of_compare(rt, &child, &snapshot, &mut sum)?);
-        let mut parent = take(&mut mem)?;
-        best_merge = best_merge.min(time_of_merge(rt, &mut parent, &child, &snapshot)?);
+        let compare = time_of_compare(rt, &forked, pages, &mut sum)?;
+        let mut parent = mem.frozen()?;
+        let merge = time_of_merge(rt, &mut parent, &forked, pages)?;
+        best = (best.0.min(compare), best.1.min(merge));
     }
-    print_line(rt, "compare, a page", MERGED, MERGED, best_compare)?;
-    print_line(rt, "merge, a page", MERGED, MERGED, best_merge)?;
+    print_line(rt, "compare, a page", pages, pages, best.0)?;
+    print_line(rt, "merge, 10 dirty", pages, 1, best.1)?;
     Ok(sum)
 }
 
-// Measures `frozen`, and the first write behind it, by how many pages were written since it was frozen last.
+// Measures the merge of one page.
+fn page_merges(rt: &(impl Clock + Print), rounds: u32) -> io::Result<u32> {
+    let mut sum: u32 = 0;
+    for (what, difference) in [
+        ("page, nothing", Difference::Nothing),
+        ("page, one byte", Difference::OneByte),
+        ("page, every byte", Difference::EveryByte),
+    ] {
+        let mut best = Duration::MAX;
+        for _round in 0..rounds {
+            best = best.min(time_of_pages(rt, difference, &mut sum)?);
+        }
+        print_line(rt, what, 1, MERGED, best)?;
+    }
+    Ok(sum)
+}
+
+// Measures `frozen`, and the first write behind it, by how many pages were written since a snapshot was taken.
 fn freezes(rt: &(impl Clock + Print), alloc: Global, rounds: u32) -> io::Result<()> {
     for pages in [10, 1000, 65536] {
         let mut mem = memory_of(alloc, pages)?;
@@ -157,8 +176,10 @@ fn orders(rt: &(impl Clock + Print), alloc: Global) -> io::Result<()> {
     ] {
         let time = touches(rt, alloc, order)?;
         print_line(rt, touching, TOUCHED, TOUCHED, time)?;
-        let time = permits(rt, alloc, order)?;
-        print_line(rt, permitting, PERMITTED, PERMITTED, time)?;
+        for count in [100000, 1000000] {
+            let time = permits(rt, alloc, order, count)?;
+            print_line(rt, permitting, count, count, time)?;
+        }
     }
     Ok(())
 }
@@ -180,17 +201,20 @@ fn smalls(rt: &(impl Clock + Print), alloc: Global, rounds: u32) -> io::Result<(
 }
 
 /// Measures memories of 9, 1,000 and 10,000 pages that may be read and written, and prints a line for each operation: what, how many
-/// pages, how many operations a round has, and the nanoseconds of one in the best of the rounds. A merge, small memories and `frozen` follow,
+/// pages, how many operations a round has, and the nanoseconds of one in the best of the rounds. Merges, small memories and `frozen` follow,
 /// and last, measured once, first writes and permissions in several orders.
 pub fn all(rt: &(impl Clock + Print), alloc: Global, rounds: u32) -> io::Result<()> {
-    println!(rt; "what                pages operations ns an operation")?;
+    println!(rt; "what                 pages operations ns an operation")?;
     let mut sum: u32 = 0;
     for pages in [9, 1000, 10000] {
         let mut mem = memory_of(alloc, pages)?;
         sum = sum.wrapping_add(passes(rt, alloc, rounds, pages, &mut mem)?);
         calls(rt, alloc, rounds, pages, &mut mem)?;
     }
-    sum = sum.wrapping_add(merges(rt, alloc, rounds)?);
+    for pages in [100, 65536] {
+        sum = sum.wrapping_add(merges_of(rt, alloc, rounds, pages)?);
+    }
+    sum = sum.wrapping_add(page_merges(rt, rounds)?);
     smalls(rt, alloc, rounds)?;
     freezes(rt, alloc, rounds)?;
     orders(rt, alloc)?;

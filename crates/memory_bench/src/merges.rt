@@ -1,3 +1,6 @@
+ghost use Rattle.std.specs.Prelude.{◌≤◌};
+ghost use Rattle.space_mem.specs.Held.{Covers};
+
 use snapshot::{merge, take};
 use space_mem::{Mem, Pages};
 use std::alloc::AllocError;
@@ -5,23 +8,44 @@ use std::io;
 use std::rt::Clock;
 use std::time::{Duration, Instant};
 
-/// How many pages are merged.
-pub const MERGED: u32 = 4096;
-
-/// A child of a memory that has changed a byte in ten of the pages.
-pub fn child_of(parent: &mut Mem) -> Result<Mem, AllocError> {
-    let mut child = take(parent)?;
-    for number in 0..10 {
-        child.write(400 * 4096 * number + 8, 1)?;
-    }
-    Ok(child)
+/// A child and its snapshot. Outside of its dirty pages the child has the snapshot's bytes.
+#[derive(Drop)]
+pub struct Forked {
+    child: Mem,
+    snapshot: Mem,
+    ghost covers: { Covers child snapshot.memory },
 }
 
-// How many of the pages have the same bytes.
-fn same_pages(child: &Mem, snapshot: &Mem) -> u32 {
+impl Forked {
+    // A child of a memory, which is equal to it.
+    fn of(parent: &mut Mem) -> Result<Forked, AllocError> {
+        let mut child = parent.frozen()?;
+        let snapshot = take(&mut child)?;
+        Ok(Forked { child, snapshot })
+    }
+
+    #[tactic(auto, using(space_mem::proofs::Dirty::covers_after))]
+    fn write(&mut self, at: u32) -> Result<(), AllocError> {
+        self.child.write(at, 1)
+    }
+}
+
+/// A child of a memory that has changed a byte in ten of so many pages, far from one another.
+pub fn child_of(parent: &mut Mem, pages: u32) -> Result<Forked, AllocError> {
+    let mut forked = Forked::of(parent)?;
+    for place in 0..10 {
+        let page = (pages / 10).wrapping_mul(place) % 1048576;
+        forked.write(4096 * page + 8)?;
+    }
+    Ok(forked)
+}
+
+// How many of the first pages have the same bytes.
+fn same_pages(forked: &Forked, pages: u32) -> u32 {
     let mut same: u32 = 0;
-    for number in 0..MERGED {
-        if let (Some(page), Some(before)) = (child.page(number), snapshot.page(number)) {
+    for number in 0..pages {
+        let before = forked.snapshot.page(number);
+        if let (Some(page), Some(before)) = (forked.child.page(number), before) {
             if page.has_bytes_of(before) {
                 same = same.wrapping_add(1);
             }
@@ -30,33 +54,35 @@ fn same_pages(child: &Mem, snapshot: &Mem) -> u32 {
     same
 }
 
-/// The time in which each page of a child is compared with that of its snapshot. How many are the same is added to `sum`.
+/// The time in which each of so many pages of a child is compared with that of its snapshot. How many are the same is added to `sum`.
 pub fn time_of_compare(
     rt: &impl Clock,
-    child: &Mem,
-    snapshot: &Mem,
+    forked: &Forked,
+    pages: u32,
     sum: &mut u32,
 ) -> io::Result<Duration> {
     let start = Instant::now(rt)?;
-    let same = same_pages(child, snapshot);
+    let same = same_pages(forked, pages);
     let time = start.elapsed(rt)?;
     *sum = sum.wrapping_add(same);
     Ok(time)
 }
 
-/// The time of one merge. One that fails has the longest time that there is.
+/// The time of one merge of so many pages. One that fails has the longest time that there is.
 pub fn time_of_merge(
     rt: &impl Clock,
     parent: &mut Mem,
-    child: &Mem,
-    snapshot: &Mem,
-) -> io::Result<Duration> {
-    let pages = Pages {
+    forked: &Forked,
+    pages: u32,
+) -> io::Result<Duration>
+    requires { pages ≤ 1048576 }
+{
+    let range = Pages {
         first: 0,
-        count: MERGED,
+        count: pages,
     };
     let start = Instant::now(rt)?;
-    let merged = merge(parent, child, snapshot, pages);
+    let merged = merge(parent, &forked.child, &forked.snapshot, range);
     let time = start.elapsed(rt)?;
     Ok(if merged.is_ok() { time } else { Duration::MAX })
 }

@@ -18,9 +18,6 @@ pub enum PageOrder {
 /// How many pages are written for the first time.
 pub const TOUCHED: u32 = 131072;
 
-/// How many pages are given a permission, every other one.
-pub const PERMITTED: u32 = 100000;
-
 // The page that comes at a place; both lie below the count.
 fn page_at(order: PageOrder, place: u32, count: u32) -> u32
     requires { place < count }
@@ -40,10 +37,13 @@ fn touch_each(mem: &mut Mem, order: PageOrder) -> Result<(), AllocError> {
     Ok(())
 }
 
-fn permit_each(mem: &mut Mem, order: PageOrder) -> Result<(), AllocError> {
-    for place in 0..PERMITTED {
+// Gives every other page a permission, and then those between them, until so many have one.
+fn permit_each(mem: &mut Mem, order: PageOrder, count: u32) -> Result<(), AllocError>
+    requires { count ≤ 1048576 }
+{
+    for place in 0..count {
         let page = Pages {
-            first: 2 * page_at(order, place, PERMITTED),
+            first: 2 * page_at(order, place, count) % 1048575,
             count: 1,
         };
         mem.set_perm(page, 3)?;
@@ -59,10 +59,12 @@ pub fn touches(rt: &impl Clock, alloc: Global, order: PageOrder) -> io::Result<D
     start.elapsed(rt)
 }
 
-/// The time to give every other page, `PERMITTED` of them, a permission in an empty memory.
-pub fn permits(rt: &impl Clock, alloc: Global, order: PageOrder) -> io::Result<Duration> {
+/// The time to give every other page a permission in an empty memory, so many of them. Past the last page those between them follow.
+pub fn permits(rt: &impl Clock, alloc: Global, order: PageOrder, count: u32) -> io::Result<Duration>
+    requires { count ≤ 1048576 }
+{
     let mut mem = Mem::new(alloc);
     let start = Instant::now(rt)?;
-    permit_each(&mut mem, order)?;
+    permit_each(&mut mem, order, count)?;
     start.elapsed(rt)
 }

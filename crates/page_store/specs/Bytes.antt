@@ -30,5 +30,5 @@ with_number_in bytes at Two v = slice_set (slice_set bytes at (v % 256)) (at + 1
 with_number_in bytes at Four v = slice_set (slice_set (slice_set (slice_set bytes at (v % 256)) (at + 1) (v / 256 % 256)) (at + 2) (v / 65536 % 256)) (at + 3) (v / 16777216 % 256)
 
 -- these bytes from a place of a page on, between what stands before and after them
-abbrev pub overwritten : List ℕ → ℕ → List ℕ → List ℕ
-overwritten page at bytes = take at page ++ (bytes ++ drop (at + length bytes) page)
+abbrev pub with_bytes_in : List ℕ → ℕ → List ℕ → List ℕ
+with_bytes_in page at bytes = take at page ++ (bytes ++ drop (at + length bytes) page)

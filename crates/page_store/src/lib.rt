@@ -2,7 +2,7 @@
 #![tactic(auto)]
 
 ghost use Rattle.std.specs.Prelude.{◌≡◌, ◌↔◌, ℕ, ◌<◌, ◌+◌, ◌%◌, ◌≤◌, IfOk, IsOk, IsTrue, OnOk, OnErr, length, slice_index, slice_set, true, false};
-ghost use Rattle.page_store.specs.Bytes.{bytes_of, is_own, IsPage, with_number_in, overwritten};
+ghost use Rattle.page_store.specs.Bytes.{bytes_of, is_own, IsPage, with_number_in, with_bytes_in};
 ghost use Rattle.memory_model.specs.Memory.{number_from, width_bytes};
 ghost use Rattle.memory_model.specs.Sizes.{page_size};
 
@@ -29,7 +29,7 @@ pub enum PageRef {
 
 impl PageRef {
     /// An own page of zeros. Its one error is want of memory.
-    pub fn zeroed(alloc: Global) -> Result<PageRef, AllocError>
+    pub fn zeros(alloc: Global) -> Result<PageRef, AllocError>
         ensures zeros { IfOk result (λ page. (k : ℕ) → slice_index (bytes_of page) k ≡ 0) }
         ensures whole { IfOk result (λ page. IsPage (bytes_of page)) }
         ensures own { IfOk result (λ page. is_own page ≡ true) }
@@ -75,21 +75,6 @@ impl PageRef {
             PageRef::Shared(page) => Ok(PageRef::Shared(Arc::try_clone(page)?)),
             PageRef::Own(page) => Ok(PageRef::Own(copy_of(page, alloc)?)),
         }
-    }
-
-    /// An own page of the same bytes. Its one error is want of memory.
-    pub fn copied(&self, alloc: Global) -> Result<PageRef, AllocError>
-        ensures bytes { IfOk result (λ page. bytes_of page ≡ bytes_of self.now) }
-        ensures whole { IfOk result (λ page. IsPage (bytes_of page)) }
-        ensures own { IfOk result (λ page. is_own page ≡ true) }
-    {
-        let copy = match self {
-            PageRef::Shared(page) => copy_of(page, alloc)?,
-            PageRef::Own(page) => copy_of(page, alloc)?,
-        };
-        let copy = PageRef::Own(copy);
-        let _bytes = copy.bytes();
-        Ok(copy)
     }
 
     /// Makes it an own page of the same bytes. An own one takes no memory. The one error is want of memory: it is as it was then.
@@ -169,7 +154,7 @@ impl PageRef {
     /// one error is want of memory: it is as it was then.
     pub fn write_bytes(&mut self, alloc: Global, at: u16, bytes: &[u8]) -> Result<(), AllocError>
         requires { at + length bytes.now ≤ page_size }
-        ensures ok { OnOk result (bytes_of self.new ≡ overwritten (bytes_of self.old) at bytes.now) }
+        ensures ok { OnOk result (bytes_of self.new ≡ with_bytes_in (bytes_of self.old) at bytes.now) }
         ensures owned { OnOk result (is_own self.new ≡ true) }
         ensures err { OnErr result (self.new ≡ self.old) }
         ensures idle { is_own self.old ≡ true → IsOk result }
@@ -213,7 +198,7 @@ impl PageRef {
     pub fn write_own_bytes(&mut self, at: u16, bytes: &[u8])
         requires within { at + length bytes.now ≤ page_size }
         requires own { is_own self.old ≡ true }
-        ensures bytes { bytes_of self.new ≡ overwritten (bytes_of self.old) at bytes.now }
+        ensures bytes { bytes_of self.new ≡ with_bytes_in (bytes_of self.old) at bytes.now }
         ensures own { is_own self.new ≡ true }
     {
         match self {
@@ -309,7 +294,7 @@ fn write_number_in(bytes: &mut [u8; SIZE], at: usize, width: Width, value: u32)
 // These bytes from `at` on.
 fn overwrite(page: &mut [u8; SIZE], at: usize, bytes: &[u8])
     requires { at + length bytes.now ≤ page_size }
-    ensures { page.new ≡ overwritten page.old at bytes.now }
+    ensures { page.new ≡ with_bytes_in page.old at bytes.now }
 {
     page[at..at + bytes.len()].copy_from_slice(bytes);
 }

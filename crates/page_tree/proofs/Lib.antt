@@ -1,2 +1,7 @@
 mod Children
 mod Limbs
+mod Spread
+mod BlockRanges
+mod BranchRanges
+mod BlockEdits
+mod LimbEdits

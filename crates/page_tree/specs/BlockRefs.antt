@@ -1,11 +1,12 @@
 -- What is kept of 64 pages: a permission alone, or a block that is shared or its holder's own.
 -- Our choice: how the code keeps a memory.
-use Rattle.std.specs.Prelude.{◌≡◌, ℕ, ◌<◌, List, Bool, true, false, cond, Option, None}
+use Rattle.std.specs.Prelude.{◌≡◌, ℕ, ◌<◌, List, Bool, true, false, Option, None}
 use Rattle.std.specs.Arc.{arc_value}
 use Rattle.page_store.specs.declared.PageRef.{PageRef}
 use Rattle.page_tree.specs.declared.block_ref.BlockRef.{BlockRef}
 use Rattle.page_tree.specs.declared.block_ref.BlockRef.TheVariants.{Uniform, Shared, Own}
-use Rattle.page_tree.specs.Blocks.{block_pages, page_in, permission_in, byte_in, bytes_in, is_own_in, IsWhole, within}
+use Rattle.page_tree.specs.Blocks.{block_pages, page_in, permission_in, byte_in, bytes_in, is_own_in, IsWhole}
+use Rattle.page_tree.specs.Rows.{Row}
 
 -- the permission of a page
 abbrev pub ref_permission : BlockRef → ℕ → ℕ
@@ -51,31 +52,16 @@ SameOwn r s = (j : ℕ) → j < block_pages → ref_own s j ≡ ref_own r j
 abbrev pub NoneOwnIn : BlockRef → Type 0
 NoneOwnIn r = (j : ℕ) → j < block_pages → ref_own r j ≡ false
 
--- some pages have another permission; all else is the same
-pub record IsPermitted (from to right : ℕ) (r s : BlockRef) : Type 0 where
-  pub permission : (j : ℕ) → j < block_pages → ref_permission s j ≡ cond (within from to j) right (ref_permission r j)
-  pub page : (j : ℕ) → ref_page s j ≡ ref_page r j
-  pub own : (j : ℕ) → ref_own s j ≡ ref_own r j
-
--- some pages are not kept; all else is the same
-pub record IsCleared (from to : ℕ) (r s : BlockRef) : Type 0 where
-  pub permission : (j : ℕ) → ref_permission s j ≡ ref_permission r j
-  pub page : (j : ℕ) → ref_page s j ≡ cond (within from to j) None (ref_page r j)
-  pub own : (j : ℕ) → ref_own s j ≡ cond (within from to j) false (ref_own r j)
-
 -- one page is owned too; all else is the same
 pub record IsOwnedToo (j : ℕ) (r s : BlockRef) : Type 0 where
   pub same : SameRef r s
   pub here : ref_own s j ≡ true
   pub other : (i : ℕ) → i < block_pages → (i ≡ j → ⊥) → ref_own s i ≡ ref_own r i
 
--- the bytes of one own page are edited; all else is the same
-pub record IsWrittenAt (j : ℕ) (edit : List ℕ → List ℕ) (r s : BlockRef) : Type 0 where
-  pub permission : (i : ℕ) → ref_permission s i ≡ ref_permission r i
-  pub other : (i : ℕ) → (i ≡ j → ⊥) → ref_page s i ≡ ref_page r i
-  pub own : (i : ℕ) → ref_own s i ≡ ref_own r i
-  pub bytes : bytes_in (ref_page s j) ≡ edit (bytes_in (ref_page r j))
-
 -- a page with no permission and no byte other than 0
 abbrev pub IsBlankAt : BlockRef → ℕ → Type 0
 IsBlankAt r j = (ref_permission r j ≡ 0) × ((k : ℕ) → byte_in (ref_page r j) k ≡ 0)
+
+-- its pages in a row
+abbrev pub ref_row : BlockRef → Row
+ref_row r = record { permission = ref_permission r; page = ref_page r; own = ref_own r }

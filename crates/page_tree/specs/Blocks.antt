@@ -63,10 +63,3 @@ IsBlankIn b j = (permission_in b j ≡ 0) × ((k : ℕ) → byte_in (page_in b j
 abbrev pub bytes_in : Option PageRef → List ℕ
 bytes_in None = []
 bytes_in (Some page) = bytes_of page
-
--- the bytes of one own page are edited; all else is the same
-pub record IsWrittenIn (j : ℕ) (edit : List ℕ → List ℕ) (b c : Block) : Type 0 where
-  pub permissions : c.permissions ≡ b.permissions
-  pub other : (i : ℕ) → (i ≡ j → ⊥) → page_in c i ≡ page_in b i
-  pub own : is_own_in (page_in c j) ≡ true
-  pub bytes : bytes_in (page_in c j) ≡ edit (bytes_in (page_in b j))

@@ -7,6 +7,7 @@ use Rattle.page_tree.specs.declared.branch_ref.BranchRef.{BranchRef}
 use Rattle.page_tree.specs.declared.branch_ref.BranchRef.TheVariants.{Uniform, Shared, Own}
 use Rattle.page_tree.specs.Blocks.{byte_in, bytes_in}
 use Rattle.page_tree.specs.Branches.{branch_pages, branch_permission, branch_page, branch_own, AreWholeBelow}
+use Rattle.page_tree.specs.Rows.{Row}
 
 -- the permission of a page
 abbrev pub limb_permission : BranchRef → ℕ → ℕ
@@ -60,9 +61,6 @@ pub record IsOwnedLimb (j : ℕ) (r s : BranchRef) : Type 0 where
   pub here : limb_own s j ≡ true
   pub other : (i : ℕ) → i < branch_pages → (i ≡ j → ⊥) → limb_own s i ≡ limb_own r i
 
--- the bytes of one own page are edited; all else is the same
-pub record IsWrittenLimb (j : ℕ) (edit : List ℕ → List ℕ) (r s : BranchRef) : Type 0 where
-  pub permission : (i : ℕ) → limb_permission s i ≡ limb_permission r i
-  pub other : (i : ℕ) → (i ≡ j → ⊥) → limb_page s i ≡ limb_page r i
-  pub own : (i : ℕ) → limb_own s i ≡ limb_own r i
-  pub bytes : bytes_in (limb_page s j) ≡ edit (bytes_in (limb_page r j))
+-- its pages in a row
+abbrev pub limb_row : BranchRef → Row
+limb_row r = record { permission = limb_permission r; page = limb_page r; own = limb_own r }

@@ -7,6 +7,7 @@ use Rattle.page_tree.specs.declared.block_ref.BlockRef.TheVariants.{Uniform}
 use Rattle.page_tree.specs.declared.branch.Branch.{Branch}
 use Rattle.page_tree.specs.Blocks.{block_pages, byte_in, bytes_in}
 use Rattle.page_tree.specs.BlockRefs.{ref_permission, ref_page, ref_own, AreWholeIn}
+use Rattle.page_tree.specs.Rows.{Row}
 
 -- the pages of a branch
 abbrev pub branch_pages : ℕ
@@ -29,13 +30,6 @@ branch_page b p = ref_page (block_at b (p / block_pages)) (p % block_pages)
 abbrev pub branch_own : Branch → ℕ → Bool
 branch_own b p = ref_own (block_at b (p / block_pages)) (p % block_pages)
 
--- the bytes of one own page are edited; all else is the same
-pub record IsWrittenBelow (p : ℕ) (edit : List ℕ → List ℕ) (b c : Branch) : Type 0 where
-  pub permission : (q : ℕ) → branch_permission c q ≡ branch_permission b q
-  pub other : (q : ℕ) → (q ≡ p → ⊥) → branch_page c q ≡ branch_page b q
-  pub own : (q : ℕ) → branch_own c q ≡ branch_own b q
-  pub bytes : bytes_in (branch_page c p) ≡ edit (bytes_in (branch_page b p))
-
 -- the same permissions and bytes
 pub record SameBelow (b c : Branch) : Type 0 where
   pub permission : (q : ℕ) → q < branch_pages → branch_permission c q ≡ branch_permission b q
@@ -57,3 +51,7 @@ AreWholeBelow b = (i : ℕ) → i < branch_blocks → AreWholeIn (block_at b i)
 pub record IsOwnedBelow (p : ℕ) (b c : Branch) : Type 0 where
   pub here : branch_own c p ≡ true
   pub other : (q : ℕ) → q < branch_pages → (q ≡ p → ⊥) → branch_own c q ≡ branch_own b q
+
+-- its pages in a row
+abbrev pub branch_row : Branch → Row
+branch_row b = record { permission = branch_permission b; page = branch_page b; own = branch_own b }

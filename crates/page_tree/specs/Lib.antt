@@ -1,5 +1,9 @@
 pub mod Blocks
+pub mod Rows
 pub mod BlockRefs
 pub mod Branches
 pub mod BranchRefs
 pub mod Trees
+pub mod TreeRefs
+pub mod Ready
+pub mod BlockRows

@@ -8,6 +8,7 @@ use Rattle.page_tree.specs.declared.tree.Tree.{Tree}
 use Rattle.page_tree.specs.Blocks.{byte_in, bytes_in}
 use Rattle.page_tree.specs.Branches.{branch_pages}
 use Rattle.page_tree.specs.BranchRefs.{limb_permission, limb_page, limb_own, AreWholeLimb}
+use Rattle.page_tree.specs.Rows.{Row}
 
 -- the pages of a branch
 abbrev pub tree_pages : ℕ
@@ -30,13 +31,6 @@ tree_page b p = limb_page (branch_at b (p / branch_pages)) (p % branch_pages)
 abbrev pub tree_own : Tree → ℕ → Bool
 tree_own b p = limb_own (branch_at b (p / branch_pages)) (p % branch_pages)
 
--- the bytes of one own page are edited; all else is the same
-pub record IsWrittenTree (p : ℕ) (edit : List ℕ → List ℕ) (b c : Tree) : Type 0 where
-  pub permission : (q : ℕ) → tree_permission c q ≡ tree_permission b q
-  pub other : (q : ℕ) → (q ≡ p → ⊥) → tree_page c q ≡ tree_page b q
-  pub own : (q : ℕ) → tree_own c q ≡ tree_own b q
-  pub bytes : bytes_in (tree_page c p) ≡ edit (bytes_in (tree_page b p))
-
 -- the same permissions and bytes
 pub record SameTree (b c : Tree) : Type 0 where
   pub permission : (q : ℕ) → q < tree_pages → tree_permission c q ≡ tree_permission b q
@@ -58,3 +52,7 @@ AreWholeTree b = (i : ℕ) → i < tree_branches → AreWholeLimb (branch_at b i
 pub record IsOwnedTree (p : ℕ) (b c : Tree) : Type 0 where
   pub here : tree_own c p ≡ true
   pub other : (q : ℕ) → q < tree_pages → (q ≡ p → ⊥) → tree_own c q ≡ tree_own b q
+
+-- its pages in a row
+abbrev pub tree_row : Tree → Row
+tree_row t = record { permission = tree_permission t; page = tree_page t; own = tree_own t }

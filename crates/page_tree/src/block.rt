@@ -1,10 +1,7 @@
 ghost use Rattle.std.specs.Prelude.{◌≡◌, ℕ, ◌+◌, ◌<◌, ◌≤◌, ◌%◌, ◌&&◌, not, nat_lt, cond, IfOk, IsOk, OnOk, OnErr, IfSome, IsNone, IsTrue, IsFalse, false, true, length, slice_index, slice_index_or, slice_set};
-ghost use Rattle.memory_model.specs.Memory.{width_bytes};
-ghost use Rattle.memory_model.specs.Sizes.{page_size};
-ghost use Rattle.page_store.specs.Bytes.{bytes_of, is_own, IsPage, with_number_in, overwritten};
-ghost use Rattle.page_tree.specs.Blocks.{block_pages, page_in, permission_in, byte_in, is_own_in, IsWhole, AreWhole, IsShare, SameBytes, NoneOwn, IsBlankIn, IsWrittenIn, within};
+ghost use Rattle.page_store.specs.Bytes.{bytes_of, is_own, IsPage, with_bytes_in};
+ghost use Rattle.page_tree.specs.Blocks.{block_pages, page_in, permission_in, byte_in, is_own_in, IsWhole, AreWhole, IsShare, SameBytes, NoneOwn, IsBlankIn, within};
 
-use memory_model::Width;
 use page_store::PageRef;
 use std::alloc::{AllocError, Global};
 use std::array::from_fn;
@@ -77,11 +74,12 @@ impl Block {
         }
     }
 
-    /// Makes each page that is kept one that can be shared. Bytes and permissions stay. At an error, want of memory, some pages may be
-    /// own ones as they were.
+    /// Makes each page that is kept one that can be shared. Bytes and permissions stay, and no page becomes an own one. At an error,
+    /// want of memory, some pages may be own ones as they were.
     pub fn freeze(&mut self, alloc: Global) -> Result<(), AllocError>
         ensures same { SameBytes self.old self.new }
         ensures none { OnOk result (NoneOwn self.new) }
+        ensures less { (j : ℕ) → j < block_pages → is_own_in (page_in self.new j) ≡ true → is_own_in (page_in self.old j) ≡ true }
         ensures whole { AreWhole self.old → AreWhole self.new }
     {
         for j in 0..BLOCK_PAGES {
@@ -172,21 +170,6 @@ impl Block {
         own_slot(&mut self.pages[j], alloc)
     }
 
-    /// Writes the lowest `width` bytes of `value` at an aligned place of an own page.
-    #[inline(always)]
-    pub fn write_number(&mut self, j: usize, at: u16, width: Width, value: u32)
-        requires page { j < block_pages }
-        requires own { is_own_in (page_in self.old j) ≡ true }
-        requires within { at < page_size }
-        requires aligned { at % width_bytes width ≡ 0 }
-        ensures { IsWrittenIn j (λ bytes. with_number_in bytes at width value) self.old self.new }
-    {
-        match &mut self.pages[j] {
-            Some(page) => page.write_own_number(at, width, value),
-            None => {}
-        }
-    }
-
     /// Keeps a page in the place of another.
     pub fn put(&mut self, j: usize, page: PageRef)
         requires { j < block_pages }
@@ -208,7 +191,7 @@ fn own_slot(slot: &mut Option<PageRef>, alloc: Global) -> Result<(), AllocError>
     match slot {
         Some(page) => page.own(alloc),
         None => {
-            let zeros = PageRef::zeroed(alloc)?;
+            let zeros = PageRef::zeros(alloc)?;
             *slot = Some(zeros);
             Ok(())
         }
@@ -220,6 +203,7 @@ fn freeze_page(page: &mut Option<PageRef>, alloc: Global) -> Result<(), AllocErr
     ensures bytes { (k : ℕ) → byte_in page.new k ≡ byte_in page.old k }
     ensures whole { IsWhole page.new }
     ensures none { OnOk result (is_own_in page.new ≡ false) }
+    ensures less { is_own_in page.new ≡ true → is_own_in page.old ≡ true }
 {
     match page {
         Some(page) => {

@@ -1,12 +1,8 @@
 ghost use Rattle.std.specs.Prelude.{◌≡◌, ℕ, ◌+◌, ◌%◌, ◌<◌, ◌≤◌, cond, IfOk, IsOk, OnOk, OnErr, IfSome, IsNone, false, true};
-ghost use Rattle.memory_model.specs.Memory.{width_bytes};
-ghost use Rattle.memory_model.specs.Sizes.{page_size};
-ghost use Rattle.page_store.specs.Bytes.{with_number_in};
 ghost use Rattle.page_tree.specs.Blocks.{block_pages, SameBytes, NoneOwn, AreWhole};
-ghost use Rattle.page_tree.specs.BlockRefs.{ref_permission, ref_page, ref_own, IsOwnBlock, AreWholeIn, SameRef, SameOwn, NoneOwnIn, IsPermitted, IsCleared, IsOwnedToo, IsWrittenAt, IsBlankAt};
+ghost use Rattle.page_tree.specs.BlockRefs.{ref_permission, ref_page, ref_own, IsOwnBlock, AreWholeIn, SameRef, SameOwn, NoneOwnIn, IsOwnedToo, IsBlankAt};
 
 use crate::block::{BLOCK_PAGES, Block};
-use memory_model::Width;
 use page_store::PageRef;
 use std::alloc::{AllocError, Global};
 use std::sync::Arc;
@@ -89,10 +85,12 @@ impl BlockRef {
         }
     }
 
-    /// Makes it one that can be shared, with all its pages. At an error, want of memory, some pages may be shared and others owned.
+    /// Makes it one that can be shared, with all its pages. No page becomes an own one. At an error, want of memory, some
+    /// pages may be shared and others owned.
     pub fn freeze(&mut self, alloc: Global) -> Result<(), AllocError>
         ensures same { SameRef self.old self.new }
         ensures none { OnOk result (NoneOwnIn self.new) }
+        ensures less { (j : ℕ) → j < block_pages → ref_own self.new j ≡ true → ref_own self.old j ≡ true }
         ensures whole { AreWholeIn self.old → AreWholeIn self.new }
     {
         if let BlockRef::Own(block) = self {
@@ -116,49 +114,6 @@ impl BlockRef {
         match self {
             BlockRef::Own(block) => block.own_page(j, alloc),
             _ => Ok(()),
-        }
-    }
-
-    /// Writes the lowest `width` bytes of `value` at an aligned place of an own page.
-    #[inline(always)]
-    pub fn write_number(&mut self, j: usize, at: u16, width: Width, value: u32)
-        requires page { j < block_pages }
-        requires own { ref_own self.old j ≡ true }
-        requires within { at < page_size }
-        requires aligned { at % width_bytes width ≡ 0 }
-        ensures { IsWrittenAt j (λ bytes. with_number_in bytes at width value) self.old self.new }
-    {
-        match self {
-            BlockRef::Own(block) => block.write_number(j, at, width, value),
-            _ => {}
-        }
-    }
-
-    /// Gives the pages from `from` to before `to` of an own block the permission.
-    pub fn permit(&mut self, from: usize, to: usize, permission: u8)
-        requires own { IsOwnBlock self.old }
-        requires rise { from ≤ to }
-        requires within { to ≤ block_pages }
-        ensures own { IsOwnBlock self.new }
-        ensures permitted { IsPermitted from to permission self.old self.new }
-    {
-        match self {
-            BlockRef::Own(block) => block.permit(from, to, permission),
-            _ => {}
-        }
-    }
-
-    /// Forgets the pages from `from` to before `to` of an own block; permissions stay.
-    pub fn clear(&mut self, from: usize, to: usize)
-        requires own { IsOwnBlock self.old }
-        requires rise { from ≤ to }
-        requires within { to ≤ block_pages }
-        ensures own { IsOwnBlock self.new }
-        ensures cleared { IsCleared from to self.old self.new }
-    {
-        match self {
-            BlockRef::Own(block) => block.clear(from, to),
-            _ => {}
         }
     }
 

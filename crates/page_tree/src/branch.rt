@@ -1,21 +1,20 @@
 ghost use Rattle.std.specs.Prelude.{◌≡◌, ℕ, ◌+◌, ◌%◌, ◌<◌, ◌≤◌, cond, IfOk, IsOk, OnOk, OnErr, IfSome, IsNone, false, true};
-ghost use Rattle.memory_model.specs.Memory.{width_bytes};
-ghost use Rattle.memory_model.specs.Sizes.{page_size};
-ghost use Rattle.page_store.specs.Bytes.{with_number_in};
 ghost use Rattle.page_tree.specs.Blocks.{block_pages};
-ghost use Rattle.page_tree.specs.Branches.{branch_pages, branch_blocks, block_at, branch_permission, branch_page, branch_own, SameBelow, SameOwnBelow, NoneOwnBelow, AreWholeBelow, IsOwnedBelow, IsWrittenBelow};
+ghost use Rattle.page_tree.specs.Branches.{branch_pages, branch_blocks, block_at, branch_permission, branch_page, branch_own, SameBelow, SameOwnBelow, NoneOwnBelow, AreWholeBelow, IsOwnedBelow};
 ghost use Rattle.page_tree.specs.BlockRefs.{SameRef, SameOwn, NoneOwnIn, AreWholeIn};
 ghost use Rattle.page_tree.specs.declared.block_ref.BlockRef.TheVariants.{Uniform};
 
 use crate::block::BLOCK_PAGES;
 use crate::block_ref::BlockRef;
-use memory_model::Width;
 use page_store::PageRef;
 use std::alloc::{AllocError, Global};
 use std::array::from_fn;
 
 /// How many blocks a branch has.
 pub const BLOCKS: usize = 128;
+
+/// How many pages a branch has.
+pub const BRANCH_PAGES: usize = 8192;
 
 /// 8,192 pages in a row.
 #[derive(Drop)]
@@ -86,10 +85,12 @@ impl Branch {
         }
     }
 
-    /// Makes it one that can be shared, with all its pages. At an error, want of memory, some pages may be shared and others owned.
+    /// Makes it one that can be shared, with all its pages. No page becomes an own one. At an error, want of memory, some
+    /// pages may be shared and others owned.
     pub fn freeze(&mut self, alloc: Global) -> Result<(), AllocError>
         ensures same { SameBelow self.old self.new }
         ensures none { OnOk result (NoneOwnBelow self.new) }
+        ensures less { (j : ℕ) → j < branch_pages → branch_own self.new j ≡ true → branch_own self.old j ≡ true }
         ensures whole { AreWholeBelow self.old → AreWholeBelow self.new }
     {
         for i in 0..BLOCKS {
@@ -109,17 +110,5 @@ impl Branch {
     {
         self.blocks[page / BLOCK_PAGES].own_page(page % BLOCK_PAGES, alloc)?;
         Ok(())
-    }
-
-    /// Writes the lowest `width` bytes of `value` at an aligned place of an own page.
-    #[inline(always)]
-    pub fn write_number(&mut self, page: usize, at: u16, width: Width, value: u32)
-        requires page { page < branch_pages }
-        requires own { branch_own self.old page ≡ true }
-        requires within { at < page_size }
-        requires aligned { at % width_bytes width ≡ 0 }
-        ensures { IsWrittenBelow page (λ bytes. with_number_in bytes at width value) self.old self.new }
-    {
-        self.blocks[page / BLOCK_PAGES].write_number(page % BLOCK_PAGES, at, width, value);
     }
 }

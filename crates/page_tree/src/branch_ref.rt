@@ -1,12 +1,8 @@
 ghost use Rattle.std.specs.Prelude.{◌≡◌, ℕ, ◌+◌, ◌%◌, ◌<◌, ◌≤◌, cond, IfOk, IsOk, OnOk, OnErr, IfSome, IsNone, false, true};
-ghost use Rattle.memory_model.specs.Memory.{width_bytes};
-ghost use Rattle.memory_model.specs.Sizes.{page_size};
-ghost use Rattle.page_store.specs.Bytes.{with_number_in};
 ghost use Rattle.page_tree.specs.Branches.{branch_pages, SameBelow, NoneOwnBelow, AreWholeBelow};
-ghost use Rattle.page_tree.specs.BranchRefs.{limb_permission, limb_page, limb_own, IsOwnBranch, AreWholeLimb, SameLimb, SameOwnLimb, NoneOwnLimb, IsOwnedLimb, IsWrittenLimb};
+ghost use Rattle.page_tree.specs.BranchRefs.{limb_permission, limb_page, limb_own, IsOwnBranch, AreWholeLimb, SameLimb, SameOwnLimb, NoneOwnLimb, IsOwnedLimb};
 
 use crate::branch::Branch;
-use memory_model::Width;
 use page_store::PageRef;
 use std::alloc::{AllocError, Global};
 use std::sync::Arc;
@@ -90,10 +86,12 @@ impl BranchRef {
         }
     }
 
-    /// Makes it one that can be shared, with all its pages. At an error, want of memory, some pages may be shared and others owned.
+    /// Makes it one that can be shared, with all its pages. No page becomes an own one. At an error, want of memory, some
+    /// pages may be shared and others owned.
     pub fn freeze(&mut self, alloc: Global) -> Result<(), AllocError>
         ensures same { SameLimb self.old self.new }
         ensures none { OnOk result (NoneOwnLimb self.new) }
+        ensures less { (j : ℕ) → j < branch_pages → limb_own self.new j ≡ true → limb_own self.old j ≡ true }
         ensures whole { AreWholeLimb self.old → AreWholeLimb self.new }
     {
         if let BranchRef::Own(branch) = self {
@@ -117,21 +115,6 @@ impl BranchRef {
         match self {
             BranchRef::Own(branch) => branch.own_page(j, alloc),
             _ => Ok(()),
-        }
-    }
-
-    /// Writes the lowest `width` bytes of `value` at an aligned place of an own page.
-    #[inline(always)]
-    pub fn write_number(&mut self, j: usize, at: u16, width: Width, value: u32)
-        requires page { j < branch_pages }
-        requires own { limb_own self.old j ≡ true }
-        requires within { at < page_size }
-        requires aligned { at % width_bytes width ≡ 0 }
-        ensures { IsWrittenLimb j (λ bytes. with_number_in bytes at width value) self.old self.new }
-    {
-        match self {
-            BranchRef::Own(branch) => branch.write_number(j, at, width, value),
-            _ => {}
         }
     }
 }

@@ -1,14 +1,11 @@
 ghost use Rattle.std.specs.Prelude.{◌≡◌, ℕ, ◌+◌, ◌%◌, ◌<◌, ◌≤◌, cond, IfOk, IsOk, OnOk, OnErr, IfSome, IsNone, false, true};
-ghost use Rattle.memory_model.specs.Memory.{width_bytes};
-ghost use Rattle.memory_model.specs.Sizes.{page_size};
-ghost use Rattle.page_store.specs.Bytes.{with_number_in};
 ghost use Rattle.page_tree.specs.Branches.{branch_pages};
-ghost use Rattle.page_tree.specs.Trees.{tree_pages, tree_branches, branch_at, tree_permission, tree_page, tree_own, SameTree, SameOwnTree, NoneOwnTree, AreWholeTree, IsOwnedTree, IsWrittenTree};
+ghost use Rattle.page_tree.specs.Trees.{tree_pages, tree_branches, branch_at, tree_permission, tree_page, tree_own, SameTree, SameOwnTree, NoneOwnTree, AreWholeTree, IsOwnedTree};
 ghost use Rattle.page_tree.specs.BranchRefs.{SameLimb, SameOwnLimb, NoneOwnLimb, AreWholeLimb};
 ghost use Rattle.page_tree.specs.declared.branch_ref.BranchRef.TheVariants.{Uniform};
 
+use crate::branch::BRANCH_PAGES;
 use crate::branch_ref::BranchRef;
-use memory_model::Width;
 use page_store::PageRef;
 use std::alloc::{AllocError, Global};
 use std::array::from_fn;
@@ -16,8 +13,8 @@ use std::array::from_fn;
 /// How many branches a tree has.
 pub const BRANCHES: usize = 128;
 
-// How many pages a branch has.
-const BRANCH_PAGES: usize = 8192;
+/// How many pages a tree has.
+pub const TREE_PAGES: usize = 1048576;
 
 /// 1,048,576 pages in a row.
 #[derive(Drop)]
@@ -88,10 +85,12 @@ impl Tree {
         }
     }
 
-    /// Makes it one that can be shared, with all its pages. At an error, want of memory, some pages may be shared and others owned.
+    /// Makes it one that can be shared, with all its pages. No page becomes an own one. At an error, want of memory, some
+    /// pages may be shared and others owned.
     pub fn freeze(&mut self, alloc: Global) -> Result<(), AllocError>
         ensures same { SameTree self.old self.new }
         ensures none { OnOk result (NoneOwnTree self.new) }
+        ensures less { (j : ℕ) → j < tree_pages → tree_own self.new j ≡ true → tree_own self.old j ≡ true }
         ensures whole { AreWholeTree self.old → AreWholeTree self.new }
     {
         for i in 0..BRANCHES {
@@ -111,17 +110,5 @@ impl Tree {
     {
         self.branches[page / BRANCH_PAGES].own_page(page % BRANCH_PAGES, alloc)?;
         Ok(())
-    }
-
-    /// Writes the lowest `width` bytes of `value` at an aligned place of an own page.
-    #[inline(always)]
-    pub fn write_number(&mut self, page: usize, at: u16, width: Width, value: u32)
-        requires page { page < tree_pages }
-        requires own { tree_own self.old page ≡ true }
-        requires within { at < page_size }
-        requires aligned { at % width_bytes width ≡ 0 }
-        ensures { IsWrittenTree page (λ bytes. with_number_in bytes at width value) self.old self.new }
-    {
-        self.branches[page / BRANCH_PAGES].write_number(page % BRANCH_PAGES, at, width, value);
     }
 }

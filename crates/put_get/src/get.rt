@@ -12,7 +12,7 @@ ghost use Rattle.put_get.specs.Ranges.{at_most_one, get_changes};
 
 use crate::caller::succeed;
 use crate::options::{has_copy, has_merge, has_perm, has_regs, has_zero};
-use crate::ranges::{destination, fill, permit};
+use crate::ranges::{destination, fill, permit, share};
 use crate::registers::block;
 use snapshot::{MergeError, merge};
 use space_tree::{Space, Top};
@@ -21,7 +21,7 @@ use std::collections::BTreeMap;
 use trap_ret::{Transfer, write_block};
 
 // Regs: the child's register block is written, whatever the permissions are, where that is asked for.
-#[tactic(auto, using(crate::proofs::Places::block_end))]
+#[tactic(auto, using(crate::proofs::Places::block_end, space_mem::proofs::Dirty::covers_in_after))]
 fn take_registers(x: &Transfer, child: &Top, caller: &mut Top) -> Result<(), AllocError>
     requires { IsTransfer x.now }
     ensures ok { OnOk result (caller.new ≡ part_if (options_of.has options_of.regs x.now.options) (block_part x.now.block child.now) caller.old) }
@@ -39,7 +39,7 @@ fn take_registers(x: &Transfer, child: &Top, caller: &mut Top) -> Result<(), All
 
 // Merge: what the child has changed in the destination's range since its snapshot goes into it, where that is asked for. The error is
 // the least conflict, or want of memory.
-#[tactic(auto, using(crate::proofs::Places::merged_pages))]
+#[tactic(auto, using(crate::proofs::Places::merged_pages, space_mem::proofs::Dirty::covers_in_after))]
 fn merge_range(x: &Transfer, child: &Top, caller: &mut Top) -> Result<(), MergeError>
     requires { IsTransfer x.now }
     ensures ok { OnOk result (caller.new ≡ part_if (options_of.has options_of.merging x.now.options) (merge_part child.now.snapshot child.now.memory (destination_page x.now) (page_count x.now)) caller.old) }
@@ -91,6 +91,7 @@ fn change(x: &Transfer, child: &Top, caller: &mut Top) -> Result<(), MergeError>
 }
 
 // Changes the caller by what the child has. At an error it is as it was.
+#[tactic(auto, using(space_mem::proofs::Dirty::covers_in_same))]
 fn take_top(x: &Transfer, child: &Top, caller: &mut Top) -> Result<(), MergeError>
     requires { IsTransfer x.now }
     ensures ok { OnOk result (caller.new ≡ caller_after x.now child.now caller.old) }
@@ -142,6 +143,25 @@ fn take_child(
     }
 }
 
+// The pages that Copy takes from the child of that number become ones that can be shared. The children are as they were.
+fn share_in(x: &Transfer, children: &mut BTreeMap<u16, Space>) -> Result<(), AllocError>
+    requires { IsTransfer x.now }
+    ensures same { children_from children.new.entries ≡ children_from children.old.entries }
+{
+    match children.get_mut(&x.child) {
+        Some(child) => share(x, child),
+        None => Ok(()),
+    }
+}
+
+// The same of a space.
+fn share_child(x: &Transfer, space: &mut Space) -> Result<(), AllocError>
+    requires { IsTransfer x.now }
+    ensures same { space.new ≡ space.old }
+{
+    share_in(x, &mut space.children)
+}
+
 // What Get does that no test but the conflict stops, of a caller that has not paid yet. At an error nothing is changed.
 pub fn get(alloc: Global, x: &Transfer, space: &mut Space) -> Result<(), MergeError>
     requires transfer { IsTransfer x.now }
@@ -151,6 +171,7 @@ pub fn get(alloc: Global, x: &Transfer, space: &mut Space) -> Result<(), MergeEr
     ensures conflict { IfErr result (MayStop (conflict_of (Get x.now) space.old)) }
     ensures err { OnErr result (space.new ≡ space.old) }
 {
+    share_child(x, space)?;
     match take_child(alloc, x, &mut space.top, &space.children) {
         Ok(()) => {
             succeed(&mut space.top);

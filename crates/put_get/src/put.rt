@@ -14,7 +14,7 @@ ghost use Rattle.put_get.specs.Ranges.{memory_parts, at_most_one, put_changes};
 
 use crate::caller::succeed;
 use crate::options::{has_copy, has_limit, has_perm, has_regs, has_snap, has_start, has_zero};
-use crate::ranges::{fill, permit};
+use crate::ranges::{fill, permit, share};
 use crate::registers::read_registers;
 use snapshot::take;
 use space_tree::{Space, Status, Top};
@@ -44,6 +44,7 @@ fn start(x: &Transfer, child: &mut Top)
 }
 
 // Snap: the child's memory is kept as its snapshot, where that is asked for.
+#[tactic(auto, using(space_mem::proofs::Dirty::covers_in_same))]
 fn snap(x: &Transfer, child: &mut Top) -> Result<(), AllocError>
     ensures ok { OnOk result (child.new ≡ part_if (options_of.has options_of.snap x.now.options) snapshot_part child.old) }
     ensures err { OnErr result (child.new ≡ child.old) }
@@ -84,6 +85,7 @@ fn change_memory(x: &Transfer, caller: &Top, child: &mut Top) -> Result<(), Allo
 }
 
 // The same. At an error the child is as it was.
+#[tactic(auto, using(space_mem::proofs::Dirty::covers_in_same))]
 fn give_memory(x: &Transfer, caller: &Top, child: &mut Top) -> Result<(), AllocError>
     requires { IsTransfer x.now }
     ensures ok { OnOk result (child.new ≡ with_parts x.now.options (memory_parts x.now caller.now.memory) child.old) }
@@ -161,6 +163,7 @@ pub fn put(alloc: Global, x: &Transfer, space: &mut Space) -> Result<(), AllocEr
     ensures ok { OnOk result (space.new ≡ with_action (Put x.now) space.old) }
     ensures err { OnErr result (space.new ≡ space.old) }
 {
+    share(x, space)?;
     give_child(alloc, x, &space.top, &mut space.children)?;
     succeed(&mut space.top);
     Ok(())

@@ -7,7 +7,7 @@ ghost use Rattle.put_get.specs.Ranges.{fill_parts, at_most_one};
 
 use crate::options::{has_copy, has_perm, has_zero, permission};
 use memory_model::PAGE_SIZE;
-use space_tree::{Pages, Top};
+use space_tree::{Pages, Space, Top};
 use std::alloc::AllocError;
 use trap_ret::Transfer;
 
@@ -23,8 +23,32 @@ pub fn destination(x: &Transfer) -> Pages
     }
 }
 
+// The pages of the source's range.
+fn source(x: &Transfer) -> Pages
+    requires { source_page x.now + page_count x.now ≤ pages }
+    ensures first { result.first ≡ source_page x.now }
+    ensures count { result.count ≡ page_count x.now }
+{
+    Pages {
+        first: x.source / PAGE_SIZE,
+        count: x.size / PAGE_SIZE,
+    }
+}
+
+// The pages of the source's range become ones that can be shared, where Copy is asked for, so that it shares them. The space is as it was.
+#[tactic(auto, using(crate::proofs::Places::source_pages, space_mem::proofs::Dirty::covers_in_same))]
+pub fn share(x: &Transfer, space: &mut Space) -> Result<(), AllocError>
+    requires { IsTransfer x.now }
+    ensures same { space.new ≡ space.old }
+{
+    if !has_copy(x) {
+        return Ok(());
+    }
+    space.top.memory.freeze_range(source(x))
+}
+
 // Zero: the bytes of the destination's range become 0, where that is asked for.
-#[tactic(auto, using(crate::proofs::Places::zeroed_pages))]
+#[tactic(auto, using(crate::proofs::Places::zeroed_pages, space_mem::proofs::Dirty::covers_in_after))]
 fn zero(x: &Transfer, top: &mut Top) -> Result<(), AllocError>
     requires { IsTransfer x.now }
     ensures ok { OnOk result (top.new ≡ part_if (options_of.has options_of.zeroing x.now.options) (zero_part (destination_page x.now) (page_count x.now)) top.old) }
@@ -39,7 +63,7 @@ fn zero(x: &Transfer, top: &mut Top) -> Result<(), AllocError>
 }
 
 // Copy: the destination's range becomes the source's, where that is asked for.
-#[tactic(auto, using(crate::proofs::Places::copied_pages, crate::proofs::Places::source_pages))]
+#[tactic(auto, using(crate::proofs::Places::copied_pages, crate::proofs::Places::source_pages, space_mem::proofs::Dirty::covers_in_after))]
 fn copy(x: &Transfer, source: &Top, top: &mut Top) -> Result<(), AllocError>
     requires { IsTransfer x.now }
     ensures ok { OnOk result (top.new ≡ part_if (options_of.has options_of.copy x.now.options) (copy_part source.now.memory (source_page x.now) (destination_page x.now) (page_count x.now)) top.old) }
@@ -55,7 +79,7 @@ fn copy(x: &Transfer, source: &Top, top: &mut Top) -> Result<(), AllocError>
 }
 
 // Perm: the destination's range gets the permission, where that is asked for.
-#[tactic(auto, using(crate::proofs::Places::permitted_pages))]
+#[tactic(auto, using(crate::proofs::Places::permitted_pages, space_mem::proofs::Dirty::covers_in_after))]
 pub fn permit(x: &Transfer, top: &mut Top) -> Result<(), AllocError>
     requires { IsTransfer x.now }
     ensures ok { OnOk result (top.new ≡ part_if (options_of.has options_of.perm x.now.options) (permission_part (destination_page x.now) (page_count x.now) (options_of.permission x.now.options)) top.old) }

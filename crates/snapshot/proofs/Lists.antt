@@ -1,19 +1,29 @@
--- Lists of pages that a child changed.
+-- Pages that are the same in two memories, and lists of pages that a child changed.
 use Rattle.std.specs.Prelude.{◌≡◌, ℕ, ◌+◌, ◌*◌, ◌/◌, ◌%◌, ◌<◌, ◌≤◌, List, [], ◌∷◌, ◌++◌, All, slice_index}
 use Rattle.std.proofs.Common.{sym, ◌∙◌, ap, arith, inl, inr, subst}
 use Rattle.std.proofs.lemmas.Bool.{cases_lt}
 use Rattle.std.proofs.lemmas.List.Elements.{All-nil, All-cons}
 use Rattle.memory_model.specs.Memory.{Memory, byte_at}
-use Rattle.memory_model.specs.Ranges.{NoneUsed, IsPageOf}
+use Rattle.memory_model.specs.Ranges.{IsPageOf}
+use Rattle.space_mem.specs.Held.{Held, AllClean, AllZero, Covers}
 use Rattle.snapshot.specs.Pages.{AreChanged, SameBytes}
 
--- pages that neither memory uses
-pub same_unused : (m n : Memory) (from end : ℕ) → NoneUsed m from end → NoneUsed n from end → SameBytes m n from end
-same_unused m n from end p q a above below =
+-- pages of which neither memory has a byte other than 0
+pub same_zero : (m n : Memory) (from end : ℕ) → AllZero m from end → AllZero n from end → SameBytes m n from end
+same_zero m n from end p q a above below =
     let e : a ≡ 4096 * (a / 4096) + a % 4096 = omega arith in
     ap (byte_at m) e
-    ∙ (p (a / 4096) (omega arith) (omega arith)).1 (a % 4096) (omega arith)
-    ∙ sym ((q (a / 4096) (omega arith) (omega arith)).1 (a % 4096) (omega arith))
+    ∙ p (a / 4096) (a % 4096) (omega arith) (omega arith) (omega arith)
+    ∙ sym (q (a / 4096) (a % 4096) (omega arith) (omega arith) (omega arith))
+    ∙ ap (byte_at n) (sym e)
+
+-- pages that are not dirty
+pub same_clean : (h : Held) (n : Memory) (from end : ℕ) → Covers h n → AllClean h from end → end ≤ 1048576 → SameBytes h.memory n from end
+same_clean h n from end covers clean within a above below =
+    let page = a / 4096 in
+    let e : a ≡ 4096 * page + a % 4096 = omega arith in
+    ap (byte_at h.memory) e
+    ∙ covers page (omega arith) (clean page (omega arith) (omega arith)) (a % 4096) (omega arith)
     ∙ ap (byte_at n) (sym e)
 
 -- a page of the same bytes

@@ -1,6 +1,7 @@
 ghost use Rattle.std.specs.Prelude.{◌≡◌, ℕ, ◌*◌, ◌+◌, ◌<◌, ◌≤◌, IfErr, IfOk, OnOk, Some, None};
 ghost use Rattle.memory_model.specs.Sizes.{page_size};
 ghost use Rattle.merge_model.specs.Merge.{first_conflict};
+ghost use Rattle.space_mem.specs.Held.{Covers};
 ghost use Rattle.snapshot.specs.Faults.{MayFail};
 ghost use Rattle.snapshot.specs.Pages.{AreChanged, NoneInConflict};
 
@@ -9,7 +10,7 @@ use crate::page::{SIZE, merge_in_page};
 use crate::walk::next_page;
 use space_mem::{Mem, Pages};
 
-// The pages of a range that the child changed, rising. The error is the conflict at the least address of the range, or want
+// The pages of a range that the child changed, rising; its dirty pages alone are looked at. The error is the conflict at the least address of the range, or want
 // of memory.
 pub fn changed_pages(
     parent: &Mem,
@@ -17,6 +18,7 @@ pub fn changed_pages(
     snapshot: &Mem,
     range: Pages,
 ) -> Result<Vec<u32>, MergeError>
+    requires covers { Covers child.now snapshot.now.memory }
     ensures changed { IfOk result (λ changed. AreChanged child.now.memory snapshot.now.memory range.first (range.first + range.count) changed.items) }
     ensures sure { OnOk result (NoneInConflict snapshot.now.memory child.now.memory parent.now.memory (page_size * range.first) (page_size * (range.first + range.count))) }
     ensures conflict { IfErr result (MayFail (first_conflict snapshot.now.memory child.now.memory parent.now.memory range.first range.count)) }

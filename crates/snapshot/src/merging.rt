@@ -1,7 +1,7 @@
 ghost use Rattle.std.specs.Prelude.{◌≡◌, ℕ, ◌*◌, ◌+◌, ◌<◌, ◌≤◌, All, IfErr, IsOk, OnErr, OnOk, Some, None};
 ghost use Rattle.memory_model.specs.Sizes.{page_size, pages};
 ghost use Rattle.merge_model.specs.Merge.{first_conflict, with_merge};
-ghost use Rattle.space_mem.specs.Held.{Owns};
+ghost use Rattle.space_mem.specs.Held.{Covers, Marks, Owns};
 ghost use Rattle.snapshot.specs.Faults.{MayFail};
 ghost use Rattle.snapshot.specs.Pages.{AreChanged, NoneInConflict};
 
@@ -18,6 +18,7 @@ fn own_each(memory: &mut Mem, each: &[u32]) -> Result<(), AllocError>
     ensures same { memory.new.memory ≡ memory.old.memory }
     ensures owned { OnOk result (All (Owns memory.new) each.now) }
     ensures stays { (page : ℕ) → Owns memory.old page → Owns memory.new page }
+    ensures marks { Marks memory.old memory.new }
 {
     for page in each {
         memory.own(Pages {
@@ -42,6 +43,7 @@ fn merge_one(
     ensures ok { OnOk result (parent.new.memory ≡ with_merge snapshot.now.memory child.now.memory parent.old.memory page 1) }
     ensures sure { IsOk result }
     ensures stays { (p : ℕ) → Owns parent.old p → Owns parent.new p }
+    ensures marks { Marks parent.old parent.new }
 {
     if !merge_in_page(parent, child, snapshot, page, scratch)? {
         return Ok(());
@@ -64,6 +66,7 @@ fn merge_each(
     ensures ok { OnOk result (parent.new.memory ≡ with_merge snapshot.now.memory child.now.memory parent.old.memory range.first range.count) }
     ensures sure { IsOk result }
     ensures stays { (page : ℕ) → Owns parent.old page → Owns parent.new page }
+    ensures marks { Marks parent.old parent.new }
 {
     let mut scratch = [0; SIZE];
     for page in changed {
@@ -72,17 +75,21 @@ fn merge_each(
     Ok(())
 }
 
-/// Merges what a child wrote since its snapshot into its parent's memory (OSDI 2010, the kernel interface: Merge): in each page of
-/// the range, each byte of the child's that differs from the snapshot's takes the place of the parent's. Permissions stay, and
-/// the pages that the parent owned are owned. The error is `Conflict` at the least address of the range at which both the
-/// child's byte and the parent's differ from the snapshot's, equal to one another or not, or want of memory. At an error no
-/// byte and no permission of the parent has changed; some pages of the range may be owned that were not.
+/// Merges what a child wrote since its snapshot into its parent's memory (OSDI 2010, the kernel interface: Merge): in each page
+/// of the range, each byte of the child's that differs from the snapshot's takes the place of the parent's. Permissions stay,
+/// and the pages that the parent owned are owned. It reads the child's dirty pages alone: outside of them the child has the
+/// snapshot's bytes. A page of the parent that is not dirty afterwards was not dirty before, and has the bytes that it had. The
+/// error is `Conflict` at the least address of the range at which both the child's byte and the parent's differ from the
+/// snapshot's, equal to one another or not, or want of memory. At an error no byte and no permission of the parent has changed;
+/// some pages of the range may be owned that were not.
 pub fn merge(parent: &mut Mem, child: &Mem, snapshot: &Mem, range: Pages) -> Result<(), MergeError>
+    requires covers { Covers child.now snapshot.now.memory }
     ensures ok { OnOk result (parent.new.memory ≡ with_merge snapshot.now.memory child.now.memory parent.old.memory range.first range.count) }
     ensures sure { OnOk result (first_conflict snapshot.now.memory child.now.memory parent.old.memory range.first range.count ≡ None) }
     ensures conflict { IfErr result (MayFail (first_conflict snapshot.now.memory child.now.memory parent.old.memory range.first range.count)) }
     ensures err { OnErr result (parent.new.memory ≡ parent.old.memory) }
     ensures stays { (page : ℕ) → Owns parent.old page → Owns parent.new page }
+    ensures marks { Marks parent.old parent.new }
 {
     let changed = changed_pages(parent, child, snapshot, range)?;
     own_each(parent, &changed)?;

@@ -6,7 +6,7 @@ ghost use Rattle.snapshot.specs.Pages.{IsFirstConflict, IsMergedPage, NoneInConf
 
 use crate::fault::MergeError;
 use memory_model::PAGE_SIZE;
-use merge3::merge_page;
+use merge3::{merge_page, same_page};
 use space_mem::Mem;
 
 pub const SIZE: usize = PAGE_SIZE as usize;
@@ -39,7 +39,7 @@ pub fn merge_in_page(
 {
     let before = page_bytes(snapshot, page);
     let written = page_bytes(child, page);
-    if written == before {
+    if same_page(before, written) {
         return Ok(false);
     }
     match merge_page(before, written, page_bytes(parent, page), out) {

@@ -1,4 +1,4 @@
 pub mod Held
-pub mod Runs
-pub mod Fills
+pub mod Tables
 pub mod Stored
+pub mod Moves

@@ -1,22 +1,19 @@
-//! The memory of a space: bytes of 2^32 addresses and permissions of 2^20 pages, kept by runs of pages.
+//! The memory of a space: bytes of 2^32 addresses and permissions of 2^20 pages, kept by a page table.
 #![tactic(auto)]
 
-mod access;
 mod bus;
 mod byte_string;
-mod copy;
-mod edit;
-mod edit_page;
-mod guesses;
+mod copying;
+mod freezing;
 mod layout;
 mod memory;
-mod permissions;
+mod owning;
+mod ranges;
+mod reading;
 mod rights;
-mod search;
-mod spans;
-mod store;
-mod walk;
-mod zero;
+mod sharing;
+mod table;
+mod writing;
 
 pub use layout::Pages;
 pub use memory::Mem;

@@ -1,42 +1,40 @@
 ghost use Rattle.std.specs.Prelude.{◌≡◌, ℕ, ◌+◌, ◌*◌, ◌/◌, ◌%◌, ◌<◌, ◌≤◌, ◌^◌, length, IfOk, IfSome, IsNone, OnOk, OnErr, IsOk, IsTrue, if◌then◌else◌};
 ghost use Rattle.memory_model.specs.Memory.{byte_at, permission_at, may_read, may_fetch, may_write, width_bytes, number_from, with_bytes, with_permissions, first_without, bytes_from};
-ghost use Rattle.memory_model.specs.Sparse.{no_values};
+ghost use Rattle.memory_model.specs.Sparse.{no_values, put, value_at};
 ghost use Rattle.memory_model.specs.Ranges.{IsZeroPage, IsPageOf, IsBounded, IsNextPage, NoneUsed, with_copies, with_page, with_zeros};
 ghost use Rattle.page_store.specs.Bytes.{bytes_of};
-ghost use Rattle.space_mem.specs.Held.{Owns, OwnSameOutside, nothing_held, owning, with_stored, with_written};
+ghost use Rattle.space_mem.specs.Held.{Owns, OwnSameOutside, IsClean, Marks, IsNextDirty, AllClean, IsNextKept, AllZero, all_pages, nothing_held, owning, with_stored, with_written};
 
-use crate::guesses::Guesses;
-use crate::layout::{Pages, Run};
-use crate::{access, byte_string, copy, permissions, rights, store, walk, zero};
+use crate::layout::Pages;
+use crate::table::PageTable;
 use memory_model::Width;
 use page_store::PageRef;
+use page_tree::TreeRef;
 use std::alloc::{AllocError, Global};
 use std::marker::Model;
 
 /// A memory: a byte at each of 2^32 addresses, and a permission, 0 to 3, of each of 2^20 pages of 4,096 bytes (1 reads and
-/// fetches, 2 writes). Contracts see it as its bytes and permissions, and which pages it owns: a write to one takes no memory.
+/// fetches, 2 writes). Contracts see it as its bytes and permissions, which pages it owns (a write to one takes no memory), and which
+/// are dirty: they may have changed since the last snapshot. Each page that is owned is dirty.
 ///
-/// It is kept by runs of pages in the order of their numbers; a page that was never written has no bytes of its own, and a page
-/// that other memories share is copied at the first write. Fetches
-/// remember where the runs stand that they asked last, and so do loads and stores together.
+/// It is kept by a page table; a page that was never written has no bytes of its own, and a page that other memories share is copied at the
+/// first write.
 #[derive(Drop)]
 pub struct Mem {
-    runs: Vec<Run>,
-    fetched: Guesses,
-    touched: Guesses,
+    pub(crate) table: PageTable,
 }
 
 impl Model for Mem {
     ghost use Rattle.space_mem.specs.Held.{Held, coded_held};
-    ghost use Rattle.space_mem.specs.Runs.{InOrder, held_of};
+    ghost use Rattle.space_mem.specs.Tables.{IsTable, held_of};
 
     ghost Value = { Held };
 
     ghost coded = { coded_held };
 
-    ghost view = { λ m. held_of m.runs.items };
+    ghost view = { λ m. held_of m.table };
 
-    ghost invariant = { λ m. InOrder m.runs.items };
+    ghost invariant = { λ m. IsTable m.table };
 }
 
 impl Mem {
@@ -45,29 +43,31 @@ impl Mem {
         ensures { result ≡ nothing_held }
     {
         Mem {
-            runs: Vec::new(alloc),
-            fetched: Guesses::new(),
-            touched: Guesses::new(),
+            table: PageTable {
+                pages: TreeRef::Uniform(0),
+                dirty: TreeRef::Uniform(0),
+                alloc,
+            },
         }
     }
 
     /// What the memory takes its pages from.
     pub fn allocator(&self) -> Global {
-        *self.runs.allocator()
+        self.table.alloc
     }
 
     /// The byte at an address.
     pub fn byte(&self, at: u32) -> u8
         ensures { result ≡ byte_at self.now.memory at }
     {
-        access::byte(&self.runs, at)
+        self.table.byte(at)
     }
 
     /// The permission of a page.
     pub fn perm(&self, page: u32) -> u8
         ensures { result ≡ permission_at self.now.memory page }
     {
-        access::permission(&self.runs, page)
+        self.table.permission(page)
     }
 
     /// The number at an aligned address, the least byte first; none exactly where its page may not be read.
@@ -76,7 +76,7 @@ impl Mem {
         requires { at % width_bytes width ≡ 0 }
         ensures { result ≡ (if may_read self.now.memory at then Some (number_from (byte_at self.now.memory) width at) else None) }
     {
-        access::load(&self.runs, &self.touched, at, width)
+        self.table.load(at, width)
     }
 
     /// The word at an address that is a multiple of 4; none exactly where its page may not be fetched from.
@@ -85,7 +85,7 @@ impl Mem {
         requires { at % 4 ≡ 0 }
         ensures { result ≡ (if may_fetch self.now.memory at then Some (number_from (byte_at self.now.memory) Width.Four at) else None) }
     {
-        access::load(&self.runs, &self.fetched, at, Width::Four)
+        self.table.load(at, Width::Four)
     }
 
     /// The number of the four bytes at an address that is a multiple of 4, the least byte first, whatever its page's permission.
@@ -94,7 +94,7 @@ impl Mem {
         requires { at % 4 ≡ 0 }
         ensures { result ≡ number_from (byte_at self.now.memory) Width.Four at }
     {
-        access::word(&self.runs, &self.touched, at)
+        self.table.word(at)
     }
 
     /// Whether the page of an address may be written.
@@ -102,7 +102,7 @@ impl Mem {
     pub fn can_store(&self, at: u32) -> bool
         ensures { result ≡ may_write self.now.memory at }
     {
-        access::can_store(&self.runs, &self.touched, at)
+        self.table.permission(at / 4096) / 2 % 2 == 1
     }
 
     /// Writes the lowest bytes of a number at an aligned address that may be written. The page is owned
@@ -114,8 +114,10 @@ impl Mem {
         ensures ok { OnOk result (self.new ≡ with_stored self.old at width value) }
         ensures err { OnErr result (self.new ≡ self.old) }
         ensures owned { Owns self.old (at / 4096) → IsOk result }
+        ensures marks { Marks self.old self.new }
     {
-        store::store(&mut self.runs, &self.touched, at, width, value)
+        self.table.try_store(at, width, value)?;
+        Ok(())
     }
 
     /// Whether the page of an aligned address may be written; where it may, the lowest bytes of a number are written there. Its
@@ -128,8 +130,9 @@ impl Mem {
         ensures err { OnErr result (self.new ≡ self.old) }
         ensures wanted { OnErr result (IsTrue (may_write self.old.memory at)) }
         ensures owned { Owns self.old (at / 4096) → IsOk result }
+        ensures marks { Marks self.old self.new }
     {
-        store::try_store(&mut self.runs, &self.touched, at, width, value)
+        self.table.try_store(at, width, value)
     }
 
     /// Writes a byte, whatever the page's permission. The page is owned then. The one error is want of memory: nothing has
@@ -138,8 +141,11 @@ impl Mem {
         ensures ok { OnOk result (self.new ≡ with_written self.old at byte) }
         ensures err { OnErr result (self.new ≡ self.old) }
         ensures owned { Owns self.old (at / 4096) → IsOk result }
+        ensures marks { Marks self.old self.new }
     {
-        store::write(&mut self.runs, at, byte)
+        self.own_page(at / 4096)?;
+        self.write_in_page(at, &[byte]);
+        Ok(())
     }
 
     /// Gives each page of a range the permission, 0 to 3; bytes stay, and which pages are owned. Its one error is want of
@@ -148,8 +154,10 @@ impl Mem {
         requires { perm < 4 }
         ensures ok { OnOk result (self.new ≡ record self.old { memory = with_permissions self.old.memory range.first range.count perm }) }
         ensures err { OnErr result (self.new ≡ self.old) }
+        ensures marks { Marks self.old self.new }
     {
-        permissions::set_permission(&mut self.runs, range.first, range.first + range.count, perm)
+        self.table
+            .set_permission(range.first, range.first + range.count, perm)
     }
 
     /// Makes the bytes of each page of a range 0; permissions stay, and which other pages are owned. Its one error is want of
@@ -158,26 +166,9 @@ impl Mem {
         ensures ok { OnOk result (self.new.memory ≡ with_zeros self.old.memory range.first range.count) }
         ensures err { OnErr result (self.new ≡ self.old) }
         ensures outside { OnOk result (OwnSameOutside range.first (range.first + range.count) self.new self.old) }
+        ensures marks { Marks self.old self.new }
     {
-        zero::zero(&mut self.runs, range.first, range.first + range.count)
-    }
-
-    /// Gives the pages of a range the bytes and permissions of a source's pages from `from` on, which end within the memory.
-    /// Pages of the source that are not owned are shared, and others copied. Which other pages are owned stays. Its one error is want
-    /// of memory: nothing has changed then.
-    pub fn copy_from(&mut self, source: &Mem, from: u32, to: Pages) -> Result<(), AllocError>
-        requires { from + to.count ≤ 1048576 }
-        ensures ok { OnOk result (self.new.memory ≡ with_copies self.old.memory source.now.memory from to.first to.count) }
-        ensures err { OnErr result (self.new ≡ self.old) }
-        ensures outside { OnOk result (OwnSameOutside to.first (to.first + to.count) self.new self.old) }
-    {
-        copy::copy(
-            &mut self.runs,
-            &source.runs,
-            from,
-            to.first,
-            to.first + to.count,
-        )
+        self.table.zero(range.first, range.first + range.count)
     }
 
     /// The least page from `n` on that has a permission or a byte other than 0; none exactly where there is none.
@@ -185,57 +176,7 @@ impl Mem {
         ensures some { IfSome result (IsNextPage self.now.memory n) }
         ensures none { IsNone result → NoneUsed self.now.memory n 1048576 }
     {
-        walk::next_page(&self.runs, n)
-    }
-
-    /// The bytes at `count` addresses from `at` on, whatever the permissions; they end within the memory. Its one error is want
-    /// of memory.
-    pub fn bytes(&self, alloc: Global, at: u32, count: u32) -> Result<Vec<u8>, AllocError>
-        requires { at + count ≤ 2 ^ 32 }
-        ensures { IfOk result (λ bytes. bytes.items ≡ bytes_from self.now.memory at count) }
-    {
-        byte_string::bytes(alloc, &self.runs, at, count)
-    }
-
-    /// The least of `count` addresses from `at` on that may not be read; they end within the memory.
-    pub fn first_unreadable(&self, at: u32, count: u32) -> Option<u32>
-        requires { at + count ≤ 2 ^ 32 }
-        ensures { result ≡ first_without (may_read self.now.memory) at count }
-    {
-        rights::first_unreadable(&self.runs, at, count)
-    }
-
-    /// The least of `count` addresses from `at` on that may not be written; they end within the memory.
-    pub fn first_unwritable(&self, at: u32, count: u32) -> Option<u32>
-        requires { at + count ≤ 2 ^ 32 }
-        ensures { result ≡ first_without (may_write self.now.memory) at count }
-    {
-        rights::first_unwritable(&self.runs, at, count)
-    }
-
-    /// Writes bytes from an address on, whatever the permissions; they end within the memory. Each page
-    /// that has one of them is owned then, and each that was owned stays so. The one error is want of memory: no byte is written
-    /// then. It does not come where each of those pages was owned.
-    pub fn write_bytes(&mut self, at: u32, bytes: &[u8]) -> Result<(), AllocError>
-        requires { at + length bytes.now ≤ 2 ^ 32 }
-        ensures ok { OnOk result (self.new.memory ≡ with_bytes self.old.memory at bytes.now) }
-        ensures err { OnErr result (self.new.memory ≡ self.old.memory) }
-        ensures owned { OnOk result ((k : ℕ) → k < length bytes.now → Owns self.new ((at + k) / 4096)) }
-        ensures stays { (page : ℕ) → Owns self.old page → Owns self.new page }
-        ensures idle { ((k : ℕ) → k < length bytes.now → Owns self.old ((at + k) / 4096)) → IsOk result }
-    {
-        store::write_bytes(&mut self.runs, at, bytes)
-    }
-
-    /// Owns each page of a range; bytes and permissions stay, and so do the pages that were owned. The one error is want of
-    /// memory, which does not come where each page was owned: some pages of the range may be owned then that were not.
-    pub fn own(&mut self, range: Pages) -> Result<(), AllocError>
-        ensures same { self.new.memory ≡ self.old.memory }
-        ensures owned { OnOk result ((page : ℕ) → range.first ≤ page → page < range.first + range.count → Owns self.new page) }
-        ensures stays { (page : ℕ) → Owns self.old page → Owns self.new page }
-        ensures idle { ((page : ℕ) → range.first ≤ page → page < range.first + range.count → Owns self.old page) → IsOk result }
-    {
-        store::own(&mut self.runs, range.first, range.first + range.count)
+        self.table.next_page(n)
     }
 
     /// Makes each page that is kept one that can be shared: bytes and permissions stay, and no page is owned then. A write to a
@@ -243,8 +184,9 @@ impl Mem {
     pub fn freeze(&mut self) -> Result<(), AllocError>
         ensures same { self.new.memory ≡ self.old.memory }
         ensures none { OnOk result (self.new.owned ≡ no_values) }
+        ensures dirty { self.new.dirty ≡ self.old.dirty }
     {
-        walk::freeze(&mut self.runs)
+        self.table.freeze()
     }
 
     /// An equal memory, which no later write to this one changes. Both share all pages, and own none then. The one error is want of
@@ -254,15 +196,67 @@ impl Mem {
         ensures shared { IfOk result (λ m. m.owned ≡ no_values) }
         ensures same { self.new.memory ≡ self.old.memory }
         ensures none { OnOk result (self.new.owned ≡ no_values) }
+        ensures dirty { IfOk result (λ m. m.dirty ≡ self.old.dirty) }
+        ensures stays { self.new.dirty ≡ self.old.dirty }
     {
-        walk::freeze(&mut self.runs)?;
-        let alloc = *self.runs.allocator();
-        let runs = walk::shared(alloc, &self.runs)?;
-        Ok(Mem {
-            runs,
-            fetched: Guesses::new(),
-            touched: Guesses::new(),
-        })
+        self.table.freeze()?;
+        let table = self.table.share_as_dirty()?;
+        Ok(Mem { table })
+    }
+
+    /// Marks a page, below 2^20, as dirty. The one error is want of memory: nothing has changed then.
+    pub fn mark(&mut self, page: u32) -> Result<(), AllocError>
+        requires { page < 1048576 }
+        ensures ok { OnOk result (self.new ≡ record self.old { dirty = put self.old.dirty page 1 }) }
+        ensures err { OnErr result (self.new ≡ self.old) }
+    {
+        self.table.mark(page)
+    }
+
+    /// Marks every page as dirty.
+    pub fn mark_all(&mut self)
+        ensures { self.new ≡ record self.old { dirty = all_pages } }
+    {
+        self.table.mark_all();
+    }
+
+    /// No page is dirty any more. None may be owned.
+    pub fn clean(&mut self)
+        requires { self.old.owned ≡ no_values }
+        ensures { self.new ≡ record self.old { dirty = no_values } }
+    {
+        self.table.clean();
+    }
+
+    /// The least dirty page from `n` on; none exactly where there is none.
+    pub fn next_dirty(&self, n: u32) -> Option<u32>
+        ensures some { IfSome result (IsNextDirty self.now n) }
+        ensures none { IsNone result → AllClean self.now n 1048576 }
+    {
+        self.table.next_dirty(n)
+    }
+
+    /// A page from `n` on, before which all bytes from `n` on are 0: the least of which bytes are kept. None only where all are 0.
+    pub fn next_kept(&self, n: u32) -> Option<u32>
+        ensures some { IfSome result (IsNextKept self.now.memory n) }
+        ensures none { IsNone result → AllZero self.now.memory n 1048576 }
+    {
+        self.table.next_kept(n)
+    }
+
+    /// An equal memory, which no later write to this one changes; none of its pages is dirty. Both share all pages, and own none then. The one
+    /// error is want of memory: bytes and permissions are as they were then, and which pages are dirty.
+    pub fn share(&mut self) -> Result<Mem, AllocError>
+        ensures equal { IfOk result (λ m. m.memory ≡ self.old.memory) }
+        ensures shared { IfOk result (λ m. m.owned ≡ no_values) }
+        ensures clean { IfOk result (λ m. m.dirty ≡ no_values) }
+        ensures same { self.new.memory ≡ self.old.memory }
+        ensures none { OnOk result (self.new.owned ≡ no_values) }
+        ensures stays { self.new.dirty ≡ self.old.dirty }
+    {
+        self.table.freeze()?;
+        let table = self.table.share()?;
+        Ok(Mem { table })
     }
 
     /// The bytes of a page; none only where all are 0.
@@ -270,7 +264,7 @@ impl Mem {
         ensures some { IfSome result (λ page. IsPageOf self.now.memory n (bytes_of page.now)) }
         ensures none { IsNone result → IsZeroPage self.now.memory n }
     {
-        walk::page(&self.runs, n)
+        self.table.page(n)
     }
 
     /// Puts a page's bytes in the place of those of page `n`, below 2^20; the permission stays. The page is owned then; one
@@ -279,8 +273,11 @@ impl Mem {
         requires { n < 1048576 }
         ensures ok { OnOk result (self.new ≡ owning self.old n (with_page self.old.memory n (bytes_of page))) }
         ensures err { OnErr result (self.new ≡ self.old) }
+        ensures marks { Marks self.old self.new }
     {
-        store::put_page(&mut self.runs, n, page)
+        self.own_page(n)?;
+        self.write_in_page(4096 * n, page.bytes());
+        Ok(())
     }
 
     /// What every memory keeps: bytes below 256 at addresses below 2^32, and permissions below 4 of pages below 2^20.
@@ -288,6 +285,17 @@ impl Mem {
     pub fn bounds(&self)
         ensures { IsBounded self.now.memory }
     {
-        access::bounds(&self.runs);
+        self.table.bounds();
+    }
+
+    // Owns a page, which is dirty then. It takes no memory where the page is owned.
+    pub(crate) fn own_page(&mut self, page: u32) -> Result<(), AllocError>
+        requires { page < 1048576 }
+        ensures ok { OnOk result (self.new ≡ owning self.old page self.old.memory) }
+        ensures err { OnErr result (self.new ≡ self.old) }
+        ensures idle { Owns self.old page → IsOk result }
+        ensures marks { Marks self.old self.new }
+    {
+        self.table.own_page(page)
     }
 }

@@ -8,3 +8,4 @@ pub mod CallEvents
 pub mod Following
 pub mod Advancing
 pub mod Caching
+pub mod Marking

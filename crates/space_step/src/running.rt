@@ -37,6 +37,7 @@ fn trap(top: &mut Top, number: u8, value: u32)
 }
 
 // Instructions of a space that can pay for so many, up to a call or a trap, paid for.
+#[tactic(auto, using(space_mem::proofs::Dirty::covers_in_after))]
 fn execute_paid(top: &mut Top, budget: u32) -> Stretch
     requires running { top.old.status ≡ Status.Running }
     requires pays { Pays budget top.old }

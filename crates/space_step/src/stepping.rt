@@ -3,6 +3,7 @@ ghost use Rattle.memory_model.specs.Memory.{Memory, with_number};
 ghost use Rattle.instruction_model.specs.Form.{HasFields};
 ghost use Rattle.instruction_model.specs.Outcome.{View, view_of, outcome};
 ghost use Rattle.rv_exec.specs.Steps.{Steps};
+ghost use Rattle.space_mem.specs.Held.{Marks};
 ghost use Rattle.space_step.specs.Source.{Outlives};
 
 use crate::source::Source;
@@ -35,6 +36,7 @@ pub(crate) fn step_from<S: Source>(
     requires { S.agrees source.old (view_of memory.old.memory) }
     ensures steps { Steps with_number true (outcome (view_of memory.old.memory) regs.old) result regs.old memory.old.memory regs.new memory.new.memory }
     ensures agrees { S.agrees source.new (view_of memory.new.memory) }
+    ensures marks { Marks memory.old memory.new }
 {
     match source.instruction_at(memory, regs.pc) {
         Ok(instruction) => {

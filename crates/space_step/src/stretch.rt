@@ -1,5 +1,6 @@
 ghost use Rattle.std.specs.Prelude.{◌≡◌, ◌≤◌, ◌<◌, ◌+◌, ◌^◌};
 ghost use Rattle.instruction_model.specs.Outcome.{view_of, outcome};
+ghost use Rattle.space_mem.specs.Held.{Marks};
 ghost use Rattle.space_step.specs.Stretch.{Executes, Ends};
 
 use crate::decode_cache::{DecodeCache, ENTRIES, Entry};
@@ -33,7 +34,7 @@ const UNCACHED: u32 = 1000;
 
 // Executes instructions from a source, at most as many as the budget, up to a call or a trap.
 #[inline(never)]
-#[tactic(auto, using(crate::proofs::Stretches::wants_memory))]
+#[tactic(auto, using(crate::proofs::Stretches::wants_memory, space_mem::proofs::Dirty::marks_then))]
 fn execute_from<S: Source>(
     source: &mut S,
     registers: &mut Regs,
@@ -44,6 +45,7 @@ fn execute_from<S: Source>(
     ensures within { result.count ≤ budget }
     ensures done { Executes result.count registers.old memory.old.memory registers.new memory.new.memory }
     ensures end { Ends result.end result.count budget (outcome (view_of memory.new.memory) registers.new) }
+    ensures marks { Marks memory.old memory.new }
 {
     // a copy, so that pc can stand in a register of the machine
     let mut working = *registers;
@@ -73,6 +75,7 @@ fn execute_cached(registers: &mut Regs, memory: &mut Mem, budget: u32) -> Stretc
     ensures within { result.count ≤ budget }
     ensures done { Executes result.count registers.old memory.old.memory registers.new memory.new.memory }
     ensures end { Ends result.end result.count budget (outcome (view_of memory.new.memory) registers.new) }
+    ensures marks { Marks memory.old memory.new }
 {
     // made in place: a function that gave it back would copy it
     let mut cache = DecodeCache {
@@ -93,11 +96,12 @@ fn after(done: u32, rest: Stretch) -> Stretch
 }
 
 /// Executes instructions, at most as many as the budget, up to a call or a trap.
-#[tactic(auto, using(crate::proofs::Stretches::executes_on, crate::proofs::Stretches::ends_on))]
+#[tactic(auto, using(crate::proofs::Stretches::executes_on, crate::proofs::Stretches::ends_on, space_mem::proofs::Dirty::marks_then))]
 pub(crate) fn execute(registers: &mut Regs, memory: &mut Mem, budget: u32) -> Stretch
     ensures within { result.count ≤ budget }
     ensures done { Executes result.count registers.old memory.old.memory registers.new memory.new.memory }
     ensures end { Ends result.end result.count budget (outcome (view_of memory.new.memory) registers.new) }
+    ensures marks { Marks memory.old memory.new }
 {
     if budget <= UNCACHED {
         return execute_from(&mut Uncached, registers, memory, budget);

@@ -20,6 +20,7 @@ const FRESH: Status = Status::Stopped {
 };
 
 /// The state of a space, without its children. Fuel plus used is from 1 to 2^32 - 1, and x0 is 0 (by the type of the registers).
+/// Outside of its dirty pages the memory has the bytes of the snapshot, where there is one.
 #[derive(Drop)]
 pub struct Top {
     pub registers: Regs,
@@ -36,7 +37,7 @@ impl Model for Top {
     ghost use Rattle.std.specs.Prelude.{◌≡◌, ◌≤◌, ◌<◌, ◌^◌, ◌+◌};
     ghost use Rattle.space_model.specs.Space.{Top};
     ghost use Rattle.space_model.specs.Encoding.{coded_top};
-    ghost use Rattle.space_mem.specs.Held.{memory_in};
+    ghost use Rattle.space_mem.specs.Held.{CoversIn, memory_in};
 
     ghost Value = { Top };
 
@@ -44,7 +45,7 @@ impl Model for Top {
 
     ghost view = { λ t. record { registers = t.registers; memory = t.memory.memory; snapshot = memory_in t.snapshot; limit = t.limit; fuel = t.fuel; used = t.used; status = t.status; devices = t.devices } };
 
-    ghost invariant = { λ t. (t.fuel + t.used < 2 ^ 32) × (1 ≤ t.fuel + t.used) };
+    ghost invariant = { λ t. (t.fuel + t.used < 2 ^ 32) × (1 ≤ t.fuel + t.used) × CoversIn t.memory t.snapshot };
 }
 
 impl Top {

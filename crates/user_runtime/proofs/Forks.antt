@@ -1,5 +1,5 @@
 -- A copy of all pages of a memory is that memory, so a child that has its caller's memory has a copy of it.
-use Rattle.std.proofs.Common.{◌≡◌, ℕ, ◌+◌, ◌*◌, ◌-◌, ◌≤◌, inl, inr, sym, ◌∙◌, ap, arith}
+use Rattle.std.proofs.Common.{◌≡◌, ℕ, ◌+◌, ◌*◌, ◌-◌, ◌≤◌, inl, inr, sym, ◌∙◌, ap, subst, arith}
 use Rattle.std.proofs.lemmas.Bool.{cases_lt}
 use Rattle.std.specs.Prelude.{Option, Some, None, is_some, IfSome, if◌then◌else◌}
 use Rattle.memory_model.specs.Memory.{Memory, byte_at, permission_at, same_memory}
@@ -7,11 +7,12 @@ use Rattle.memory_model.specs.Ranges.{with_row, with_copies, IsBounded}
 use Rattle.memory_model.specs.Sizes.{page_size, pages}
 use Rattle.memory_model.specs.Sparse.{Sparse, value_at}
 use Rattle.instruction_model.specs.Outcome.{Registers}
-use Rattle.space_mem.specs.Held.{Held, memory_in}
+use Rattle.space_mem.specs.Held.{Held, CoversIn, memory_in}
+use Rattle.space_mem.proofs.Dirty.{covers_in_all}
 use Rattle.space_model.specs.Space.{Top}
 use Rattle.space_model.specs.Runtime.{after_fork, after_thread_fork, fork_registers}
 use Rattle.space_model.specs.declared.Status.TheVariants.{Running}
-use Rattle.user_runtime.specs.Calls.{after_fork_of}
+use Rattle.user_runtime.specs.Calls.{Suits, after_fork_of}
 use Rattle.memory_model.proofs.Rows.{value_at-row_after, value_at-row_key}
 
 -- a row over all keys at which either of two has a value
@@ -33,7 +34,7 @@ abbrev run_by : Registers → Memory → Top → Top
 run_by r m c = record c { registers = r; memory = m; status = Running; limit = None }
 
 -- a child with its caller's memory, that runs behind the call
-pub forked : (t u c d : Top) (m : Memory) (r : Registers) → u ≡ t → d ≡ c → IsBounded d.memory → IsBounded u.memory → m ≡ t.memory → r ≡ fork_registers u.registers
+forked : (t u c d : Top) (m : Memory) (r : Registers) → u ≡ t → d ≡ c → IsBounded d.memory → IsBounded u.memory → m ≡ t.memory → r ≡ fork_registers u.registers
     → run_by r m d ≡ after_fork t c
 unfolding after_fork
 forked t u c d m r caller child low high copy registers =
@@ -45,9 +46,28 @@ abbrev with_snapshot : Memory → Top → Top
 with_snapshot m t = record t { snapshot = Some m }
 
 -- and with one more as its snapshot, where there is one
-pub kept : (t c d e : Top) (o : Option Held) → IfSome o (λ s. s.memory ≡ t.memory) → d ≡ after_fork t c → d.memory ≡ t.memory → e ≡ (if is_some o then record d { snapshot = memory_in o } else d)
+kept : (t c d e : Top) (o : Option Held) → IfSome o (λ s. s.memory ≡ t.memory) → d ≡ after_fork t c → d.memory ≡ t.memory → e ≡ (if is_some o then record d { snapshot = memory_in o } else d)
     → e ≡ after_fork_of (is_some o) t c
 unfolding after_fork after_thread_fork
 kept t c d e None same run equal is = is ∙ run
 kept t c d e (Some h) same run equal is =
     is ∙ ap (λ m. with_snapshot m d) (same ∙ sym equal) ∙ ap (λ x. with_snapshot x.memory x) run
+
+abbrev with_kept : Option Memory → Top → Top
+with_kept k t = record t { snapshot = k }
+
+kept_is : (d : Top) (o l n : Option Held) → n ≡ (if is_some o then o else l) → memory_in l ≡ d.snapshot → with_kept (memory_in n) d ≡ (if is_some o then record d { snapshot = memory_in o } else d)
+kept_is d None l n is had = ap (λ k. with_kept k d) (ap memory_in is ∙ had)
+kept_is d (Some h) l n is had = ap (λ k. with_kept (memory_in k) d) is
+
+-- a child after a fork, by what its snapshot was and is
+pub given : (t u c d : Top) (m : Memory) (r : Registers) (o l n : Option Held) → u ≡ t → d ≡ c → IsBounded d.memory → IsBounded u.memory → m ≡ t.memory → r ≡ fork_registers u.registers
+    → IfSome o (λ s. s.memory ≡ t.memory) → n ≡ (if is_some o then o else l) → memory_in l ≡ d.snapshot → with_kept (memory_in n) (run_by r m d) ≡ after_fork_of (is_some o) t c
+given t u c d m r o l n caller child low high copy registers same is had =
+    let run = forked t u c d m r caller child low high copy registers in
+    kept t c (run_by r m d) (with_kept (memory_in n) (run_by r m d)) o same run copy (kept_is (run_by r m d) o l n is had)
+
+-- a memory suits the snapshot that the child has then
+pub suited : (h : Held) (o l n : Option Held) → Suits h o → n ≡ (if is_some o then o else l) → CoversIn h n
+suited h None l n all is = subst (CoversIn h) (sym is) (covers_in_all h l all)
+suited h (Some s) l n covers is = subst (CoversIn h) (sym is) covers

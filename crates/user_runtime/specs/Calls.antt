@@ -1,9 +1,10 @@
 -- What the calls of processes and threads have in common.
 -- Our choice: a restatement for proofs.
-use Rattle.std.specs.Prelude.{ℕ, Bool, Option, Some, None, if◌then◌else◌}
+use Rattle.std.specs.Prelude.{◌≡◌, ℕ, Bool, Option, Some, None, if◌then◌else◌}
 use Rattle.call_model.specs.declared.Call.{Call}
 use Rattle.call_model.specs.declared.Call.TheVariants.{Fork, Tfork}
 use Rattle.memory_model.specs.Memory.{Memory}
+use Rattle.space_mem.specs.Held.{Held, Covers, all_pages}
 use Rattle.space_model.specs.Space.{Space, Top, top_of, children_of}
 use Rattle.space_model.specs.Change.{after_payment}
 use Rattle.space_model.specs.Call.{seen_of, apply_meeting}
@@ -23,6 +24,11 @@ memory_of s = let t = top_of s in t.memory
 -- the space after a call that no test stops, of a caller that has not paid yet
 abbrev pub with_action : Call → Space → Space
 with_action k s = apply_meeting (action k (after_payment (top_of s) (top_of s)) (seen_of (awaits k) (children_of s))) (children_of s)
+
+-- a memory that a child may have with this snapshot; where there is none, with any
+abbrev pub Suits : Held → Option Held → Type 0
+Suits h None = h.dirty ≡ all_pages
+Suits h (Some s) = Covers h s.memory
 
 -- the child of a caller after a fork, of a thread or of a process
 abbrev pub after_fork_of : Bool → Top → Part

@@ -9,8 +9,8 @@ ghost use Rattle.space_model.specs.Meeting.{MayMeet, meet, or_fresh};
 ghost use Rattle.space_model.specs.Runtime as runtime;
 ghost use Rattle.space_model.specs.Sound.{IsSoundAt};
 ghost use Rattle.space_model.specs.Space.{space, none, children_from, children_of, find, top_of};
-ghost use Rattle.space_mem.specs.Held.{memory_in};
-ghost use Rattle.user_runtime.specs.Calls.{after_fork_of, fork_call, with_action, memory_of};
+ghost use Rattle.space_mem.specs.Held.{all_pages};
+ghost use Rattle.user_runtime.specs.Calls.{Suits, after_fork_of, fork_call, with_action, memory_of};
 
 use put_get::succeed;
 use rv_exec::Regs;
@@ -29,44 +29,36 @@ fn fork_registers(caller: &Regs) -> Regs
     registers
 }
 
-// A child becomes what the fork of a process makes of it, with a copy of its caller's memory.
-fn give_process(caller: &Top, memory: Mem, child: &mut Top)
+// A child keeps this snapshot, where there is one, else the one that it had.
+fn keep(snapshot: Option<Mem>, kept: &mut Option<Mem>)
+    ensures { kept.new ≡ (if is_some snapshot then snapshot else kept.old) }
+{
+    if snapshot.is_some() {
+        *kept = snapshot;
+    }
+}
+
+// A child becomes what a fork makes of it, with a copy of its caller's memory, and another one as its snapshot where it is a thread.
+fn give(caller: &Top, memory: Mem, snapshot: Option<Mem>, child: &mut Top)
     requires copy { memory.memory ≡ caller.now.memory }
-    ensures forked { child.new ≡ runtime.after_fork caller.now child.old }
-    ensures equal { child.new.memory ≡ caller.now.memory }
+    requires kept { IfSome snapshot (λ s. s.memory ≡ caller.now.memory) }
+    requires suits { Suits memory snapshot }
+    ensures { child.new ≡ after_fork_of (is_some snapshot) caller.now child.old }
 {
     caller.memory.bounds();
     child.memory.bounds();
     child.registers = fork_registers(&caller.registers);
     child.memory = memory;
+    keep(snapshot, &mut child.snapshot);
     child.status = Status::Running;
     child.limit = None;
-}
-
-// A child has this snapshot, where there is one, else the one that it had.
-fn keep(snapshot: Option<Mem>, child: &mut Top)
-    ensures { child.new ≡ (if is_some snapshot then record child.old { snapshot = memory_in snapshot } else child.old) }
-{
-    if snapshot.is_some() {
-        child.snapshot = snapshot;
-    }
-}
-
-// A child becomes what a fork makes of it, with a copy of its caller's memory, and another one as its snapshot where it is a thread.
-#[tactic(auto, using(crate::proofs::Forks::kept))]
-fn give(caller: &Top, memory: Mem, snapshot: Option<Mem>, child: &mut Top)
-    requires copy { memory.memory ≡ caller.now.memory }
-    requires kept { IfSome snapshot (λ s. s.memory ≡ caller.now.memory) }
-    ensures { child.new ≡ after_fork_of (is_some snapshot) caller.now child.old }
-{
-    give_process(caller, memory, child);
-    keep(snapshot, child);
 }
 
 // The same, and not those below it.
 fn give_top(caller: &Top, memory: Mem, snapshot: Option<Mem>, child: &mut Space)
     requires copy { memory.memory ≡ caller.now.memory }
     requires kept { IfSome snapshot (λ s. s.memory ≡ caller.now.memory) }
+    requires suits { Suits memory snapshot }
     ensures { child.new ≡ space (after_fork_of (is_some snapshot) caller.now (top_of child.old)) (children_of child.old) }
 {
     give(caller, memory, snapshot, &mut child.top);
@@ -76,6 +68,7 @@ fn give_top(caller: &Top, memory: Mem, snapshot: Option<Mem>, child: &mut Space)
 fn make_child(alloc: Global, caller: &Top, memory: Mem, snapshot: Option<Mem>) -> Space
     requires copy { memory.memory ≡ caller.now.memory }
     requires kept { IfSome snapshot (λ s. s.memory ≡ caller.now.memory) }
+    requires suits { Suits memory snapshot }
     ensures { result ≡ space (after_fork_of (is_some snapshot) caller.now (fresh_top (caller.now.fuel + caller.now.used))) none }
 {
     let mut top = Top::fresh(alloc, caller.total_fuel());
@@ -94,6 +87,7 @@ fn give_child(
 ) -> Result<(), AllocError>
     requires copy { memory.memory ≡ caller.now.memory }
     requires kept { IfSome snapshot (λ s. s.memory ≡ caller.now.memory) }
+    requires suits { Suits memory snapshot }
     ensures ok { let cs = children_from children.old.entries in OnOk result (children_from children.new.entries ≡ edit (change number (after_fork_of (is_some snapshot) caller.now (or_fresh caller.now (option_map top_of (find number cs))))) cs) }
     ensures err { OnErr result (children_from children.new.entries ≡ children_from children.old.entries) }
 {
@@ -120,6 +114,7 @@ fn fork_by(
 ) -> Result<(), AllocError>
     requires copy { memory.memory ≡ memory_of space.old }
     requires kept { IfSome snapshot (λ s. s.memory ≡ memory_of space.old) }
+    requires suits { Suits memory snapshot }
     requires pays { MayPay (top_of space.old) }
     ensures ok { OnOk result (space.new ≡ with_action (fork_call (is_some snapshot) number) space.old) }
     ensures err { OnErr result (space.new ≡ space.old) }
@@ -136,12 +131,16 @@ fn fork_by(
     Ok(())
 }
 
-// A copy of a space's memory.
+// A copy of a space's memory, of which each page may differ from any snapshot.
+#[tactic(auto, using(space_mem::proofs::Dirty::covers_in_same))]
 fn memory_copy(space: &mut Space) -> Result<Mem, AllocError>
     ensures equal { IfOk result (λ m. m.memory ≡ memory_of space.old) }
+    ensures all { IfOk result (λ m. m.dirty ≡ all_pages) }
     ensures same { space.new ≡ space.old }
 {
-    space.top.memory.frozen()
+    let mut memory = space.top.memory.share()?;
+    memory.mark_all();
+    Ok(memory)
 }
 
 /// Fork of a process (OSDI 2010, "Efficient System-Enforced Deterministic Parallelism", the section on emulating high-level abstractions), of a

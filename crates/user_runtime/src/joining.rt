@@ -6,7 +6,7 @@ ghost use Rattle.space_model.specs.Event.{MayPay};
 ghost use Rattle.space_model.specs.Meeting.{MayMeet, meet, or_fresh, test_refusal};
 ghost use Rattle.space_model.specs.Sound.{IsSoundAt};
 ghost use Rattle.space_model.specs.Space.{children_from, children_of, find, top_of};
-ghost use Rattle.space_mem.specs.Held.{memory_in};
+ghost use Rattle.space_mem.specs.Held.{Covers, Marks, memory_in};
 ghost use Rattle.user_runtime.specs.Joins.{IsShared, shared_conflict, shared_merge, join_refusal, with_merge_unless, with_join, after_call};
 
 use crate::stopping::report;
@@ -51,9 +51,11 @@ fn merge_shared(
     child: &Mem,
     snapshot: &Mem,
 ) -> Result<Option<Refusal>, AllocError>
+    requires covers { Covers child.now snapshot.now.memory }
     ensures refusal { IfOk result (λ o. o ≡ shared_conflict snapshot.now.memory child.now.memory parent.old.memory) }
     ensures memory { IfOk result (λ o. parent.new.memory ≡ (if is_none o then shared_merge snapshot.now.memory child.now.memory parent.old.memory else parent.old.memory)) }
     ensures err { OnErr result (parent.new.memory ≡ parent.old.memory) }
+    ensures marks { Marks parent.old parent.new }
 {
     match merge(parent, child, snapshot, shared()) {
         Ok(()) => Ok(None),
@@ -67,6 +69,7 @@ fn merge_shared(
 
 // What stops the join of a child, if anything does: it has no snapshot, or there is a conflict. Where nothing does, what it has changed is
 // merged into its caller's memory. At an error nothing is changed.
+#[tactic(auto, using(space_mem::proofs::Dirty::covers_in_after))]
 fn merge_child(child: &Top, caller: &mut Top) -> Result<Option<Refusal>, AllocError>
     ensures refusal { IfOk result (λ o. o ≡ join_refusal child.now.snapshot child.now.memory caller.old.memory) }
     ensures merged { IfOk result (λ o. caller.new ≡ with_merge_unless o child.now caller.old) }

@@ -2,6 +2,7 @@ use Rattle.std.proofs.Common.{◌∙◌, arith, take, subst, All}
 use Rattle.std.proofs.lemmas.List.{take_all}
 use Rattle.std.proofs.lemmas.List.Elements.{All-more, All-weaker}
 use Rattle.space_mem.specs.Held.{Owns}
+use Rattle.space_mem.proofs.Dirty.{marks_then}
 use Rattle.snapshot.proofs.merging.own_each.Goals as goal
 
 pub loop-page-preserved : goal.loop-page-preserved
@@ -15,6 +16,7 @@ loop-page-preserved c =
           (All-weaker (Owns c.loop-page.memory) (Owns c.own.new.self) (λ page owns. own.stays page owns) (take i c.args.each.now) before.owned)
           (own.owned _ (omega arith) (omega arith));
       stays = λ page owns. own.stays page (before.stays page owns);
+      marks = marks_then c.args.memory.now c.loop-page.memory c.own.new.self before.marks own.marks;
     }
 
 pub returns-clause-owned : goal.returns-clause-owned

@@ -1,18 +1,17 @@
-use Rattle.std.proofs.Common.{◌+◌, ◌*◌, ◌∙◌, arith, subst, sym}
-use Rattle.std.specs.Cmp.Lexicographic.{same_text}
+use Rattle.std.proofs.Common.{◌+◌, ◌*◌, arith, subst, sym}
 use Rattle.snapshot.specs.Pages.{IsFirstConflict}
 use Rattle.snapshot.proofs.Lists.{same_page}
 use Rattle.snapshot.proofs.Conflicts.{none_in_page, none_unchanged, first_in_page, merged_in_page}
 use Rattle.snapshot.proofs.page.merge_in_page.Goals as goal
 
-pub returns-then-eq-clause-same : goal.returns-then-eq-clause-same
-returns-then-eq-clause-same c _ =
-    same_page _ _ c.args.page _ _ c.page_bytes-written.ensures c.page_bytes-before.ensures (same_text _ _ (sym c.if-eq.true ∙ c.eq.ensures))
+pub returns-then-same_page-clause-same : goal.returns-then-same_page-clause-same
+returns-then-same_page-clause-same c _ =
+    same_page _ _ c.args.page _ _ c.page_bytes-written.ensures c.page_bytes-before.ensures (sym (c.same_page.ensures.0 c.if-same_page.true))
 
-pub returns-then-eq-clause-sure : goal.returns-then-eq-clause-sure
-returns-then-eq-clause-sure c =
+pub returns-then-same_page-clause-sure : goal.returns-then-same_page-clause-sure
+returns-then-same_page-clause-sure c =
     none_unchanged c.args.snapshot.now.memory c.args.child.now.memory c.args.parent.now.memory c.args.page (c.args.page + 1)
-    (same_page _ _ c.args.page _ _ c.page_bytes-written.ensures c.page_bytes-before.ensures (same_text _ _ (sym c.if-eq.true ∙ c.eq.ensures)))
+    (same_page _ _ c.args.page _ _ c.page_bytes-written.ensures c.page_bytes-before.ensures (sym (c.same_page.ensures.0 c.if-same_page.true)))
 
 pub returns-in-Ok-clause-merged : goal.returns-in-Ok-clause-merged
 returns-in-Ok-clause-merged c _ =

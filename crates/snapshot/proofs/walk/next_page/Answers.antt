@@ -1,37 +1,50 @@
-use Rattle.std.proofs.Common.{ap, arith, refl}
-use Rattle.std.specs.Prelude.{is_some}
-use Rattle.std.proofs.lemmas.Option.{IfSome_then}
-use Rattle.snapshot.proofs.Lists.{same_unused}
+use Rattle.std.proofs.Common.{arith, refl}
+use Rattle.snapshot.proofs.Lists.{same_clean, same_join}
 use Rattle.snapshot.proofs.walk.next_page.Goals as goal
 
-pub returns-in-Some-Some-clause-some : goal.returns-in-Some-Some-clause-some
-returns-in-Some-Some-clause-some c =
-    let a = c.in-Some-Some.ensures.some in
-    let b = c.in-Some-Some.ensures'.some in
+pub returns-then-kept-dirty-clause-some : goal.returns-then-kept-dirty-clause-some
+returns-then-kept-dirty-clause-some c =
+    let h = c.args.child.now in
+    let s = c.args.snapshot.now.memory in
+    let at = c.loop-dirty.at in
+    let dirty = c.in-Some.ensures.some in
     record {
-      above = omega (arith, a.from, b.from, c.min.ensures);
-      below = omega (arith, a.below, b.below, c.min.ensures);
-      same = same_unused _ _ _ _ (λ page from to. a.least page from (omega (arith, c.min.ensures))) (λ page from to. b.least page from (omega (arith, c.min.ensures)));
+      above = omega (arith, dirty.above, c.loop-dirty.invariant.above);
+      below = dirty.below;
+      same = same_join h.memory s c.args.n at c.in-Some.dirty c.loop-dirty.invariant.same
+          (same_clean h s at c.in-Some.dirty c.requires.covers dirty.clean (omega (arith, dirty.below)));
     }
 
-pub returns-in-Some-None-clause-some : goal.returns-in-Some-None-clause-some
-returns-in-Some-None-clause-some c =
-    let a = c.in-Some-None.ensures.some in
+pub loop-dirty-preserved : goal.loop-dirty-preserved
+loop-dirty-preserved c =
+    let h = c.args.child.now in
+    let s = c.args.snapshot.now.memory in
+    let at = c.loop-dirty.at in
+    let dirty = c.in-Some.ensures.some in
+    let kept = c.in-Some-next_kept.ensures.some in
     record {
-      above = a.from;
-      below = a.below;
-      same = same_unused _ _ _ _ a.least (λ page from to. c.in-Some-None.ensures'.none refl page from (omega (arith, a.below)));
+      above = omega (arith, kept.above, dirty.above, c.loop-dirty.invariant.above);
+      same = same_join h.memory s c.args.n c.in-Some.dirty _
+          (same_join h.memory s c.args.n at c.in-Some.dirty c.loop-dirty.invariant.same
+          (same_clean h s at c.in-Some.dirty c.requires.covers dirty.clean (omega (arith, dirty.below))))
+          kept.same;
     }
 
-pub returns-in-None-default-clause-some : goal.returns-in-None-default-clause-some
-returns-in-None-default-clause-some c =
-    let none = c.next_page.ensures.none (ap is_some c.in-None-default.is-0) in
-    IfSome_then c.next_page-2.result c.next_page-2.ensures.some (λ page next. record {
-      above = next.from;
-      below = next.below;
-      same = same_unused _ _ _ _ (λ p from to. none p from (omega (arith, next.below))) next.least;
-    })
+pub returns-in-None-clause-none : goal.returns-in-None-clause-none
+returns-in-None-clause-none c _ =
+    let h = c.args.child.now in
+    let s = c.args.snapshot.now.memory in
+    let at = c.loop-dirty.at in
+    let dirty = c.in-Some.ensures.some in
+    same_join h.memory s c.args.n c.in-Some.dirty 1048576
+    (same_join h.memory s c.args.n at c.in-Some.dirty c.loop-dirty.invariant.same
+    (same_clean h s at c.in-Some.dirty c.requires.covers dirty.clean (omega (arith, dirty.below))))
+    (c.in-None.ensures.none refl)
 
-pub returns-in-None-default-clause-none : goal.returns-in-None-default-clause-none
-returns-in-None-default-clause-none c none =
-    same_unused _ _ c.args.n 1048576 (c.next_page.ensures.none (ap is_some c.in-None-default.is-0)) (c.next_page-2.ensures.none none)
+pub returns-clause-none : goal.returns-clause-none
+returns-clause-none c _ =
+    let h = c.args.child.now in
+    let s = c.args.snapshot.now.memory in
+    let at = c.loop-dirty.at in
+    same_join h.memory s c.args.n at 1048576 c.loop-dirty.invariant.same
+    (same_clean h s at 1048576 c.requires.covers (c.in_default.ensures.none refl) (omega arith))

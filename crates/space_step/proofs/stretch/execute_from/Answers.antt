@@ -1,3 +1,4 @@
+use Rattle.space_mem.proofs.Dirty.{marks_then}
 use Rattle.space_step.proofs.Stretches.{executes_more}
 use Rattle.space_step.proofs.stretch.execute_from.Goals as goal
 
@@ -6,4 +7,5 @@ loop-count-preserved g c = record {
   done = executes_more c.loop-count.count c.args.registers.now c.loop-count.working c.step_from.new.regs c.args.memory.now.memory c.loop-count.memory.memory c.step_from.new.memory.memory _ c.loop-count.invariant.done
       (rw c.in-Ok-Next.field-0-is at c.in-Ok-Next.ensures.steps);
   agrees = c.in-Ok-Next.ensures.agrees;
+  marks = marks_then c.args.memory.now c.loop-count.memory c.step_from.new.memory c.loop-count.invariant.marks c.step_from.ensures.marks;
 }

@@ -1,4 +1,4 @@
-use Rattle.std.proofs.Common.{◌≡◌, ℕ, ◌<◌, length, false}
+use Rattle.std.proofs.Common.{◌≡◌, ℕ, ◌<◌, length, true, false}
 use Rattle.page_tree.specs.Blocks.{block_pages, page_in, is_own_in, SameBytes, AreWhole}
 use Rattle.page_tree.proofs.block.Block.freeze.Given as goal
 
@@ -7,5 +7,6 @@ invariant-loop-j l = record {
   sized : length l.self.pages ≡ block_pages;
   same : SameBytes l.fn.self l.self;
   none : (i : ℕ) → i < l.j → is_own_in (page_in l.self i) ≡ false;
+  less : (i : ℕ) → is_own_in (page_in l.self i) ≡ true → is_own_in (page_in l.fn.self i) ≡ true;
   whole : AreWhole l.fn.self → AreWhole l.self;
 }

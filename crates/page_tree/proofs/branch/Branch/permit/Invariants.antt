@@ -1,0 +1,10 @@
+use Rattle.std.proofs.Common.{◌/◌}
+use Rattle.page_tree.specs.Branches.{block_at}
+use Rattle.page_tree.proofs.Spread.{IsDone}
+use Rattle.page_tree.proofs.BlockRanges.{IsPermittedPart}
+use Rattle.page_tree.proofs.branch.Branch.permit.Given as goal
+
+abbrev pub invariant-loop-i : goal.invariant-loop-i
+invariant-loop-i l = record {
+  done : IsDone (IsPermittedPart l.fn.from l.fn.to l.fn.permission) (l.fn.from / 64) l.i (block_at l.fn.self) (block_at l.self);
+}

@@ -1,0 +1,6 @@
+use Rattle.std.proofs.Common.{◌≡◌, ℕ, ◌*◌, ◌<◌, ◌≤◌, None}
+use Rattle.page_tree.specs.Trees.{tree_page}
+use Rattle.page_tree.proofs.tree.Tree.next_kept.Given as goal
+
+abbrev pub invariant-loop-i : goal.invariant-loop-i
+invariant-loop-i l = (q : ℕ) → l.fn.from ≤ q → q < 8192 * l.i → tree_page l.self q ≡ None

@@ -1,0 +1,134 @@
+ghost use Rattle.std.specs.Prelude.{◌≡◌, ℕ, ◌+◌, ◌-◌, ◌*◌, ◌<◌, ◌≤◌, min, length};
+ghost use Rattle.page_tree.specs.Blocks.{block_pages};
+ghost use Rattle.page_tree.specs.BlockRefs.{AreWholeIn, ref_row};
+ghost use Rattle.page_tree.specs.Branches.{branch_pages, branch_blocks, block_at, AreWholeBelow, branch_row};
+ghost use Rattle.page_tree.specs.BranchRefs.{AreWholeLimb, limb_row};
+ghost use Rattle.page_tree.specs.Trees.{tree_pages, tree_branches, branch_at, AreWholeTree, tree_row};
+ghost use Rattle.page_tree.specs.TreeRefs.{AreWholeRoot, root_row};
+ghost use Rattle.page_tree.specs.Ready.{ReadyBlock, ReadyBranch, ReadyLimb, ReadyTree, ReadyRoot, SameOtherBlocks, SameOtherBranches};
+ghost use Rattle.page_tree.specs.Rows.{IsClearedRow};
+
+use crate::block::BLOCK_PAGES;
+use crate::block_ref::BlockRef;
+use crate::branch::{BRANCH_PAGES, Branch};
+use crate::branch_ref::BranchRef;
+use crate::tree::Tree;
+use crate::tree_ref::TreeRef;
+
+impl BlockRef {
+    /// Forgets the pages from `from` to before `to`. Permissions stay.
+    pub fn clear(&mut self, from: usize, to: usize)
+        requires rise { from < to }
+        requires within { to ≤ block_pages }
+        requires ready { ReadyBlock from to self.old }
+        ensures cleared { IsClearedRow block_pages from to (ref_row self.old) (ref_row self.new) }
+        ensures whole { AreWholeIn self.old → AreWholeIn self.new }
+        ensures ready { ReadyBlock from to self.new }
+    {
+        match self {
+            BlockRef::Uniform(_) => {}
+            BlockRef::Shared(_) => {}
+            BlockRef::Own(block) => block.clear(from, to),
+        }
+    }
+}
+
+impl Branch {
+    /// Forgets the pages from `from` to before `to`. Permissions stay.
+    pub fn clear(&mut self, from: usize, to: usize)
+        requires rise { from < to }
+        requires within { to ≤ branch_pages }
+        requires ready { ReadyBranch from to self.old }
+        ensures cleared { IsClearedRow branch_pages from to (branch_row self.old) (branch_row self.new) }
+        ensures whole { AreWholeBelow self.old → AreWholeBelow self.new }
+        ensures ready { ReadyBranch from to self.new }
+    {
+        for i in from / BLOCK_PAGES..(to - 1) / BLOCK_PAGES + 1 {
+            self.clear_block(i, from, to);
+        }
+    }
+
+    // Forgets what a range has of a block.
+    fn clear_block(&mut self, i: usize, from: usize, to: usize)
+        requires block { i < branch_blocks }
+        requires rise { from < to }
+        requires before { block_pages * i < to }
+        requires after { from < block_pages * i + block_pages }
+        requires ready { ReadyBlock (from - block_pages * i) (min (to - block_pages * i) block_pages) (block_at self.old i) }
+        ensures cleared { IsClearedRow block_pages (from - block_pages * i) (min (to - block_pages * i) block_pages) (ref_row (block_at self.old i)) (ref_row (block_at self.new i)) }
+        ensures whole { AreWholeIn (block_at self.old i) → AreWholeIn (block_at self.new i) }
+        ensures ready { ReadyBlock (from - block_pages * i) (min (to - block_pages * i) block_pages) (block_at self.new i) }
+        ensures others { SameOtherBlocks i self.old self.new }
+    {
+        let start = BLOCK_PAGES * i;
+        self.blocks[i].clear(from.saturating_sub(start), (to - start).min(BLOCK_PAGES));
+    }
+}
+
+impl BranchRef {
+    /// Forgets the pages from `from` to before `to`. Permissions stay.
+    pub fn clear(&mut self, from: usize, to: usize)
+        requires rise { from < to }
+        requires within { to ≤ branch_pages }
+        requires ready { ReadyLimb from to self.old }
+        ensures cleared { IsClearedRow branch_pages from to (limb_row self.old) (limb_row self.new) }
+        ensures whole { AreWholeLimb self.old → AreWholeLimb self.new }
+        ensures ready { ReadyLimb from to self.new }
+    {
+        match self {
+            BranchRef::Uniform(_) => {}
+            BranchRef::Shared(_) => {}
+            BranchRef::Own(branch) => branch.clear(from, to),
+        }
+    }
+}
+
+impl Tree {
+    /// Forgets the pages from `from` to before `to`. Permissions stay.
+    pub fn clear(&mut self, from: usize, to: usize)
+        requires rise { from < to }
+        requires within { to ≤ tree_pages }
+        requires ready { ReadyTree from to self.old }
+        ensures cleared { IsClearedRow tree_pages from to (tree_row self.old) (tree_row self.new) }
+        ensures whole { AreWholeTree self.old → AreWholeTree self.new }
+        ensures ready { ReadyTree from to self.new }
+    {
+        for i in from / BRANCH_PAGES..(to - 1) / BRANCH_PAGES + 1 {
+            self.clear_branch(i, from, to);
+        }
+    }
+
+    // Forgets what a range has of a branch.
+    fn clear_branch(&mut self, i: usize, from: usize, to: usize)
+        requires branch { i < tree_branches }
+        requires rise { from < to }
+        requires before { branch_pages * i < to }
+        requires after { from < branch_pages * i + branch_pages }
+        requires ready { ReadyLimb (from - branch_pages * i) (min (to - branch_pages * i) branch_pages) (branch_at self.old i) }
+        ensures cleared { IsClearedRow branch_pages (from - branch_pages * i) (min (to - branch_pages * i) branch_pages) (limb_row (branch_at self.old i)) (limb_row (branch_at self.new i)) }
+        ensures whole { AreWholeLimb (branch_at self.old i) → AreWholeLimb (branch_at self.new i) }
+        ensures ready { ReadyLimb (from - branch_pages * i) (min (to - branch_pages * i) branch_pages) (branch_at self.new i) }
+        ensures others { SameOtherBranches i self.old self.new }
+    {
+        let start = BRANCH_PAGES * i;
+        self.branches[i].clear(from.saturating_sub(start), (to - start).min(BRANCH_PAGES));
+    }
+}
+
+impl TreeRef {
+    /// Forgets the pages from `from` to before `to`. Permissions stay.
+    pub fn clear(&mut self, from: usize, to: usize)
+        requires rise { from < to }
+        requires within { to ≤ tree_pages }
+        requires ready { ReadyRoot from to self.old }
+        ensures cleared { IsClearedRow tree_pages from to (root_row self.old) (root_row self.new) }
+        ensures whole { AreWholeRoot self.old → AreWholeRoot self.new }
+        ensures ready { ReadyRoot from to self.new }
+    {
+        match self {
+            TreeRef::Uniform(_) => {}
+            TreeRef::Shared(_) => {}
+            TreeRef::Own(tree) => tree.clear(from, to),
+        }
+    }
+}

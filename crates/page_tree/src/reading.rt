@@ -1,0 +1,170 @@
+ghost use Rattle.std.specs.Prelude.{◌≡◌, ◌%◌, ◌<◌, ◌==◌, if◌then◌else◌, IfSome, IsNone};
+ghost use Rattle.memory_model.specs.Memory.{number_from, width_bytes};
+ghost use Rattle.memory_model.specs.Sizes.{page_size};
+ghost use Rattle.page_tree.specs.Blocks.{block_pages, page_in, permission_in, byte_in};
+ghost use Rattle.page_tree.specs.BlockRefs.{ref_permission, ref_page};
+ghost use Rattle.page_tree.specs.Branches.{branch_pages, branch_permission, branch_page};
+ghost use Rattle.page_tree.specs.BranchRefs.{limb_permission, limb_page};
+ghost use Rattle.page_tree.specs.Trees.{tree_pages, tree_permission, tree_page};
+ghost use Rattle.page_tree.specs.TreeRefs.{root_permission, root_page};
+
+use crate::block::{BLOCK_PAGES, Block};
+use crate::block_ref::BlockRef;
+use crate::branch::{BRANCH_PAGES, Branch};
+use crate::branch_ref::BranchRef;
+use crate::tree::Tree;
+use crate::tree_ref::TreeRef;
+use memory_model::Width;
+
+impl Block {
+    /// The number of the bytes at an aligned place of a page. It is 0 where none are kept.
+    #[inline(always)]
+    pub fn number(&self, j: usize, at: u16, width: Width) -> u32
+        requires page { j < block_pages }
+        requires within { at < page_size }
+        requires aligned { at % width_bytes width ≡ 0 }
+        ensures { result ≡ number_from (byte_in (page_in self.now j)) width at }
+    {
+        match self.page(j) {
+            Some(page) => page.number(at, width),
+            None => 0,
+        }
+    }
+
+    /// The number of the bytes at an aligned place of a page that may be read.
+    #[inline(always)]
+    pub fn load(&self, j: usize, at: u16, width: Width) -> Option<u32>
+        requires page { j < block_pages }
+        requires within { at < page_size }
+        requires aligned { at % width_bytes width ≡ 0 }
+        ensures { result ≡ (if permission_in self.now j % 2 == 1 then Some (number_from (byte_in (page_in self.now j)) width at) else None) }
+    {
+        if self.permissions[j] % 2 != 1 {
+            return None;
+        }
+        Some(self.number(j, at, width))
+    }
+}
+
+impl BlockRef {
+    /// The block that keeps a page. There is none where the page lies in a part of one permission.
+    #[inline(always)]
+    pub fn block(&self, page: usize) -> Option<&Block>
+        requires { page < block_pages }
+        ensures permission { IfSome result (λ block. permission_in block.now (page % block_pages) ≡ ref_permission self.now page) }
+        ensures page { IfSome result (λ block. page_in block.now (page % block_pages) ≡ ref_page self.now page) }
+        ensures none { IsNone result → ref_page self.now page ≡ None }
+    {
+        match self {
+            BlockRef::Uniform(_) => None,
+            BlockRef::Shared(block) => Some(block),
+            BlockRef::Own(block) => Some(block),
+        }
+    }
+}
+
+impl Branch {
+    /// The block that keeps a page. There is none where the page lies in a part of one permission.
+    #[inline(always)]
+    pub fn block(&self, page: usize) -> Option<&Block>
+        requires { page < branch_pages }
+        ensures permission { IfSome result (λ block. permission_in block.now (page % block_pages) ≡ branch_permission self.now page) }
+        ensures page { IfSome result (λ block. page_in block.now (page % block_pages) ≡ branch_page self.now page) }
+        ensures none { IsNone result → branch_page self.now page ≡ None }
+    {
+        match self.blocks.get(page / BLOCK_PAGES) {
+            Some(block) => block.block(page % BLOCK_PAGES),
+            None => None,
+        }
+    }
+}
+
+impl BranchRef {
+    /// The block that keeps a page. There is none where the page lies in a part of one permission.
+    #[inline(always)]
+    pub fn block(&self, page: usize) -> Option<&Block>
+        requires { page < branch_pages }
+        ensures permission { IfSome result (λ block. permission_in block.now (page % block_pages) ≡ limb_permission self.now page) }
+        ensures page { IfSome result (λ block. page_in block.now (page % block_pages) ≡ limb_page self.now page) }
+        ensures none { IsNone result → limb_page self.now page ≡ None }
+    {
+        match self {
+            BranchRef::Uniform(_) => None,
+            BranchRef::Shared(branch) => branch.block(page),
+            BranchRef::Own(branch) => branch.block(page),
+        }
+    }
+}
+
+impl Tree {
+    /// The block that keeps a page. There is none where the page lies in a part of one permission.
+    #[inline(always)]
+    pub fn block(&self, page: usize) -> Option<&Block>
+        requires { page < tree_pages }
+        ensures permission { IfSome result (λ block. permission_in block.now (page % block_pages) ≡ tree_permission self.now page) }
+        ensures page { IfSome result (λ block. page_in block.now (page % block_pages) ≡ tree_page self.now page) }
+        ensures none { IsNone result → tree_page self.now page ≡ None }
+    {
+        match self.branches.get(page / BRANCH_PAGES) {
+            Some(branch) => branch.block(page % BRANCH_PAGES),
+            None => None,
+        }
+    }
+}
+
+impl TreeRef {
+    /// The block that keeps a page. There is none where the page lies in a part of one permission.
+    #[inline(always)]
+    pub fn block(&self, page: usize) -> Option<&Block>
+        requires { page < tree_pages }
+        ensures permission { IfSome result (λ block. permission_in block.now (page % block_pages) ≡ root_permission self.now page) }
+        ensures page { IfSome result (λ block. page_in block.now (page % block_pages) ≡ root_page self.now page) }
+        ensures none { IsNone result → root_page self.now page ≡ None }
+    {
+        match self {
+            TreeRef::Uniform(_) => None,
+            TreeRef::Shared(tree) => tree.block(page),
+            TreeRef::Own(tree) => tree.block(page),
+        }
+    }
+
+    /// The number of the bytes at an aligned place of a page that may be read.
+    #[inline(always)]
+    pub fn load(&self, page: usize, at: u16, width: Width) -> Option<u32>
+        requires page { page < tree_pages }
+        requires within { at < page_size }
+        requires aligned { at % width_bytes width ≡ 0 }
+        ensures { result ≡ (if root_permission self.now page % 2 == 1 then Some (number_from (byte_in (root_page self.now page)) width at) else None) }
+    {
+        match self.block(page) {
+            Some(block) => block.load(page % BLOCK_PAGES, at, width),
+            None => self.load_zero(page),
+        }
+    }
+
+    // A zero, where a page of which no bytes are kept may be read.
+    #[inline(always)]
+    fn load_zero(&self, page: usize) -> Option<u32>
+        requires page { page < tree_pages }
+        ensures { result ≡ (if root_permission self.now page % 2 == 1 then Some 0 else None) }
+    {
+        if self.permission(page) % 2 != 1 {
+            return None;
+        }
+        Some(0)
+    }
+
+    /// The number of the bytes at an aligned place of a page, whatever its permission.
+    #[inline(always)]
+    pub fn number(&self, page: usize, at: u16, width: Width) -> u32
+        requires page { page < tree_pages }
+        requires within { at < page_size }
+        requires aligned { at % width_bytes width ≡ 0 }
+        ensures { result ≡ number_from (byte_in (root_page self.now page)) width at }
+    {
+        match self.block(page) {
+            Some(block) => block.number(page % BLOCK_PAGES, at, width),
+            None => 0,
+        }
+    }
+}

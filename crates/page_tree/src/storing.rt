@@ -1,0 +1,185 @@
+ghost use Rattle.std.specs.Prelude.{◌≡◌, ◌/◌, ◌%◌, ◌<◌, IsTrue, IsFalse, true};
+ghost use Rattle.memory_model.specs.Memory.{width_bytes};
+ghost use Rattle.memory_model.specs.Sizes.{page_size};
+ghost use Rattle.page_store.specs.Bytes.{bytes_of, is_own, IsPage, with_number_in};
+ghost use Rattle.page_tree.specs.Rows.{IsEditedRow};
+ghost use Rattle.page_tree.specs.Blocks.{block_pages, page_in, permission_in, bytes_in, is_own_in, IsWhole, AreWhole};
+ghost use Rattle.page_tree.specs.BlockRows.{block_row};
+ghost use Rattle.page_tree.specs.BlockRefs.{ref_permission, ref_own, ref_row, AreWholeIn};
+ghost use Rattle.page_tree.specs.Branches.{branch_pages, branch_permission, branch_own, branch_row, AreWholeBelow};
+ghost use Rattle.page_tree.specs.BranchRefs.{limb_permission, limb_own, limb_row, AreWholeLimb};
+ghost use Rattle.page_tree.specs.Trees.{tree_pages, tree_permission, tree_own, tree_row, AreWholeTree};
+ghost use Rattle.page_tree.specs.TreeRefs.{root_permission, root_own, root_row, AreWholeRoot};
+
+use crate::block::{BLOCK_PAGES, Block};
+use crate::block_ref::BlockRef;
+use crate::branch::{BRANCH_PAGES, Branch};
+use crate::branch_ref::BranchRef;
+use crate::tree::Tree;
+use crate::tree_ref::TreeRef;
+use memory_model::Width;
+use page_store::PageRef;
+
+impl Block {
+    /// Writes the lowest `width` bytes of `value` at an aligned place of an own page that may be written. False: nothing has changed,
+    /// since the page is no own one or may not be written.
+    #[inline(always)]
+    pub fn try_write(&mut self, page: usize, at: u16, width: Width, value: u32) -> bool
+        requires page { page < block_pages }
+        requires within { at < page_size }
+        requires aligned { at % width_bytes width ≡ 0 }
+        ensures done { IsTrue result → IsEditedRow block_pages page (λ bytes. with_number_in bytes at width value) (block_row self.old) (block_row self.new) }
+        ensures allowed { IsTrue result → permission_in self.old page / 2 % 2 ≡ 1 }
+        ensures own { IsTrue result → is_own_in (page_in self.old page) ≡ true }
+        ensures undone { IsFalse result → self.new ≡ self.old }
+        ensures sure { is_own_in (page_in self.old page) ≡ true → permission_in self.old page / 2 % 2 ≡ 1 → IsTrue result }
+        ensures whole { AreWhole self.old → AreWhole self.new }
+    {
+        if self.permissions[page] / 2 % 2 != 1 {
+            return false;
+        }
+        write_slot(&mut self.pages[page], at, width, value)
+    }
+}
+
+// Writes a number into the page that a slot keeps, if it is an own one.
+#[inline(always)]
+fn write_slot(slot: &mut Option<PageRef>, at: u16, width: Width, value: u32) -> bool
+    requires within { at < page_size }
+    requires aligned { at % width_bytes width ≡ 0 }
+    ensures bytes { IsTrue result → bytes_in slot.new ≡ with_number_in (bytes_in slot.old) at width value }
+    ensures was { IsTrue result → is_own_in slot.old ≡ true }
+    ensures own { is_own_in slot.new ≡ is_own_in slot.old }
+    ensures undone { IsFalse result → slot.new ≡ slot.old }
+    ensures sure { is_own_in slot.old ≡ true → IsTrue result }
+    ensures whole { IsWhole slot.old → IsWhole slot.new }
+{
+    match slot {
+        Some(page) => write_page(page, at, width, value),
+        None => false,
+    }
+}
+
+// Writes a number into a page, if it is an own one.
+#[inline(always)]
+fn write_page(page: &mut PageRef, at: u16, width: Width, value: u32) -> bool
+    requires within { at < page_size }
+    requires aligned { at % width_bytes width ≡ 0 }
+    ensures bytes { IsTrue result → bytes_of page.new ≡ with_number_in (bytes_of page.old) at width value }
+    ensures was { IsTrue result → is_own page.old ≡ true }
+    ensures own { is_own page.new ≡ is_own page.old }
+    ensures undone { IsFalse result → page.new ≡ page.old }
+    ensures sure { is_own page.old ≡ true → IsTrue result }
+    ensures whole { IsPage (bytes_of page.new) }
+{
+    let own = page.is_own();
+    if own {
+        page.write_own_number(at, width, value);
+    }
+    let _whole = page.bytes();
+    own
+}
+
+impl BlockRef {
+    /// Writes the lowest `width` bytes of `value` at an aligned place of an own page that may be written. False: nothing has changed,
+    /// since the page is no own one or may not be written.
+    #[inline(always)]
+    pub fn try_write(&mut self, page: usize, at: u16, width: Width, value: u32) -> bool
+        requires page { page < block_pages }
+        requires within { at < page_size }
+        requires aligned { at % width_bytes width ≡ 0 }
+        ensures done { IsTrue result → IsEditedRow block_pages page (λ bytes. with_number_in bytes at width value) (ref_row self.old) (ref_row self.new) }
+        ensures allowed { IsTrue result → ref_permission self.old page / 2 % 2 ≡ 1 }
+        ensures own { IsTrue result → ref_own self.old page ≡ true }
+        ensures undone { IsFalse result → self.new ≡ self.old }
+        ensures sure { ref_own self.old page ≡ true → ref_permission self.old page / 2 % 2 ≡ 1 → IsTrue result }
+        ensures whole { AreWholeIn self.old → AreWholeIn self.new }
+    {
+        match self {
+            BlockRef::Own(block) => block.try_write(page, at, width, value),
+            _ => false,
+        }
+    }
+}
+
+impl Branch {
+    /// Writes the lowest `width` bytes of `value` at an aligned place of an own page that may be written. False: nothing has changed,
+    /// since the page is no own one or may not be written.
+    #[inline(always)]
+    pub fn try_write(&mut self, page: usize, at: u16, width: Width, value: u32) -> bool
+        requires page { page < branch_pages }
+        requires within { at < page_size }
+        requires aligned { at % width_bytes width ≡ 0 }
+        ensures done { IsTrue result → IsEditedRow branch_pages page (λ bytes. with_number_in bytes at width value) (branch_row self.old) (branch_row self.new) }
+        ensures allowed { IsTrue result → branch_permission self.old page / 2 % 2 ≡ 1 }
+        ensures own { IsTrue result → branch_own self.old page ≡ true }
+        ensures undone { IsFalse result → self.new ≡ self.old }
+        ensures sure { branch_own self.old page ≡ true → branch_permission self.old page / 2 % 2 ≡ 1 → IsTrue result }
+        ensures whole { AreWholeBelow self.old → AreWholeBelow self.new }
+    {
+        self.blocks[page / BLOCK_PAGES].try_write(page % BLOCK_PAGES, at, width, value)
+    }
+}
+
+impl BranchRef {
+    /// Writes the lowest `width` bytes of `value` at an aligned place of an own page that may be written. False: nothing has changed,
+    /// since the page is no own one or may not be written.
+    #[inline(always)]
+    pub fn try_write(&mut self, page: usize, at: u16, width: Width, value: u32) -> bool
+        requires page { page < branch_pages }
+        requires within { at < page_size }
+        requires aligned { at % width_bytes width ≡ 0 }
+        ensures done { IsTrue result → IsEditedRow branch_pages page (λ bytes. with_number_in bytes at width value) (limb_row self.old) (limb_row self.new) }
+        ensures allowed { IsTrue result → limb_permission self.old page / 2 % 2 ≡ 1 }
+        ensures own { IsTrue result → limb_own self.old page ≡ true }
+        ensures undone { IsFalse result → self.new ≡ self.old }
+        ensures sure { limb_own self.old page ≡ true → limb_permission self.old page / 2 % 2 ≡ 1 → IsTrue result }
+        ensures whole { AreWholeLimb self.old → AreWholeLimb self.new }
+    {
+        match self {
+            BranchRef::Own(branch) => branch.try_write(page, at, width, value),
+            _ => false,
+        }
+    }
+}
+
+impl Tree {
+    /// Writes the lowest `width` bytes of `value` at an aligned place of an own page that may be written. False: nothing has changed,
+    /// since the page is no own one or may not be written.
+    #[inline(always)]
+    pub fn try_write(&mut self, page: usize, at: u16, width: Width, value: u32) -> bool
+        requires page { page < tree_pages }
+        requires within { at < page_size }
+        requires aligned { at % width_bytes width ≡ 0 }
+        ensures done { IsTrue result → IsEditedRow tree_pages page (λ bytes. with_number_in bytes at width value) (tree_row self.old) (tree_row self.new) }
+        ensures allowed { IsTrue result → tree_permission self.old page / 2 % 2 ≡ 1 }
+        ensures own { IsTrue result → tree_own self.old page ≡ true }
+        ensures undone { IsFalse result → self.new ≡ self.old }
+        ensures sure { tree_own self.old page ≡ true → tree_permission self.old page / 2 % 2 ≡ 1 → IsTrue result }
+        ensures whole { AreWholeTree self.old → AreWholeTree self.new }
+    {
+        self.branches[page / BRANCH_PAGES].try_write(page % BRANCH_PAGES, at, width, value)
+    }
+}
+
+impl TreeRef {
+    /// Writes the lowest `width` bytes of `value` at an aligned place of an own page that may be written. False: nothing has changed,
+    /// since the page is no own one or may not be written.
+    #[inline(always)]
+    pub fn try_write(&mut self, page: usize, at: u16, width: Width, value: u32) -> bool
+        requires page { page < tree_pages }
+        requires within { at < page_size }
+        requires aligned { at % width_bytes width ≡ 0 }
+        ensures done { IsTrue result → IsEditedRow tree_pages page (λ bytes. with_number_in bytes at width value) (root_row self.old) (root_row self.new) }
+        ensures allowed { IsTrue result → root_permission self.old page / 2 % 2 ≡ 1 }
+        ensures own { IsTrue result → root_own self.old page ≡ true }
+        ensures undone { IsFalse result → self.new ≡ self.old }
+        ensures sure { root_own self.old page ≡ true → root_permission self.old page / 2 % 2 ≡ 1 → IsTrue result }
+        ensures whole { AreWholeRoot self.old → AreWholeRoot self.new }
+    {
+        match self {
+            TreeRef::Own(tree) => tree.try_write(page, at, width, value),
+            _ => false,
+        }
+    }
+}

@@ -1,0 +1,132 @@
+ghost use Rattle.std.specs.Prelude.{◌≡◌, ℕ, ◌+◌, ◌%◌, ◌<◌, ◌≤◌, cond, IfOk, IsOk, OnOk, OnErr, IfSome, IsNone, false, true};
+ghost use Rattle.page_tree.specs.Trees.{tree_pages, SameTree, NoneOwnTree, AreWholeTree};
+ghost use Rattle.page_tree.specs.TreeRefs.{root_permission, root_page, root_own, IsOwnTree, AreWholeRoot, SameRoot, SameOwnRoot, NoneOwnRoot, IsOwnedRoot};
+
+use crate::tree::Tree;
+use page_store::PageRef;
+use std::alloc::{AllocError, Global};
+use std::sync::Arc;
+
+/// What is kept of 1,048,576 pages.
+#[derive(Drop)]
+pub enum TreeRef {
+    /// Pages of this permission whose bytes are 0.
+    Uniform(u8),
+    /// A tree that others may hold too. No write changes it.
+    Shared(Arc<Tree, Global>),
+    /// A tree of its holder's own.
+    Own(Box<Tree, Global>),
+}
+
+impl TreeRef {
+    /// The permission of a page.
+    #[inline(always)]
+    pub fn permission(&self, j: usize) -> u8
+        requires { j < tree_pages }
+        ensures { result ≡ root_permission self.now j }
+    {
+        match self {
+            TreeRef::Uniform(permission) => *permission,
+            TreeRef::Shared(tree) => tree.permission(j),
+            TreeRef::Own(tree) => tree.permission(j),
+        }
+    }
+
+    /// What is kept of a page.
+    #[inline(always)]
+    pub fn page(&self, j: usize) -> Option<&PageRef>
+        requires { j < tree_pages }
+        ensures some { IfSome result (λ page. root_page self.now j ≡ Some page.now) }
+        ensures none { IsNone result → root_page self.now j ≡ None }
+    {
+        match self {
+            TreeRef::Uniform(_) => None,
+            TreeRef::Shared(tree) => tree.page(j),
+            TreeRef::Own(tree) => tree.page(j),
+        }
+    }
+
+    /// Makes it a tree of its holder's own.
+    pub fn own(&mut self, alloc: Global) -> Result<(), AllocError>
+        ensures same { SameRoot self.old self.new }
+        ensures owned { OnOk result (SameOwnRoot self.old self.new) }
+        ensures own { OnOk result (IsOwnTree self.new) }
+        ensures whole { AreWholeRoot self.old → AreWholeRoot self.new }
+        ensures err { OnErr result (self.new ≡ self.old) }
+        ensures idle { IsOwnTree self.old → IsOk result }
+    {
+        match self {
+            TreeRef::Uniform(permission) => {
+                let tree = Box::new(alloc, Tree::uniform(*permission))?;
+                *self = TreeRef::Own(tree);
+                Ok(())
+            }
+            TreeRef::Shared(tree) => {
+                let tree = copy_of(tree, alloc)?;
+                *self = TreeRef::Own(tree);
+                Ok(())
+            }
+            TreeRef::Own(_) => Ok(()),
+        }
+    }
+
+    /// The same pages: of a shared tree another holder, of an own one a copy that shares its shared pages.
+    pub fn share(&self, alloc: Global) -> Result<TreeRef, AllocError>
+        ensures same { IfOk result (λ copy. SameRoot self.now copy) }
+        ensures own { IfOk result (λ copy. SameOwnRoot self.now copy) }
+        ensures whole { AreWholeRoot self.now → IfOk result (λ copy. AreWholeRoot copy) }
+    {
+        match self {
+            TreeRef::Uniform(permission) => Ok(TreeRef::Uniform(*permission)),
+            TreeRef::Shared(tree) => Ok(TreeRef::Shared(Arc::try_clone(tree)?)),
+            TreeRef::Own(tree) => {
+                let copy = Box::new(alloc, tree.share(alloc)?)?;
+                Ok(TreeRef::Own(copy))
+            }
+        }
+    }
+
+    /// Makes it one that can be shared, with all its pages. No page becomes an own one. At an error, want of memory, some
+    /// pages may be shared and others owned.
+    pub fn freeze(&mut self, alloc: Global) -> Result<(), AllocError>
+        ensures same { SameRoot self.old self.new }
+        ensures none { OnOk result (NoneOwnRoot self.new) }
+        ensures less { (j : ℕ) → j < tree_pages → root_own self.new j ≡ true → root_own self.old j ≡ true }
+        ensures whole { AreWholeRoot self.old → AreWholeRoot self.new }
+    {
+        if let TreeRef::Own(tree) = self {
+            tree.freeze(alloc)?;
+            let shared = Arc::new(alloc, tree.share(alloc)?)?;
+            *self = TreeRef::Shared(shared);
+        }
+        Ok(())
+    }
+
+    /// Owns a page too.
+    pub fn own_page(&mut self, j: usize, alloc: Global) -> Result<(), AllocError>
+        requires { j < tree_pages }
+        ensures same { SameRoot self.old self.new }
+        ensures owned { OnOk result (IsOwnedRoot j self.old self.new) }
+        ensures whole { AreWholeRoot self.old → AreWholeRoot self.new }
+        ensures err { OnErr result (SameOwnRoot self.old self.new) }
+        ensures idle { root_own self.old j ≡ true → IsOk result }
+    {
+        self.own(alloc)?;
+        match self {
+            TreeRef::Own(tree) => tree.own_page(j, alloc),
+            _ => Ok(()),
+        }
+    }
+}
+
+// A tree of the same pages, none of which is an own one.
+fn copy_of(tree: &Tree, alloc: Global) -> Result<Box<Tree, Global>, AllocError>
+    ensures same { IfOk result (λ copy. SameTree tree.now copy.value) }
+    ensures none { IfOk result (λ copy. NoneOwnTree copy.value) }
+    ensures whole { AreWholeTree tree.now → IfOk result (λ copy. AreWholeTree copy.value) }
+{
+    let mut copy = tree.share(alloc)?;
+    copy.freeze(alloc)?;
+    let copy = Box::new(alloc, copy)?;
+    Ok(copy)
+}

@@ -1,0 +1,12 @@
+use Rattle.std.proofs.Common.{◌≤◌, ◌-◌}
+use Rattle.snapshot.specs.Pages.{SameBytes}
+use Rattle.snapshot.proofs.walk.next_page.Given as goal
+
+abbrev pub invariant-loop-dirty : goal.invariant-loop-dirty
+invariant-loop-dirty l = record {
+  above : l.fn.n ≤ l.at;
+  same : SameBytes l.child.memory l.snapshot.memory l.fn.n l.at;
+}
+
+abbrev pub decreases-loop-dirty : goal.decreases-loop-dirty
+decreases-loop-dirty l = 1048576 - l.at

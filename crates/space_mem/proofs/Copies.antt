@@ -1,0 +1,203 @@
+-- Pages of a source that stand in the place of others.
+use Rattle.std.specs.Prelude.{◌≡◌, ℕ, ◌+◌, ◌-◌, ◌*◌, ◌/◌, ◌%◌, ◌<◌, ◌≤◌, ◌⊎◌, Bool, true, false, cond, not, nat_lt, ◌&&◌, Option, Result, Ok, Err, OnErr}
+use Rattle.std.proofs.Common.{refl, sym, ◌∙◌, ap, arith, inl, inr}
+use Rattle.std.proofs.lemmas.Bool.{cases_lt}
+use Rattle.std.proofs.lemmas.Bool.Decides.{nat_tests}
+use Rattle.memory_model.specs.Sparse.{value_at}
+use Rattle.memory_model.specs.Memory.{Memory, byte_at, permission_at}
+use Rattle.memory_model.specs.Ranges.{with_copies, with_row}
+use Rattle.memory_model.proofs.Rows.{value_at-row_key, value_at-row_before, value_at-row_after}
+use Rattle.page_tree.specs.declared.tree_ref.TreeRef.{TreeRef}
+use Rattle.page_tree.specs.Blocks.{byte_in, within}
+use Rattle.page_tree.specs.Rows.{SameRow, SameOwners, IsTakenRow, IsPermittedRow}
+use Rattle.page_tree.specs.TreeRefs.{root_permission, root_page, root_own, root_row, AreWholeRoot, SameRoot}
+use Rattle.space_mem.specs.declared.table.PageTable.{PageTable}
+use Rattle.space_mem.specs.Held.{Marks, OwnSameOutside}
+use Rattle.space_mem.specs.Moves.{HasMoved}
+use Rattle.space_mem.specs.Tables.{IsTable, held_of, memory_of}
+use Rattle.space_mem.proofs.Tables.{byte_at-of, byte_at-high, byte_at-page, permission_at-of, permission_at-high, memory_is, memory_same, owned_at, owned_high, owned_same, marked_at, marked_same, same_held}
+
+pub at_error : {T E : Type 0} (r : Result T E) (P : Type 0) → P → OnErr r P
+at_error (Ok v) P p = tt
+at_error (Err e) P p = p
+
+-- where a page lies
+abbrev pub IsOutside : ℕ → ℕ → ℕ → Type 0
+IsOutside first end p = (p < first) ⊎ (end ≤ p)
+
+side : (first end p : ℕ) → ((first ≤ p) × (p < end)) ⊎ IsOutside first end p
+side first end p = elim (cases_lt p first) [
+  | inl before ↦ inr (inl before)
+  | inr from ↦ elim (cases_lt p end) [
+    | inl to ↦ inl (from, to)
+    | inr after ↦ inr (inr after)
+  ]
+]
+
+in_range : (first end p : ℕ) → first ≤ p → p < end → within first end p ≡ true
+in_range first end p low high =
+    let a : nat_lt p first ≡ false = grind (arith, nat_tests) in
+    let b : nat_lt p end ≡ true = grind (arith, nat_tests) in
+    rw (a, b) refl
+
+and_false : (t : Bool) → (t && false) ≡ false
+and_false true = refl
+and_false false = refl
+
+out_of_range : (first end p : ℕ) → IsOutside first end p → within first end p ≡ false
+out_of_range first end p out = elim out [
+  | inl before ↦ (let e : nat_lt p first ≡ true = grind (arith, nat_tests) in rw e refl)
+  | inr after ↦ (let e : nat_lt p end ≡ false = grind (arith, nat_tests) in rw e (and_false (not (nat_lt p first))))
+]
+
+-- the pages of a range are a source's; the others are as they were
+pub record IsCopied (from first end : ℕ) (source t s : TreeRef) : Type 0 where
+  pub permission : (p : ℕ) → first ≤ p → p < end → root_permission s p ≡ root_permission source (from + (p - first))
+  pub byte : (p j : ℕ) → first ≤ p → p < end → byte_in (root_page s p) j ≡ byte_in (root_page source (from + (p - first))) j
+  pub other_permission : (p : ℕ) → p < 1048576 → IsOutside first end p → root_permission s p ≡ root_permission t p
+  pub other_byte : (p j : ℕ) → p < 1048576 → IsOutside first end p → byte_in (root_page s p) j ≡ byte_in (root_page t p) j
+  pub own : (p : ℕ) → p < 1048576 → IsOutside first end p → root_own s p ≡ root_own t p
+
+-- the pages of a range are marked; the others are as they were
+pub record IsMarked (first end : ℕ) (t s : TreeRef) : Type 0 where
+  pub here : (p : ℕ) → first ≤ p → p < end → root_permission s p ≡ 1
+  pub other : (p : ℕ) → p < 1048576 → IsOutside first end p → root_permission s p ≡ root_permission t p
+
+nowhere : (p : ℕ) → p < 1048576 → IsOutside 0 1048576 p → ⊥
+nowhere p below out = elim out [
+  | inl before ↦ omega arith
+  | inr after ↦ omega arith
+]
+
+pub copied_all : (source t s : TreeRef) → SameRoot source s → IsCopied 0 0 1048576 source t s
+copied_all source t s same = record {
+  permission = λ p low high. same.permission p high ∙ ap (root_permission source) {x = p} {y = 0 + (p - 0)} (omega arith);
+  byte = λ p j low high. same.byte p j high ∙ ap (λ q. byte_in (root_page source q) j) {x = p} {y = 0 + (p - 0)} (omega arith);
+  other_permission = λ p below out. absurd (nowhere p below out);
+  other_byte = λ p j below out. absurd (nowhere p below out);
+  own = λ p below out. absurd (nowhere p below out);
+}
+
+pub marked_all : (t s : TreeRef) → ((p : ℕ) → root_permission s p ≡ 1) → IsMarked 0 1048576 t s
+marked_all t s all = record { here = λ p low high. all p; other = λ p below out. absurd (nowhere p below out) }
+
+pub copied_part : (from first end : ℕ) (source made ready t u s : TreeRef) → end ≤ 1048576 → HasMoved (root_row source) from first (end - first) (root_row made) → SameRow 1048576 (root_row made) (root_row ready) → SameRow 1048576 (root_row t) (root_row u) → SameOwners 1048576 (root_row t) (root_row u)
+    → IsTakenRow 1048576 first end (root_row u) (root_row ready) (root_row s) → IsCopied from first end source t s
+copied_part from first end source made ready t u s le moved prepared same owners taken = record {
+  permission = λ p low high.
+      let e : first + (p - first) ≡ p = omega arith in
+      taken.permission p (omega arith) ∙ ap (λ b. cond b (root_permission ready p) (root_permission u p)) (in_range first end p low high)
+      ∙ prepared.permission p (omega arith) ∙ ap (root_permission made) (sym e) ∙ moved.permission (p - first) (omega arith);
+  byte = λ p j low high.
+      let e : first + (p - first) ≡ p = omega arith in
+      ap (λ o. byte_in o j) (taken.page p (omega arith) ∙ ap (λ b. cond b (root_page ready p) (root_page u p)) (in_range first end p low high))
+      ∙ prepared.byte p j (omega arith) ∙ ap (λ q. byte_in (root_page made q) j) (sym e) ∙ moved.byte (p - first) j (omega arith);
+  other_permission = λ p below out. taken.permission p below ∙ ap (λ b. cond b (root_permission ready p) (root_permission u p)) (out_of_range first end p out) ∙ same.permission p below;
+  other_byte = λ p j below out. ap (λ o. byte_in o j) (taken.page p below ∙ ap (λ b. cond b (root_page ready p) (root_page u p)) (out_of_range first end p out)) ∙ same.byte p j below;
+  own = λ p below out. taken.own p below ∙ ap (λ b. cond b (root_own ready p) (root_own u p)) (out_of_range first end p out) ∙ owners p below;
+}
+
+pub marked_part : (first end : ℕ) (t u s : TreeRef) → end ≤ 1048576 → SameRow 1048576 (root_row t) (root_row u) → IsPermittedRow 1048576 first end 1 (root_row u) (root_row s) → IsMarked first end t s
+marked_part first end t u s le same permitted = record {
+  here = λ p low high. permitted.permission p (omega arith) ∙ ap (λ b. cond b 1 (root_permission u p)) (in_range first end p low high);
+  other = λ p below out. permitted.permission p below ∙ ap (λ b. cond b 1 (root_permission u p)) (out_of_range first end p out) ∙ same.permission p below;
+}
+
+-- what a table with such pages keeps
+pub copied_table : (from first end : ℕ) (source t s : PageTable) → end ≤ 1048576 → from + (end - first) ≤ 1048576 → IsTable source → IsTable t → IsCopied from first end source.pages t.pages s.pages → IsMarked first end t.dirty s.dirty → AreWholeRoot s.pages → IsTable s
+copied_table from first end source t s le reach origin table copied marked whole = record {
+  whole = whole;
+  permission = λ p below. elim (side first end p) [
+    | inl at ↦ (let bound = origin.permission (from + (p - first)) (omega (arith, at.0, at.1)) in let e = copied.permission p at.0 at.1 in omega (arith, bound, e))
+    | inr out ↦ (let bound = table.permission p below in let e = copied.other_permission p below out in omega (arith, bound, e))
+  ];
+  marked = λ p below own. elim (side first end p) [
+    | inl at ↦ marked.here p at.0 at.1
+    | inr out ↦ marked.other p below out ∙ table.marked p below (sym (copied.own p below out) ∙ own)
+  ];
+}
+
+pub copied_memory : (from first end : ℕ) (source t s : TreeRef) → first ≤ end → end ≤ 1048576 → from + (end - first) ≤ 1048576 → IsCopied from first end source t s → memory_of s ≡ with_copies (memory_of t) (memory_of source) from first (end - first)
+copied_memory from first end source t s rise le reach copied =
+    memory_is s (with_copies (memory_of t) (memory_of source) from first (end - first))
+    (λ a below. elim (side first end (a / 4096)) [
+      | inl at ↦ byte_inside a at.0 at.1
+      | inr out ↦ byte_beside a below out
+    ])
+    (λ a high. value_at-row_after (memory_of t).bytes (4096 * first) byte_row (4096 * count) a (omega arith) ∙ byte_at-high t a high)
+    (λ p below. elim (side first end p) [
+      | inl at ↦ permission_inside p at.0 at.1
+      | inr out ↦ permission_beside p below out
+    ])
+    (λ p high. value_at-row_after (memory_of t).permissions first permission_row count p (omega arith) ∙ permission_at-high t p high)
+  where
+    count : ℕ
+    count = end - first
+
+    byte_row : ℕ → ℕ
+    byte_row k = byte_at (memory_of source) (4096 * from + k)
+
+    permission_row : ℕ → ℕ
+    permission_row k = permission_at (memory_of source) (from + k)
+
+    byte_inside : (a : ℕ) → first ≤ a / 4096 → a / 4096 < end → byte_at (with_copies (memory_of t) (memory_of source) from first (end - first)) a ≡ byte_in (root_page s (a / 4096)) (a % 4096)
+    byte_inside a low high =
+        let k : ℕ = a / 4096 - first in
+        let e : 4096 * from + (a - 4096 * first) ≡ 4096 * (from + k) + a % 4096 = omega arith in
+        value_at-row_key (memory_of t).bytes (4096 * first) byte_row (4096 * count) a (omega arith) (omega arith)
+        ∙ ap (byte_at (memory_of source)) e ∙ byte_at-page source (from + k) (a % 4096) (omega arith) (omega arith)
+        ∙ sym (copied.byte (a / 4096) (a % 4096) low high)
+
+    byte_beside : (a : ℕ) → a < 4294967296 → IsOutside first end (a / 4096) → byte_at (with_copies (memory_of t) (memory_of source) from first (end - first)) a ≡ byte_in (root_page s (a / 4096)) (a % 4096)
+    byte_beside a below out =
+        let same = byte_at-of t a below ∙ sym (copied.other_byte (a / 4096) (a % 4096) (omega arith) out) in
+        elim out [
+          | inl before ↦ value_at-row_before (memory_of t).bytes (4096 * first) byte_row (4096 * count) a (omega arith) ∙ same
+          | inr after ↦ value_at-row_after (memory_of t).bytes (4096 * first) byte_row (4096 * count) a (omega arith) ∙ same
+        ]
+
+    permission_inside : (p : ℕ) → first ≤ p → p < end → permission_at (with_copies (memory_of t) (memory_of source) from first (end - first)) p ≡ root_permission s p
+    permission_inside p low high =
+        value_at-row_key (memory_of t).permissions first permission_row count p low (omega arith) ∙ permission_at-of source (from + (p - first)) (omega arith) ∙ sym (copied.permission p low high)
+
+    permission_beside : (p : ℕ) → p < 1048576 → IsOutside first end p → permission_at (with_copies (memory_of t) (memory_of source) from first (end - first)) p ≡ root_permission s p
+    permission_beside p below out =
+        let same = permission_at-of t p below ∙ sym (copied.other_permission p below out) in
+        elim out [
+          | inl before ↦ value_at-row_before (memory_of t).permissions first permission_row count p (omega arith) ∙ same
+          | inr after ↦ value_at-row_after (memory_of t).permissions first permission_row count p (omega arith) ∙ same
+        ]
+
+pub copied_outside : (from first end : ℕ) (source : TreeRef) (t s : PageTable) → IsCopied from first end source t.pages s.pages → OwnSameOutside first end (held_of s) (held_of t)
+copied_outside from first end source t s copied p out = elim (cases_lt p 1048576) [
+  | inl below ↦ owned_at s.pages p below ∙ ap (λ b. cond b 1 0) (copied.own p below out) ∙ sym (owned_at t.pages p below)
+  | inr high ↦ owned_high s.pages p high ∙ sym (owned_high t.pages p high)
+]
+
+pub copied_marks : (from first end : ℕ) (source : TreeRef) (t s : PageTable) → IsCopied from first end source t.pages s.pages → IsMarked first end t.dirty s.dirty → Marks (held_of t) (held_of s)
+copied_marks from first end source t s copied marked p below clean =
+    let zero = sym (marked_at s.dirty p below) ∙ clean in
+    elim (side first end p) [
+      | inl at ↦ (let one = marked.here p at.0 at.1 in absurd (omega (arith, zero, one)))
+      | inr out ↦ (
+        marked_at t.dirty p below ∙ sym (marked.other p below out) ∙ zero,
+        λ k less. byte_at-page s.pages p k below less ∙ copied.other_byte p k below out ∙ sym (byte_at-page t.pages p k below less),
+      )
+    ]
+
+-- a table whose trees were made ready is as it was
+pub same_row : (t : TreeRef) → SameRow 1048576 (root_row t) (root_row t)
+same_row t = record { permission = λ p below. refl; byte = λ p k below. refl }
+
+pub prepared_held : (t s : PageTable) → SameRow 1048576 (root_row t.pages) (root_row s.pages) → SameOwners 1048576 (root_row t.pages) (root_row s.pages) → SameRow 1048576 (root_row t.dirty) (root_row s.dirty) → held_of s ≡ held_of t
+prepared_held t s same owners dirty = same_held (held_of s) (held_of t) (memory_same t.pages s.pages same.permission same.byte) (owned_same t.pages s.pages owners) (marked_same t.dirty s.dirty dirty.permission)
+
+pub same_marks : (t s : PageTable) → held_of s ≡ held_of t → Marks (held_of t) (held_of s)
+same_marks t s e p below clean = (ap (λ h. value_at h.dirty p) (sym e) ∙ clean, λ k less. ap (λ h. byte_at h.memory (4096 * p + k)) e)
+
+-- no page is copied
+pub copied_none : (t source : TreeRef) (from first end : ℕ) → first ≡ end → memory_of t ≡ with_copies (memory_of t) (memory_of source) from first (end - first)
+unfolding with_row
+copied_none t source from first end e =
+    let none : 0 ≡ end - first = omega arith in
+    ap (with_copies (memory_of t) (memory_of source) from first) none

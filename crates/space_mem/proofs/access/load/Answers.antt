@@ -1,9 +1,0 @@
-use Rattle.std.proofs.Common.{◌/◌, ◌∙◌, Some, arith}
-use Rattle.space_mem.proofs.Readings.{first_run, read_run}
-use Rattle.space_mem.proofs.access.load.Goals as goal
-
-pub returns-then-run-at : goal.returns-then-run-at
-returns-then-run-at c =
-    c.load_in.ensures
-    ∙ read_run _ c.args.at c.args.width (Some c.index-runs-asked.result) c.requires.ordered c.requires.aligned
-    (first_run (c.args.at / 4096) _ _ _ c.requires.ordered (omega arith) c.index-runs-asked.is c.if-run-at.true)

@@ -1,0 +1,11 @@
+use Rattle.std.proofs.Common.{◌∙◌, ◌/◌, ap}
+use Rattle.memory_model.proofs.Rows.{value_at-put_same}
+use Rattle.memory_model.specs.Sparse.{value_at}
+use Rattle.space_mem.proofs.Dirty.{marks_then}
+use Rattle.space_mem.proofs.memory.Mem.write.Goals as goal
+
+pub write_in_page-requires-clause-owned : goal.write_in_page-requires-clause-owned
+write_in_page-requires-clause-owned c = ap (λ h. value_at h.owned (c.args.at / 4096)) c.in_ok-own_page.ensures.ok ∙ value_at-put_same c.args.self.now.owned (c.args.at / 4096) 1
+
+pub returns-clause-marks : goal.returns-clause-marks
+returns-clause-marks c = marks_then c.args.self.now c.own_page.new.self c.write_in_page.new.self c.in_ok-own_page.ensures.marks c.write_in_page.ensures.marks

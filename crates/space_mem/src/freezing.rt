@@ -1,0 +1,114 @@
+ghost use Rattle.std.specs.Prelude.{◌≡◌, ℕ, ◌+◌, ◌<◌, ◌≤◌, OnOk, IsFalse, false, true};
+ghost use Rattle.memory_model.specs.Sizes.{pages};
+ghost use Rattle.memory_model.specs.Sparse.{value_at};
+ghost use Rattle.page_tree.specs.Ready.{ReadyRoot};
+ghost use Rattle.page_tree.specs.Rows.{SameRow};
+ghost use Rattle.page_tree.specs.Trees.{tree_pages};
+ghost use Rattle.page_tree.specs.TreeRefs.{root_own, root_row, AreWholeRoot};
+ghost use Rattle.space_mem.specs.Held.{Owns};
+ghost use Rattle.space_mem.specs.Tables.{IsTable, memory_of};
+
+use crate::layout::Pages;
+use crate::memory::Mem;
+use crate::table::PageTable;
+use page_tree::TreeRef;
+use std::alloc::{AllocError, Global};
+
+impl Mem {
+    /// Makes each page of a range that is kept one that can be shared: bytes and permissions stay, and which pages are dirty; no page of
+    /// the range is owned then, and no other that was not. The one error is want of memory.
+    pub fn freeze_range(&mut self, range: Pages) -> Result<(), AllocError>
+        ensures same { self.new.memory ≡ self.old.memory }
+        ensures dirty { self.new.dirty ≡ self.old.dirty }
+        ensures none { OnOk result ((page : ℕ) → range.first ≤ page → page < range.first + range.count → value_at self.new.owned page ≡ 0) }
+        ensures less { (page : ℕ) → Owns self.new page → Owns self.old page }
+    {
+        self.table
+            .freeze_range(range.first, range.first + range.count)
+    }
+}
+
+impl PageTable {
+    // Makes each page that is kept, from `first` to before `end`, one that can be shared. At an error some of them are.
+    pub fn freeze_range(&mut self, first: u32, end: u32) -> Result<(), AllocError>
+        requires table { IsTable self.old }
+        requires within { end ≤ pages }
+        ensures table { IsTable self.new }
+        ensures same { memory_of self.new.pages ≡ memory_of self.old.pages }
+        ensures dirty { self.new.dirty ≡ self.old.dirty }
+        ensures none { OnOk result ((p : ℕ) → first ≤ p → p < end → root_own self.new.pages p ≡ false) }
+        ensures less { (p : ℕ) → p < pages → root_own self.new.pages p ≡ true → root_own self.old.pages p ≡ true }
+    {
+        freeze_pages(&mut self.pages, first as usize, end as usize, self.alloc)
+    }
+}
+
+// Makes each page of a tree that is kept, from `first` to before `end`, one that can be shared. At an error some of them are.
+fn freeze_pages(
+    tree: &mut TreeRef,
+    first: usize,
+    end: usize,
+    alloc: Global,
+) -> Result<(), AllocError>
+    requires { end ≤ tree_pages }
+    ensures same { SameRow tree_pages (root_row tree.old) (root_row tree.new) }
+    ensures none { OnOk result ((p : ℕ) → first ≤ p → p < end → root_own tree.new p ≡ false) }
+    ensures less { (p : ℕ) → p < tree_pages → root_own tree.new p ≡ true → root_own tree.old p ≡ true }
+    ensures whole { AreWholeRoot tree.old → AreWholeRoot tree.new }
+{
+    let mut at = first;
+    while let Some(page) = tree.next_kept(at) {
+        if page >= end {
+            return Ok(());
+        }
+        freeze_page(tree, page, alloc)?;
+        at = page + 1;
+    }
+    Ok(())
+}
+
+// Makes a page of a tree, if it is kept, one that can be shared. At the one error, want of memory, it is as it was.
+fn freeze_page(tree: &mut TreeRef, page: usize, alloc: Global) -> Result<(), AllocError>
+    requires { page < tree_pages }
+    ensures same { SameRow tree_pages (root_row tree.old) (root_row tree.new) }
+    ensures none { OnOk result (root_own tree.new page ≡ false) }
+    ensures less { (p : ℕ) → p < tree_pages → root_own tree.new p ≡ true → root_own tree.old p ≡ true }
+    ensures whole { AreWholeRoot tree.old → AreWholeRoot tree.new }
+{
+    if !is_kept_own(tree, page) {
+        return Ok(());
+    }
+    tree.prepare(page, page + 1, alloc)?;
+    freeze_kept(tree, page, alloc)
+}
+
+// Whether a page's bytes are its holder's own; where they are not, the page is not owned.
+fn is_kept_own(tree: &TreeRef, page: usize) -> bool
+    requires { page < tree_pages }
+    ensures { IsFalse result → root_own tree.now page ≡ false }
+{
+    match tree.page(page) {
+        Some(kept) => kept.is_own(),
+        None => false,
+    }
+}
+
+// Takes a page out of a tree that is ready for it, makes it one that can be shared, and puts it back.
+fn freeze_kept(tree: &mut TreeRef, page: usize, alloc: Global) -> Result<(), AllocError>
+    requires within { page < tree_pages }
+    requires ready { ReadyRoot page (page + 1) tree.old }
+    ensures same { SameRow tree_pages (root_row tree.old) (root_row tree.new) }
+    ensures none { OnOk result (root_own tree.new page ≡ false) }
+    ensures less { (p : ℕ) → p < tree_pages → root_own tree.new p ≡ true → root_own tree.old p ≡ true }
+    ensures whole { AreWholeRoot tree.old → AreWholeRoot tree.new }
+{
+    match tree.replace(page, None) {
+        Some(mut kept) => {
+            let frozen = kept.freeze(alloc);
+            let _bytes = kept.bytes();
+            tree.replace(page, Some(kept));
+            frozen
+        }
+        None => Ok(()),
+    }
+}

@@ -1,0 +1,93 @@
+ghost use Rattle.std.specs.Prelude.{◌≡◌, ℕ, ◌+◌, ◌<◌, ◌≤◌, OnOk, OnErr, IsOk, true};
+ghost use Rattle.memory_model.specs.Sparse.{no_values, put};
+ghost use Rattle.page_tree.specs.TreeRefs.{root_permission, root_own};
+ghost use Rattle.memory_model.specs.Sizes.{pages};
+ghost use Rattle.space_mem.specs.Held.{Marks, Owns, owning, all_pages};
+ghost use Rattle.space_mem.specs.Tables.{IsTable, held_of, memory_of};
+
+use crate::table::PageTable;
+use page_tree::TreeRef;
+use std::alloc::AllocError;
+
+impl PageTable {
+    // Owns a page, which is dirty then. It takes no memory where the page is owned.
+    pub fn own_page(&mut self, page: u32) -> Result<(), AllocError>
+        requires table { IsTable self.old }
+        requires page { page < pages }
+        ensures table { IsTable self.new }
+        ensures ok { OnOk result (held_of self.new ≡ owning (held_of self.old) page (memory_of self.old.pages)) }
+        ensures err { OnErr result (held_of self.new ≡ held_of self.old) }
+        ensures idle { Owns (held_of self.old) page → IsOk result }
+        ensures marks { Marks (held_of self.old) (held_of self.new) }
+    {
+        if self.dirty.permission(page as usize) == 1 {
+            self.own_dirty_page(page)
+        } else {
+            self.own_clean_page(page)
+        }
+    }
+
+    // Owns a page that is dirty.
+    fn own_dirty_page(&mut self, page: u32) -> Result<(), AllocError>
+        requires table { IsTable self.old }
+        requires page { page < pages }
+        requires dirty { root_permission self.old.dirty page ≡ 1 }
+        ensures table { IsTable self.new }
+        ensures ok { OnOk result (held_of self.new ≡ owning (held_of self.old) page (memory_of self.old.pages)) }
+        ensures err { OnErr result (held_of self.new ≡ held_of self.old) }
+        ensures idle { root_own self.old.pages page ≡ true → IsOk result }
+        ensures marks { Marks (held_of self.old) (held_of self.new) }
+    {
+        self.pages.own_page(page as usize, self.alloc)?;
+        Ok(())
+    }
+
+    // Owns a page that is not dirty, and so is not owned.
+    fn own_clean_page(&mut self, page: u32) -> Result<(), AllocError>
+        requires table { IsTable self.old }
+        requires page { page < pages }
+        ensures table { IsTable self.new }
+        ensures ok { OnOk result (held_of self.new ≡ owning (held_of self.old) page (memory_of self.old.pages)) }
+        ensures err { OnErr result (held_of self.new ≡ held_of self.old) }
+        ensures marks { Marks (held_of self.old) (held_of self.new) }
+    {
+        let at = page as usize;
+        self.dirty.prepare(at, at + 1, self.alloc)?;
+        self.pages.own_page(at, self.alloc)?;
+        self.dirty.permit(at, at + 1, 1);
+        Ok(())
+    }
+
+    // Marks a page as dirty.
+    pub fn mark(&mut self, page: u32) -> Result<(), AllocError>
+        requires table { IsTable self.old }
+        requires page { page < pages }
+        ensures table { IsTable self.new }
+        ensures ok { OnOk result (held_of self.new ≡ record (held_of self.old) { dirty = put (held_of self.old).dirty page 1 }) }
+        ensures err { OnErr result (held_of self.new ≡ held_of self.old) }
+    {
+        let at = page as usize;
+        self.dirty.prepare(at, at + 1, self.alloc)?;
+        self.dirty.permit(at, at + 1, 1);
+        Ok(())
+    }
+
+    // Marks every page as dirty.
+    pub fn mark_all(&mut self)
+        requires { IsTable self.old }
+        ensures table { IsTable self.new }
+        ensures held { held_of self.new ≡ record (held_of self.old) { dirty = all_pages } }
+    {
+        self.dirty = TreeRef::Uniform(1);
+    }
+
+    // No page is dirty any more. None is owned.
+    pub fn clean(&mut self)
+        requires table { IsTable self.old }
+        requires none { (held_of self.old).owned ≡ no_values }
+        ensures table { IsTable self.new }
+        ensures held { held_of self.new ≡ record (held_of self.old) { dirty = no_values } }
+    {
+        self.dirty = TreeRef::Uniform(0);
+    }
+}

@@ -1,0 +1,12 @@
+use page_tree::TreeRef;
+use std::alloc::Global;
+
+/// The pages of a memory: their permissions and bytes, and which are dirty.
+#[derive(Drop)]
+pub struct PageTable {
+    // The permission of each page, and its bytes where any are kept; the bytes of other pages are 0.
+    pub pages: TreeRef,
+    // The dirty pages have permission 1 here, and the others 0.
+    pub dirty: TreeRef,
+    pub alloc: Global,
+}
