@@ -57,7 +57,7 @@ fn copy_devices(devices: &Option<Devices>) -> Result<Option<Devices>, AllocError
     ensures { IfOk result (λ o. o ≡ devices.now) }
 {
     match devices {
-        Some(devices) => Ok(Some(devices.copied()?)),
+        Some(devices) => Ok(Some(devices.copy()?)),
         None => Ok(None),
     }
 }

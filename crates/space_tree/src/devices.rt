@@ -31,7 +31,7 @@ impl Devices {
     }
 
     /// Equal devices. The one error is want of memory.
-    pub fn copied(&self) -> Result<Devices, AllocError>
+    pub fn copy(&self) -> Result<Devices, AllocError>
         ensures { IfOk result (λ d. d ≡ self.now) }
     {
         let console = self.console.clone()?;

@@ -25,7 +25,7 @@ const SNAPSHOT_TEST: u32 = 5;
 
 // The range of the shared pages.
 #[tactic(auto, unfolding(crate::specs::Joins::IsShared))]
-fn shared() -> Pages
+fn thread_pages() -> Pages
     ensures { IsShared result.first result.count }
 {
     Pages {
@@ -57,7 +57,7 @@ fn merge_shared(
     ensures err { OnErr result (parent.new.memory ≡ parent.old.memory) }
     ensures marks { Marks parent.old parent.new }
 {
-    match merge(parent, child, snapshot, shared()) {
+    match merge(parent, child, snapshot, thread_pages()) {
         Ok(()) => Ok(None),
         Err(MergeError::Conflict { addr }) => Ok(Some(Refusal {
             cause: Cause::Conflict,
