@@ -11,9 +11,11 @@ const PUT: u32 = 1;
 
 const GET: u32 = 2;
 
-// A space that has returned, with a snapshot, 4 units of fuel and 6 used.
+// A space that has returned, with a snapshot, from which each page of its memory may differ, 4 units of fuel and 6 used.
+#[tactic(auto, using(space_mem::proofs::Dirty::covers_in_all))]
 fn returned(alloc: Global) -> Result<Space, AllocError> {
     let mut top = state(alloc, RETURNED, [7, 8])?;
+    top.memory.mark_all();
     top.snapshot = Some(state(alloc, RETURNED, [3, 0])?.memory);
     top.fuel = 4;
     top.used = 6;

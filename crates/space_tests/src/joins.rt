@@ -50,7 +50,8 @@ pub fn state(alloc: Global, status: Status, bytes: [u8; 2]) -> Result<Top, Alloc
     Ok(top)
 }
 
-// The child: its bytes are 7 and 8, and were 3 and 0 when its snapshot was taken.
+// The child: its bytes are 7 and 8, and were 3 and 0 when its snapshot was taken, from which each page may differ.
+#[tactic(auto, using(space_mem::proofs::Dirty::covers_in_all))]
 pub fn child_that(alloc: Global, how: Child) -> Result<Space, AllocError> {
     let status = match how {
         Child::Running => Status::Running,
@@ -58,6 +59,7 @@ pub fn child_that(alloc: Global, how: Child) -> Result<Space, AllocError> {
     };
     let mut top = state(alloc, status, [7, 8])?;
     if how != Child::WithoutSnapshot {
+        top.memory.mark_all();
         top.snapshot = Some(memory(alloc, [3, 0])?);
     }
     let mut space = Space::alone(alloc, top);

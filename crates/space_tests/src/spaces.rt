@@ -59,8 +59,10 @@ fn root(alloc: Global) -> Result<Top, AllocError> {
     Ok(Top::root(0x2000, 0x3000, memory, 50, devices))
 }
 
-// Gives a space a snapshot, and a limit of 5.
+// Gives a space a snapshot, from which each page of its memory may differ, and a limit of 5.
+#[tactic(auto, using(space_mem::proofs::Dirty::covers_in_all))]
 fn limit(top: &mut Top) -> Result<(), AllocError> {
+    top.memory.mark_all();
     let snapshot = top.memory.frozen()?;
     top.snapshot = Some(snapshot);
     top.limit = Some(5);
@@ -68,6 +70,7 @@ fn limit(top: &mut Top) -> Result<(), AllocError> {
 }
 
 // A copy of a space, which then writes and stops.
+#[tactic(auto, using(space_mem::proofs::Dirty::covers_in_after))]
 fn copy_of(top: &mut Top) -> Result<Top, AllocError> {
     let copy = copy_top(top)?;
     top.memory.write(0x2000, 8)?;
