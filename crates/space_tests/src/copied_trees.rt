@@ -1,6 +1,6 @@
 //! Put and Get with Tree, as events at a path.
 
-use crate::joins::{RETURNED, at_depth, seen, state};
+use crate::joins::{RETURNED, at_depth, keep_snapshot, memory, seen, state};
 use det_core::step;
 use space_tree::{Path, Space, Status};
 use std::alloc::{AllocError, Global};
@@ -11,12 +11,10 @@ const PUT: u32 = 1;
 
 const GET: u32 = 2;
 
-// A space that has returned, with a snapshot, from which each page of its memory may differ, 4 units of fuel and 6 used.
-#[tactic(auto, using(space_mem::proofs::Dirty::covers_in_all))]
+// A space that has returned, with a snapshot, 4 units of fuel and 6 used.
 fn returned(alloc: Global) -> Result<Space, AllocError> {
     let mut top = state(alloc, RETURNED, [7, 8])?;
-    top.memory.mark_all();
-    top.snapshot = Some(state(alloc, RETURNED, [3, 0])?.memory);
+    keep_snapshot(&mut top, memory(alloc, [3, 0])?);
     top.fuel = 4;
     top.used = 6;
     Ok(Space::alone(alloc, top))

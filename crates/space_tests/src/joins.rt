@@ -32,7 +32,7 @@ pub const RETURNED: Status = Status::Stopped {
 };
 
 // A memory with an ECALL at 0x100 that may be fetched, and two bytes at 0x2000.
-fn memory(alloc: Global, bytes: [u8; 2]) -> Result<Mem, AllocError> {
+pub fn memory(alloc: Global, bytes: [u8; 2]) -> Result<Mem, AllocError> {
     let mut memory = Mem::new(alloc);
     memory.write(0x100, 0x73)?;
     memory.write(0x2000, bytes[0])?;
@@ -50,8 +50,13 @@ pub fn state(alloc: Global, status: Status, bytes: [u8; 2]) -> Result<Top, Alloc
     Ok(top)
 }
 
-// The child: its bytes are 7 and 8, and were 3 and 0 when its snapshot was taken, from which each page may differ.
-#[tactic(auto, using(space_mem::proofs::Dirty::covers_in_all))]
+// Gives a space this snapshot, from which each page of its memory may differ.
+pub fn keep_snapshot(top: &mut Top, snapshot: Mem) {
+    top.memory.mark_all();
+    top.snapshot = Some(snapshot);
+}
+
+// The child: its bytes are 7 and 8, and were 3 and 0 when its snapshot was taken.
 pub fn child_that(alloc: Global, how: Child) -> Result<Space, AllocError> {
     let status = match how {
         Child::Running => Status::Running,
@@ -59,8 +64,7 @@ pub fn child_that(alloc: Global, how: Child) -> Result<Space, AllocError> {
     };
     let mut top = state(alloc, status, [7, 8])?;
     if how != Child::WithoutSnapshot {
-        top.memory.mark_all();
-        top.snapshot = Some(memory(alloc, [3, 0])?);
+        keep_snapshot(&mut top, memory(alloc, [3, 0])?);
     }
     let mut space = Space::alone(alloc, top);
     if how == Child::Settled {
