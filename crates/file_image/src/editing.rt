@@ -1,0 +1,126 @@
+ghost use Rattle.std.specs.Prelude.{◌≡◌, ◌<◌, ◌+◌, ◌%◌, ◌^◌, true, IfOk};
+ghost use Rattle.file_model.specs.Sizes.{slot_count};
+ghost use Rattle.file_model.specs.File.{is_name};
+ghost use Rattle.file_model.specs.Slots.{slots_of, with_slot, padded};
+ghost use Rattle.file_model.specs.Operations as files;
+ghost use Rattle.file_image.specs.Lookup.{file_in, HasFile};
+ghost use Rattle.file_image.specs.Writes.{Applied};
+
+use crate::fields::is_deleted;
+use crate::file_bytes::FileBytes;
+use crate::lookup::{find, lowest_free};
+use crate::reading::{is_name, present};
+use crate::writing::{Header, read_header, write_header};
+use file_model::FileError;
+
+// The version after this one: it wraps.
+pub(crate) fn next_version(version: u32) -> u32
+    ensures { result ≡ (version + 1) % 2 ^ 32 }
+{
+    version.wrapping_add(1)
+}
+
+// A name padded with 0.
+fn padded(name: &[u8]) -> [u8; 32]
+    requires { is_name name.now ≡ true }
+    ensures { result ≡ padded name.now }
+{
+    let mut bytes = [0; 32];
+    bytes[..name.len()].copy_from_slice(name);
+    bytes
+}
+
+// A file that was never there, in a slot.
+fn write_new<B: FileBytes>(bytes: &mut B, slot: u32, name: &[u8], append: bool)
+    requires slot { slot < slot_count }
+    requires named { is_name name.now ≡ true }
+    requires ready { B.is_ready bytes.old slot ≡ true }
+    ensures bytes { B.bytes bytes.new ≡ with_slot (B.bytes bytes.old) slot (files.new_file name.now append) }
+    ensures kept { B.keeps bytes.old bytes.new }
+{
+    let header = Header {
+        name: padded(name),
+        name_length: name.len() as u32,
+        version: 1,
+        base: 0,
+        length: 0,
+        length_at_base: 0,
+        append,
+        conflicted: false,
+        deleted: false,
+    };
+    write_header(bytes, slot, &header);
+}
+
+// A deleted file is there again.
+fn revive<B: FileBytes>(bytes: &mut B, slot: u32, append: bool)
+    requires slot { HasFile (B.bytes bytes.old) slot }
+    requires ready { B.is_ready bytes.old slot ≡ true }
+    ensures bytes { B.bytes bytes.new ≡ with_slot (B.bytes bytes.old) slot (files.revived (file_in (B.bytes bytes.old) slot) append) }
+    ensures kept { B.keeps bytes.old bytes.new }
+{
+    let mut header = read_header(bytes, slot);
+    header.version = next_version(header.version);
+    header.length = 0;
+    header.append = append;
+    header.conflicted = false;
+    header.deleted = false;
+    write_header(bytes, slot, &header);
+}
+
+/// Makes a file, or a deleted one anew. The slot that it takes is ready.
+pub fn create<B: FileBytes>(bytes: &mut B, name: &[u8], append: bool) -> Result<(), FileError>
+    requires { IfOk (files.create (slots_of (B.bytes bytes.old)) name.now append) (λ e. B.is_ready bytes.old e.slot ≡ true) }
+    ensures applied { Applied (files.create (slots_of (B.bytes bytes.old)) name.now append) result (B.bytes bytes.old) (B.bytes bytes.new) }
+    ensures kept { B.keeps bytes.old bytes.new }
+{
+    if !is_name(name) {
+        return Err(FileError::BadName);
+    }
+    match find(bytes, name) {
+        Some(slot) => {
+            if !is_deleted(bytes, slot) {
+                return Err(FileError::Exists);
+            }
+            revive(bytes, slot, append);
+            Ok(())
+        }
+        None => match lowest_free(bytes) {
+            Some(slot) => {
+                write_new(bytes, slot, name, append);
+                Ok(())
+            }
+            None => Err(FileError::NoSlot),
+        },
+    }
+}
+
+// A file is marked deleted, and has no content.
+fn mark_deleted<B: FileBytes>(bytes: &mut B, slot: u32)
+    requires slot { HasFile (B.bytes bytes.old) slot }
+    requires ready { B.is_ready bytes.old slot ≡ true }
+    ensures bytes { B.bytes bytes.new ≡ with_slot (B.bytes bytes.old) slot (files.deleted_file (file_in (B.bytes bytes.old) slot)) }
+    ensures kept { B.keeps bytes.old bytes.new }
+{
+    let mut header = read_header(bytes, slot);
+    header.version = next_version(header.version);
+    header.length = 0;
+    header.conflicted = false;
+    header.deleted = true;
+    write_header(bytes, slot, &header);
+}
+
+/// Deletes a file. Its slot, which is ready, stays in use.
+pub fn delete<B: FileBytes>(bytes: &mut B, name: &[u8]) -> Result<(), FileError>
+    requires { IfOk (files.delete (slots_of (B.bytes bytes.old)) name.now) (λ e. B.is_ready bytes.old e.slot ≡ true) }
+    ensures applied { Applied (files.delete (slots_of (B.bytes bytes.old)) name.now) result (B.bytes bytes.old) (B.bytes bytes.new) }
+    ensures kept { B.keeps bytes.old bytes.new }
+{
+    match present(bytes, name) {
+        Err(error) => Err(error),
+        Ok(slot) => {
+            mark_deleted(bytes, slot);
+            Ok(())
+        }
+    }
+}

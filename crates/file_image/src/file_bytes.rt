@@ -1,0 +1,40 @@
+ghost use Rattle.std.specs.Prelude.{◌≡◌, ℕ, ◌<◌, ◌/◌, ◌==◌, Bool, true, if◌then◌else◌};
+ghost use Rattle.file_model.specs.Sizes.{slot_count, slot_size, all_slots_size};
+
+/// What the slots of files are kept in. Offsets count from where slot 0 begins, and are below 4,194,304.
+pub trait FileBytes {
+    // the byte at each offset
+    ghost bytes: { Self → ℕ → ℕ };
+
+    // whether each slot may be written
+    ghost is_ready: { Self → ℕ → Bool };
+
+    // what a write leaves as it is
+    ghost keeps: { Self → Self → Type 0 };
+
+    /// The byte at an offset.
+    fn byte(&self, offset: u32) -> u8
+        requires { offset < all_slots_size }
+        ensures { result ≡ bytes self.now offset };
+
+    /// Makes the byte at an offset of a slot that is ready `value`.
+    fn set(&mut self, offset: u32, value: u8)
+        requires within { offset < all_slots_size }
+        requires ready { is_ready self.old (offset / slot_size) ≡ true }
+        ensures bytes { (a : ℕ) → bytes self.new a ≡ (if a == offset then value else bytes self.old a) }
+        ensures kept { keeps self.old self.new };
+
+    /// Whether a slot, below 64, may be written.
+    fn ready(&self, slot: u32) -> bool
+        requires { slot < slot_count }
+        ensures { result ≡ is_ready self.now slot };
+
+    ghost small: { (s : Self) (a : ℕ) → bytes s a < 256 };
+
+    ghost keeps_itself: { (s : Self) → keeps s s };
+
+    ghost keeps_on: { (s t u : Self) → keeps s t → keeps t u → keeps s u };
+
+    // no slot is less ready after a write
+    ghost ready_on: { (s t : Self) (k : ℕ) → keeps s t → is_ready s k ≡ true → is_ready t k ≡ true };
+}

@@ -1,0 +1,103 @@
+ghost use Rattle.std.specs.Prelude.{◌≡◌, ℕ, ◌+◌, ◌<◌, ◌≤◌, ◌==◌, not, length};
+ghost use Rattle.std.specs.List.{list_any};
+ghost use Rattle.std.specs.Str.{bytes_eq};
+ghost use Rattle.file_model.specs.Sizes.{slot_size, all_slots_size, greatest_name, greatest_length};
+ghost use Rattle.file_model.specs.File.{is_name};
+ghost use Rattle.file_model.specs.Slots.{number_at, bytes_from, name_at, is_in_use, name_length_offset};
+
+use crate::file_bytes::FileBytes;
+
+// The mark that a slot in use begins with, `DTF1`, as a number.
+pub(crate) const MARK: u32 = 0x3146_5444;
+
+// The greatest length of a content.
+pub(crate) const GREATEST_LENGTH: u32 = 61440;
+
+// The greatest length of a name.
+pub(crate) const GREATEST_NAME: u32 = 32;
+
+// How many slots there are.
+pub(crate) const SLOTS: u32 = 64;
+
+// The bytes of a slot.
+pub(crate) const SLOT_SIZE: u32 = 65536;
+
+// Where a content begins in its slot.
+pub(crate) const CONTENT: u32 = 4096;
+
+// The number of four bytes at an offset, the least first.
+pub(crate) fn number<B: FileBytes>(bytes: &B, at: u32) -> u32
+    requires { at + 4 ≤ all_slots_size }
+    ensures { result ≡ number_at (B.bytes bytes.now) at }
+{
+    u32::from_le_bytes([
+        bytes.byte(at),
+        bytes.byte(at + 1),
+        bytes.byte(at + 2),
+        bytes.byte(at + 3),
+    ])
+}
+
+// Whether none of n bytes is 0.
+#[tactic(auto, using(crate::proofs::ByteRows::zero_next, crate::proofs::ByteRows::zero_end))]
+fn has_no_zero<B: FileBytes>(bytes: &B, at: u32, n: u32) -> bool
+    requires { at + n ≤ all_slots_size }
+    ensures { result ≡ not (list_any (λ b. b == 0) (bytes_from (B.bytes bytes.now) at n)) }
+{
+    for i in 0..n {
+        if bytes.byte(at + i) == 0 {
+            return false;
+        }
+    }
+    true
+}
+
+// Whether the name of the slot that begins here is one.
+#[tactic(auto, using(crate::proofs::ByteRows::name_length))]
+fn is_named<B: FileBytes>(bytes: &B, at: u32) -> bool
+    requires { at + slot_size ≤ all_slots_size }
+    ensures { result ≡ is_name (name_at (B.bytes bytes.now) at) }
+{
+    let n = number(bytes, at + 24);
+    n > 0 && n <= GREATEST_NAME && has_no_zero(bytes, at + 28, n)
+}
+
+// Whether the slot that begins here is in use.
+pub(crate) fn is_in_use<B: FileBytes>(bytes: &B, at: u32) -> bool
+    requires { at + slot_size ≤ all_slots_size }
+    ensures { result ≡ is_in_use (B.bytes bytes.now) at }
+{
+    number(bytes, at) == MARK
+        && number(bytes, at + 12) <= GREATEST_LENGTH
+        && number(bytes, at + 16) <= GREATEST_LENGTH
+        && number(bytes, at + 20) < 8
+        && is_named(bytes, at)
+}
+
+// Whether the slot that begins here has this name. Its name is short.
+#[tactic(auto, using(crate::proofs::ByteRows::other_name))]
+pub(crate) fn has_name<B: FileBytes>(bytes: &B, at: u32, name: &[u8]) -> bool
+    requires within { at + slot_size ≤ all_slots_size }
+    requires short { number_at (B.bytes bytes.now) (at + name_length_offset) ≤ greatest_name }
+    ensures { result ≡ bytes_eq (name_at (B.bytes bytes.now) at) name.now }
+{
+    let n = number(bytes, at + 24);
+    if n as usize != name.len() {
+        return false;
+    }
+    has_bytes(bytes, at + 28, name)
+}
+
+// Whether these bytes stand at an offset.
+#[tactic(auto, using(crate::proofs::ByteRows::same_next, crate::proofs::ByteRows::same_end))]
+fn has_bytes<B: FileBytes>(bytes: &B, at: u32, part: &[u8]) -> bool
+    requires { at + length part.now ≤ all_slots_size }
+    ensures { result ≡ bytes_eq (bytes_from (B.bytes bytes.now) at (length part.now)) part.now }
+{
+    for (i, b) in part.iter().enumerate() {
+        if bytes.byte(at + i as u32) != *b {
+            return false;
+        }
+    }
+    true
+}

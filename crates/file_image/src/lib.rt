@@ -1,0 +1,21 @@
+//! Replicated files in the bytes of a memory: the calls on them, and reconciling a parent's with its child's. None takes memory.
+#![tactic(auto)]
+
+mod basing;
+mod editing;
+mod fields;
+mod file_bytes;
+mod header;
+mod lookup;
+mod putting;
+mod reading;
+mod taking;
+mod writing;
+
+pub use basing::mark_base;
+pub use editing::{create, delete};
+pub use file_bytes::FileBytes;
+pub use file_model::FileError;
+pub use lookup::{find, used};
+pub use putting::put;
+pub use reading::{get, len};

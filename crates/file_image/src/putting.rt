@@ -1,0 +1,72 @@
+ghost use Rattle.std.specs.Prelude.{◌≡◌, ◌≤◌, true, cond, length, nat_le, IfOk};
+ghost use Rattle.file_model.specs.Sizes.{greatest_length};
+ghost use Rattle.file_model.specs.Slots.{slots_of, with_slot};
+ghost use Rattle.file_model.specs.Operations as files;
+ghost use Rattle.file_image.specs.Lookup.{file_in, HasFile};
+ghost use Rattle.file_image.specs.Writes.{Applied};
+
+use crate::editing::next_version;
+use crate::fields::{is_append, length};
+use crate::file_bytes::FileBytes;
+use crate::header::{CONTENT, GREATEST_LENGTH};
+use crate::reading::settled;
+use crate::writing::{read_header, write_bytes, write_header};
+use file_model::FileError;
+
+// Where a part that is written begins in a content of this length.
+fn start_of(length: u32, add: bool) -> u32
+    ensures { result ≡ cond add length 0 }
+{
+    if add { length } else { 0 }
+}
+
+// Writes a content, or adds to it; it is short enough.
+fn write_content<B: FileBytes>(bytes: &mut B, slot: u32, part: &[u8], add: bool)
+    requires slot { HasFile (B.bytes bytes.old) slot }
+    requires long { length (files.new_content (file_in (B.bytes bytes.old) slot) part.now add) ≤ greatest_length }
+    requires ready { B.is_ready bytes.old slot ≡ true }
+    ensures bytes { B.bytes bytes.new ≡ with_slot (B.bytes bytes.old) slot (files.rewritten part.now add (file_in (B.bytes bytes.old) slot)) }
+    ensures kept { B.keeps bytes.old bytes.new }
+{
+    let mut header = read_header(bytes, slot);
+    let start = start_of(header.length, add);
+    header.version = next_version(header.version);
+    header.length = start + part.len() as u32;
+    write_header(bytes, slot, &header);
+    write_bytes(bytes, slot, CONTENT + start, part);
+}
+
+// Whether a content stays short enough.
+fn is_room<B: FileBytes>(bytes: &B, slot: u32, part: &[u8], add: bool) -> bool
+    requires { HasFile (B.bytes bytes.now) slot }
+    ensures { result ≡ nat_le (length (files.new_content (file_in (B.bytes bytes.now) slot) part.now add)) greatest_length }
+{
+    let start = start_of(length(bytes, slot), add);
+    part.len() <= (GREATEST_LENGTH - start) as usize
+}
+
+/// Replaces a file's content, or adds to it. The file's slot is ready.
+pub fn put<B: FileBytes>(
+    bytes: &mut B,
+    name: &[u8],
+    part: &[u8],
+    add: bool,
+) -> Result<(), FileError>
+    requires { IfOk (files.put (slots_of (B.bytes bytes.old)) name.now part.now add) (λ e. B.is_ready bytes.old e.slot ≡ true) }
+    ensures applied { Applied (files.put (slots_of (B.bytes bytes.old)) name.now part.now add) result (B.bytes bytes.old) (B.bytes bytes.new) }
+    ensures kept { B.keeps bytes.old bytes.new }
+{
+    match settled(bytes, name) {
+        Err(error) => Err(error),
+        Ok(slot) => {
+            if !add && is_append(bytes, slot) {
+                return Err(FileError::NotAppend);
+            }
+            if !is_room(bytes, slot, part, add) {
+                return Err(FileError::TooLong);
+            }
+            write_content(bytes, slot, part, add);
+            Ok(())
+        }
+    }
+}

@@ -1,0 +1,130 @@
+ghost use Rattle.std.specs.Prelude.{◌≡◌, ◌<◌, ◌≤◌, ◌+◌, true, cond, length};
+ghost use Rattle.std.specs.Int.{w32, to_le_bytes};
+ghost use Rattle.file_model.specs.Sizes.{slot_count, slot_size};
+ghost use Rattle.file_model.specs.File.{File};
+ghost use Rattle.file_model.specs.Slots.{slot_start, overwritten, header_bytes, padded};
+ghost use Rattle.file_image.specs.Lookup.{file_in, HasFile};
+ghost use Rattle.file_image.specs.Writes.{Describes, first_half, second_half};
+
+use crate::fields::{base, is_append, is_conflicted, is_deleted, length, length_at_base, version};
+use crate::file_bytes::FileBytes;
+use crate::header::{SLOT_SIZE, number};
+use crate::reading::read_bytes;
+
+// The fields of a slot's header, the name padded with 0.
+#[derive(Clone, Copy)]
+pub(crate) struct Header {
+    pub(crate) name: [u8; 32],
+    pub(crate) name_length: u32,
+    pub(crate) version: u32,
+    pub(crate) base: u32,
+    pub(crate) length: u32,
+    pub(crate) length_at_base: u32,
+    pub(crate) append: bool,
+    pub(crate) conflicted: bool,
+    pub(crate) deleted: bool,
+}
+
+// Writes bytes from an offset of a slot on.
+pub(crate) fn write_bytes<B: FileBytes>(bytes: &mut B, slot: u32, offset: u32, part: &[u8])
+    requires slot { slot < slot_count }
+    requires within { offset + length part.now ≤ slot_size }
+    requires ready { B.is_ready bytes.old slot ≡ true }
+    ensures bytes { B.bytes bytes.new ≡ overwritten (B.bytes bytes.old) (slot_start slot + offset) part.now }
+    ensures ready { B.is_ready bytes.new slot ≡ true }
+    ensures kept { B.keeps bytes.old bytes.new }
+{
+    let start = SLOT_SIZE * slot + offset;
+    for (i, b) in part.iter().enumerate() {
+        bytes.set(start + i as u32, *b);
+    }
+}
+
+// Writes a number of four bytes at an offset of a slot, the least first.
+fn write_number<B: FileBytes>(bytes: &mut B, slot: u32, offset: u32, value: u32)
+    requires slot { slot < slot_count }
+    requires within { offset + 4 ≤ slot_size }
+    requires ready { B.is_ready bytes.old slot ≡ true }
+    ensures bytes { B.bytes bytes.new ≡ overwritten (B.bytes bytes.old) (slot_start slot + offset) (to_le_bytes w32 value) }
+    ensures ready { B.is_ready bytes.new slot ≡ true }
+    ensures kept { B.keeps bytes.old bytes.new }
+{
+    write_bytes(bytes, slot, offset, &value.to_le_bytes());
+}
+
+// The flags of a header: 1 append, 2 conflicted, 4 deleted.
+fn flags(header: &Header) -> u32
+    ensures { result ≡ cond header.now.append 1 0 + cond header.now.conflicted 2 0 + cond header.now.deleted 4 0 }
+{
+    u32::from(header.append) + 2 * u32::from(header.conflicted) + 4 * u32::from(header.deleted)
+}
+
+// Writes the mark and the first three numbers of a header.
+fn write_versions<B: FileBytes>(bytes: &mut B, slot: u32, header: &Header)
+    requires slot { slot < slot_count }
+    requires ready { B.is_ready bytes.old slot ≡ true }
+    ensures bytes { B.bytes bytes.new ≡ overwritten (B.bytes bytes.old) (slot_start slot) (first_half header.now) }
+    ensures ready { B.is_ready bytes.new slot ≡ true }
+    ensures kept { B.keeps bytes.old bytes.new }
+{
+    write_bytes(bytes, slot, 0, b"DTF1");
+    write_number(bytes, slot, 4, header.version);
+    write_number(bytes, slot, 8, header.base);
+    write_number(bytes, slot, 12, header.length);
+}
+
+// Writes the other numbers of a header, and its name.
+fn write_name<B: FileBytes>(bytes: &mut B, slot: u32, header: &Header)
+    requires slot { slot < slot_count }
+    requires ready { B.is_ready bytes.old slot ≡ true }
+    ensures bytes { B.bytes bytes.new ≡ overwritten (B.bytes bytes.old) (slot_start slot + 16) (second_half header.now) }
+    ensures ready { B.is_ready bytes.new slot ≡ true }
+    ensures kept { B.keeps bytes.old bytes.new }
+{
+    write_number(bytes, slot, 16, header.length_at_base);
+    write_number(bytes, slot, 20, flags(header));
+    write_number(bytes, slot, 24, header.name_length);
+    write_bytes(bytes, slot, 28, &header.name);
+}
+
+// Writes a header.
+pub(crate) fn write_header<B: FileBytes>(bytes: &mut B, slot: u32, header: &Header)
+    requires slot { slot < slot_count }
+    requires ready { B.is_ready bytes.old slot ≡ true }
+    ensures bytes { (f : File) → Describes header.now f → B.bytes bytes.new ≡ overwritten (B.bytes bytes.old) (slot_start slot) (header_bytes f) }
+    ensures ready { B.is_ready bytes.new slot ≡ true }
+    ensures kept { B.keeps bytes.old bytes.new }
+{
+    write_versions(bytes, slot, header);
+    write_name(bytes, slot, header);
+}
+
+// The name of a slot in use, padded with 0.
+fn read_name<B: FileBytes>(bytes: &B, slot: u32) -> [u8; 32]
+    requires { HasFile (B.bytes bytes.now) slot }
+    ensures { result ≡ padded (file_in (B.bytes bytes.now) slot).name }
+{
+    let at = SLOT_SIZE * slot;
+    let n = number(bytes, at + 24) as usize;
+    let mut name = [0; 32];
+    read_bytes(bytes, at + 28, &mut name[..n]);
+    name
+}
+
+// The header of a slot in use.
+pub(crate) fn read_header<B: FileBytes>(bytes: &B, slot: u32) -> Header
+    requires { HasFile (B.bytes bytes.now) slot }
+    ensures { Describes result (file_in (B.bytes bytes.now) slot) }
+{
+    Header {
+        name: read_name(bytes, slot),
+        name_length: number(bytes, SLOT_SIZE * slot + 24),
+        version: version(bytes, slot),
+        base: base(bytes, slot),
+        length: length(bytes, slot),
+        length_at_base: length_at_base(bytes, slot),
+        append: is_append(bytes, slot),
+        conflicted: is_conflicted(bytes, slot),
+        deleted: is_deleted(bytes, slot),
+    }
+}

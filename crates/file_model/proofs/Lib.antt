@@ -1,0 +1,7 @@
+pub mod Bytes
+pub mod Lookups
+pub mod Headers
+pub mod ReadingBack
+pub mod OtherSlots
+pub mod WellFormed
+pub mod Examples
