@@ -2,11 +2,13 @@
 use Rattle.std.proofs.Common.{◌≡◌, ℕ, Bool, true, false, ◌||◌, List, Option, Some, None, if◌then◌else◌, refl, arith, ◌≤◌, nat_lt}
 use Rattle.std.proofs.lemmas.Bool.Decides.{nat_tests}
 use Rattle.call_model.specs.declared.Kind.{Kind}
-use Rattle.call_model.specs.declared.Kind.TheVariants.{Put, Get, Ret, ConsoleOut, Fork, Wait, Tfork, Tjoin}
+use Rattle.call_model.specs.declared.Kind.TheVariants.{Put, Get, Ret, ConsoleOut, Fork, Wait, Tfork, Tjoin, FileNew, FilePut, FileGet, FileLength, FileDelete}
 use Rattle.call_model.specs.declared.Call.{Call}
 use Rattle.call_model.specs.Options.{has, tree, has_two_changes, has_clash, bad_put_options, bad_get_options}
 use Rattle.call_model.specs.Tests.{wrong_options, wrong_child, wrong_range, outside_root, too_long, too_deep, wrong_block, argument, first_failing}
-use Rattle.call_model.specs.Reading.{call_of, IsAccepted}
+use Rattle.call_model.specs.Limits.{greatest_length}
+use Rattle.call_model.specs.Options.{passes_end}
+use Rattle.call_model.specs.Reading.{call_of, IsAccepted, IsSpan}
 
 -- a call of this kind fails no test
 pub record Passes (kind : Kind) (x : List ℕ) (root : Bool) (depth : ℕ) : Type 0 where
@@ -57,16 +59,31 @@ get_change : (options : ℕ) → bad_get_options options ≡ false → has_two_c
 unfolding bad_get_options
 get_change options h = one_change options (neither _ _ (neither _ _ h).1).0
 
+-- bytes that pass no end and are not too many, and two of these
+is_span : (addr len : ℕ) → passes_end addr len ≡ false → nat_lt greatest_length len ≡ false → IsSpan addr len
+is_span addr len end long = record { within = not_past _ _ end; short = not_past _ _ long }
+
+are_spans : (addr len from n : ℕ) → (passes_end addr len || passes_end from n) ≡ false → (nat_lt greatest_length len || nat_lt greatest_length n) ≡ false → IsSpan addr len × IsSpan from n
+are_spans addr len from n ends long =
+    let e = neither (passes_end addr len) (passes_end from n) ends in
+    let l = neither (nat_lt greatest_length len) (nat_lt greatest_length n) long in
+    (is_span addr len e.0 l.0, is_span from n e.1 l.1)
+
 named_kept : (kind : Kind) (x : List ℕ) (root : Bool) (depth : ℕ) → Passes kind x root depth → IsAccepted (call_of kind x)
 unfolding wrong_options wrong_range too_long wrong_block
 named_kept Put x root depth p = by_tree (has tree (argument x 0)) _ _ tt (p.options, record { changes = put_change (argument x 0) p.options; ranges = p.range; block = p.block })
 named_kept Get x root depth p = by_tree (has tree (argument x 0)) _ _ tt (p.options, record { changes = get_change (argument x 0) p.options; ranges = p.range; block = p.block })
 named_kept Ret x root depth p = tt
-named_kept ConsoleOut x root depth p = (not_past _ _ p.range, not_past _ _ p.length)
+named_kept ConsoleOut x root depth p = is_span (argument x 1) (argument x 2) p.range p.length
 named_kept Fork x root depth p = tt
 named_kept Wait x root depth p = tt
 named_kept Tfork x root depth p = tt
 named_kept Tjoin x root depth p = tt
+named_kept FileNew x root depth p = is_span (argument x 1) (argument x 2) p.range p.length
+named_kept FilePut x root depth p = are_spans (argument x 1) (argument x 2) (argument x 3) (argument x 4) p.range p.length
+named_kept FileGet x root depth p = are_spans (argument x 1) (argument x 2) (argument x 3) (argument x 4) p.range p.length
+named_kept FileLength x root depth p = is_span (argument x 1) (argument x 2) p.range p.length
+named_kept FileDelete x root depth p = is_span (argument x 1) (argument x 2) p.range p.length
 
 -- registers that fail no test name a call that keeps what the tests ask
 pub named_accepted : (kind : Kind) (x : List ℕ) (root : Bool) (depth : ℕ) → first_failing kind x root depth ≡ None → IsAccepted (call_of kind x)

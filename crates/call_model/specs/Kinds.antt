@@ -3,7 +3,7 @@
 use Rattle.std.specs.Prelude.{ℕ, ◌==◌, List, [], ◌∷◌, Option}
 use Rattle.std.specs.List.{find}
 use Rattle.call_model.specs.declared.Kind.{Kind}
-use Rattle.call_model.specs.declared.Kind.TheVariants.{Put, Get, Ret, ConsoleOut, Fork, Wait, Tfork, Tjoin}
+use Rattle.call_model.specs.declared.Kind.TheVariants.{Put, Get, Ret, ConsoleOut, Fork, Wait, Tfork, Tjoin, FileNew, FilePut, FileGet, FileLength, FileDelete}
 
 abbrev pub number_of : Kind → ℕ
 number_of Put = 1
@@ -14,9 +14,14 @@ number_of Fork = 16
 number_of Wait = 17
 number_of Tfork = 18
 number_of Tjoin = 19
+number_of FileNew = 24
+number_of FilePut = 25
+number_of FileGet = 26
+number_of FileLength = 27
+number_of FileDelete = 28
 
 abbrev pub kinds : List Kind
-kinds = Put ∷ Get ∷ Ret ∷ ConsoleOut ∷ Fork ∷ Wait ∷ Tfork ∷ Tjoin ∷ []
+kinds = Put ∷ Get ∷ Ret ∷ ConsoleOut ∷ Fork ∷ Wait ∷ Tfork ∷ Tjoin ∷ FileNew ∷ FilePut ∷ FileGet ∷ FileLength ∷ FileDelete ∷ []
 
 -- the kind of call that has this number, if there is one
 abbrev pub kind_of : ℕ → Option Kind

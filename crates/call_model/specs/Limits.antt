@@ -18,7 +18,7 @@ greatest_depth = 8
 abbrev pub levels_below : ℕ → ℕ
 levels_below depth = greatest_depth - depth
 
--- the greatest length, in bytes, that a call of a device names
+-- the greatest length, in bytes, that a call of a device or on a file names
 abbrev pub greatest_length : ℕ
 greatest_length = 65536
 

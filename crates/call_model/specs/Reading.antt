@@ -1,11 +1,13 @@
 -- The call that registers name, or the first test that they fail.
 -- Our choice: which register holds what.
-use Rattle.std.specs.Prelude.{◌≡◌, ℕ, ◌+◌, ◌^◌, ◌≤◌, Bool, false, if◌then◌else◌, List, Option, Some, None, Result, Ok, Err}
+use Rattle.std.specs.Prelude.{◌≡◌, ℕ, ◌+◌, ◌^◌, ◌≤◌, ◌==◌, Bool, false, if◌then◌else◌, List, Option, Some, None, Result, Ok, Err}
 use Rattle.call_model.specs.declared.Kind.{Kind}
 use Rattle.call_model.specs.declared.Kind.TheVariants as kinds
 use Rattle.call_model.specs.declared.Transfer.{Transfer}
 use Rattle.call_model.specs.declared.Call.{Call}
-use Rattle.call_model.specs.declared.Call.TheVariants.{Put, PutTree, Get, GetTree, Ret, ConsoleOut, Fork, Wait, Tfork, Tjoin}
+use Rattle.call_model.specs.declared.Call.TheVariants.{Put, PutTree, Get, GetTree, Ret, ConsoleOut, Fork, Wait, Tfork, Tjoin, File}
+use Rattle.call_model.specs.declared.FileCall.{FileCall}
+use Rattle.call_model.specs.declared.FileCall.TheVariants as files
 use Rattle.call_model.specs.declared.Badcall.{Badcall}
 use Rattle.call_model.specs.Kinds.{kind_of}
 use Rattle.call_model.specs.Limits.{greatest_length}
@@ -26,6 +28,11 @@ call_of kinds.Fork x = Fork (argument x 1)
 call_of kinds.Wait x = Wait (argument x 1)
 call_of kinds.Tfork x = Tfork (argument x 1)
 call_of kinds.Tjoin x = Tjoin (argument x 1)
+call_of kinds.FileNew x = File (files.New (argument x 1) (argument x 2) (argument x 3 == 1))
+call_of kinds.FilePut x = File (files.Put (argument x 1) (argument x 2) (argument x 3) (argument x 4) (argument x 5 == 1))
+call_of kinds.FileGet x = File (files.Get (argument x 1) (argument x 2) (argument x 3) (argument x 4) (argument x 5))
+call_of kinds.FileLength x = File (files.Length (argument x 1) (argument x 2))
+call_of kinds.FileDelete x = File (files.Delete (argument x 1) (argument x 2))
 
 -- the call, or the number of the first test that fails
 abbrev pub unless_failed : Option ℕ → Call → Result Call Badcall
@@ -47,9 +54,23 @@ pub record IsTransfer (t : Transfer) : Type 0 where
   pub ranges : bad_ranges t.options t.source t.destination t.size ≡ false
   pub block : bad_block t.options t.block ≡ false
 
+-- bytes that a call may name: they end within memory, and are not too many
+pub record IsSpan (addr len : ℕ) : Type 0 where
+  pub within : addr + len ≤ 2 ^ 32
+  pub short : len ≤ greatest_length
+
+-- what the tests keep of a file call
+abbrev pub IsFileCall : FileCall → Type 0
+IsFileCall (files.New name n append) = IsSpan name n
+IsFileCall (files.Put name n addr len add) = IsSpan name n × IsSpan addr len
+IsFileCall (files.Get name n addr len offset) = IsSpan name n × IsSpan addr len
+IsFileCall (files.Length name n) = IsSpan name n
+IsFileCall (files.Delete name n) = IsSpan name n
+
 -- what the tests keep of a call, apart from where the caller stands
 abbrev pub IsAccepted : Call → Type 0
 IsAccepted (Put t) = (bad_put_options t.options ≡ false) × IsTransfer t
 IsAccepted (Get t) = (bad_get_options t.options ≡ false) × IsTransfer t
-IsAccepted (ConsoleOut addr len) = (addr + len ≤ 2 ^ 32) × (len ≤ greatest_length)
+IsAccepted (ConsoleOut addr len) = IsSpan addr len
+IsAccepted (File call) = IsFileCall call
 IsAccepted k = Unit {0}

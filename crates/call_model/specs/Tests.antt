@@ -3,7 +3,7 @@
 -- Our choice: the tests, their numbers and their order.
 use Rattle.std.specs.Prelude.{ℕ, ◌+◌, Bool, false, not, ◌&&◌, ◌||◌, nat_lt, if◌then◌else◌, List, [], ◌∷◌, slice_index, Option, Some, None}
 use Rattle.call_model.specs.declared.Kind.{Kind}
-use Rattle.call_model.specs.declared.Kind.TheVariants.{Put, Get, ConsoleOut, Fork, Wait, Tfork, Tjoin}
+use Rattle.call_model.specs.declared.Kind.TheVariants.{Put, Get, ConsoleOut, Fork, Wait, Tfork, Tjoin, FileNew, FilePut, FileGet, FileLength, FileDelete}
 use Rattle.call_model.specs.Limits.{greatest_child, greatest_depth, greatest_length}
 use Rattle.call_model.specs.Options.{has, tree, bad_put_options, bad_get_options, bad_ranges, bad_block, passes_end}
 
@@ -11,10 +11,16 @@ use Rattle.call_model.specs.Options.{has, tree, bad_put_options, bad_get_options
 abbrev pub argument : List ℕ → ℕ → ℕ
 argument x n = slice_index x (10 + n)
 
--- options that do not stand, or do not stand together
+-- what says yes or no is neither 1 nor 0
+abbrev pub is_no_choice : ℕ → Bool
+is_no_choice n = nat_lt 1 n
+
+-- options that do not stand, or do not stand together; of a file call, a choice that is none
 unfoldable pub wrong_options : Kind → List ℕ → Bool
 wrong_options Put x = bad_put_options (argument x 0)
 wrong_options Get x = bad_get_options (argument x 0)
+wrong_options FileNew x = is_no_choice (argument x 3)
+wrong_options FilePut x = is_no_choice (argument x 5)
 wrong_options kind x = false
 
 -- no number of a child
@@ -35,11 +41,23 @@ wrong_child Tfork x = is_no_child (argument x 1)
 wrong_child Tjoin x = is_no_child (argument x 1)
 wrong_child kind x = false
 
--- a range of Put or Get, or the bytes of console out
+-- a name, or the data or the buffer behind it, that passes the end of memory
+abbrev pub wrong_name : List ℕ → Bool
+wrong_name x = passes_end (argument x 1) (argument x 2)
+
+abbrev pub wrong_data : List ℕ → Bool
+wrong_data x = wrong_name x || passes_end (argument x 3) (argument x 4)
+
+-- a range of Put or Get, the bytes of console out, or what a file call names
 unfoldable pub wrong_range : Kind → List ℕ → Bool
 wrong_range Put x = bad_ranges (argument x 0) (argument x 3) (argument x 4) (argument x 5)
 wrong_range Get x = bad_ranges (argument x 0) (argument x 3) (argument x 4) (argument x 5)
 wrong_range ConsoleOut x = passes_end (argument x 1) (argument x 2)
+wrong_range FileNew x = wrong_name x
+wrong_range FilePut x = wrong_data x
+wrong_range FileGet x = wrong_data x
+wrong_range FileLength x = wrong_name x
+wrong_range FileDelete x = wrong_name x
 wrong_range kind x = false
 
 -- a call of a device outside the root
@@ -47,9 +65,21 @@ unfoldable pub outside_root : Kind → Bool → Bool
 outside_root ConsoleOut root = not root
 outside_root kind root = false
 
+-- of a file call, the length of its name, or that of its data or buffer
+abbrev pub long_name : List ℕ → Bool
+long_name x = nat_lt greatest_length (argument x 2)
+
+abbrev pub long_data : List ℕ → Bool
+long_data x = long_name x || nat_lt greatest_length (argument x 4)
+
 -- a length above the greatest
 unfoldable pub too_long : Kind → List ℕ → Bool
 too_long ConsoleOut x = nat_lt greatest_length (argument x 2)
+too_long FileNew x = long_name x
+too_long FilePut x = long_data x
+too_long FileGet x = long_data x
+too_long FileLength x = long_name x
+too_long FileDelete x = long_name x
 too_long kind x = false
 
 -- how many levels below its caller a call makes spaces: with Tree a child's child, else a child

@@ -26,6 +26,43 @@ pub enum Kind {
     Wait,
     Tfork,
     Tjoin,
+    FileNew,
+    FilePut,
+    FileGet,
+    FileLength,
+    FileDelete,
+}
+
+/// A call on a file of the caller's own file system (OSDI 2010, "Efficient System-Enforced Deterministic Parallelism", the section on file
+/// system consistency). A name is `name_len` bytes from address `name` on; data and a buffer are `len` bytes from `addr` on.
+#[derive(Clone, Copy, Debug, PartialEq, Eq)]
+pub enum FileCall {
+    /// Makes a file, whose content may only be added to with `append`.
+    New {
+        name: u32,
+        name_len: u32,
+        append: bool,
+    },
+    /// Puts data in the place of the content, or behind it with `add`.
+    Put {
+        name: u32,
+        name_len: u32,
+        addr: u32,
+        len: u32,
+        add: bool,
+    },
+    /// Copies the content from an offset on into a buffer.
+    Get {
+        name: u32,
+        name_len: u32,
+        addr: u32,
+        len: u32,
+        offset: u32,
+    },
+    /// Tells how long the content is.
+    Length { name: u32, name_len: u32 },
+    /// Deletes a file.
+    Delete { name: u32, name_len: u32 },
 }
 
 /// A call of a space.
@@ -51,6 +88,8 @@ pub enum Call {
     Tfork { child: u16 },
     /// Merges what a thread has changed since its snapshot into the caller's memory.
     Tjoin { child: u16 },
+    /// Makes, writes, reads or deletes a file.
+    File(FileCall),
 }
 
 /// The number of the first test that a call's registers fail.
