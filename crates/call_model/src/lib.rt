@@ -60,9 +60,15 @@ pub enum FileCall {
         offset: u32,
     },
     /// Tells how long the content is.
-    Length { name: u32, name_len: u32 },
+    Length {
+        name: u32,
+        name_len: u32,
+    },
     /// Deletes a file.
-    Delete { name: u32, name_len: u32 },
+    Delete {
+        name: u32,
+        name_len: u32,
+    },
 }
 
 /// A call of a space.

@@ -23,7 +23,10 @@ use Rattle.space_model.specs.Space.{Top, Devices}
 use Rattle.space_model.specs.Sound.{has_devices, IsSoundTop}
 use Rattle.space_model.specs.Change.{after_payment}
 use Rattle.space_model.specs.Meeting.{MayMeet}
-use Rattle.space_model.specs.Event.{Effect, becomes, asks, NextEvent, rests, moves, meets, charge, with_devices, output, console_out, effect_of, by_reading, call, after_outcome, instruction, by_limit_left, by_fuel_left, by_status, next, Follows, IsNotLocal, MayPay}
+use Rattle.space_model.specs.declared.FileAnswer.{FileAnswer}
+use Rattle.space_model.specs.declared.FileAnswer.TheVariants.{Done, Refused, Fault}
+use Rattle.space_model.specs.Files.{file_call}
+use Rattle.space_model.specs.Event.{Effect, becomes, asks, NextEvent, rests, moves, meets, charge, with_devices, output, console_out, effect_of, after_answer, by_reading, call, after_outcome, instruction, by_limit_left, by_fuel_left, by_status, next, Follows, IsNotLocal, MayPay}
 
 fits : (n : ℕ) → is_no_child n ≡ false → IsChild n
 fits n h = grind (arith, nat_tests)
@@ -51,6 +54,7 @@ console_asks t addr len k e = device_asks t t.devices (console_out t addr len) k
 -- the call that is asked for is the call itself
 asked : (t : Top) (c k : Call) → effect_of t c ≡ asks k → c ≡ k
 asked t (named.ConsoleOut addr len) k e = absurd (console_asks t addr len k e)
+asked t (named.File call) k e = cc
 asked t c k e = cc
 
 -- the numbers that Put and Get name, with Tree among the options or without
@@ -82,6 +86,11 @@ named_meets levels t kinds.Tfork x root k p e = (shallow levels 1 p.below, fits 
 named_meets levels t kinds.Tjoin x root k p e = fits (argument x 1) p.child
 named_meets levels t kinds.Ret x root k p e = cc
 named_meets levels t kinds.ConsoleOut x root k p e = absurd (console_asks t (argument x 1) (argument x 2) k e)
+named_meets levels t kinds.FileNew x root k p e = cc
+named_meets levels t kinds.FilePut x root k p e = cc
+named_meets levels t kinds.FileGet x root k p e = cc
+named_meets levels t kinds.FileLength x root k p e = cc
+named_meets levels t kinds.FileDelete x root k p e = cc
 
 answer_asks : (levels : ℕ) (t : Top) (kind : Kind) (x : List ℕ) (root : Bool) (k : Call) (o : Option ℕ) → first_failing kind x root (greatest_depth - levels) ≡ o
     → by_reading t (unless_failed o (reading.call_of kind x)) ≡ asks k → MayMeet levels k × IsAccepted k
@@ -150,9 +159,16 @@ output_keeps : (t : Top) (d : Devices) (addr len : ℕ) (o : Option ℕ) → t.d
 output_keeps t d addr len (Some a) is = refl
 output_keeps t d addr len None is = rw is refl
 
+answer_keeps : (a : FileAnswer) (t : Top) → (after_answer a t).devices ≡ t.devices
+answer_keeps (Done None) t = refl
+answer_keeps (Done (Some n)) t = refl
+answer_keeps (Refused error) t = refl
+answer_keeps (Fault r) t = refl
+
 effect_keeps : (t : Top) (c : Call) → KeepsDevices t (effect_of t c)
 effect_keeps t (named.Ret value) = refl
 effect_keeps t (named.ConsoleOut addr len) = device_keeps t t.devices (console_out t addr len) refl (λ d. output_keeps t d addr len (first_without (may_read t.memory) addr len))
+effect_keeps t (named.File call) = ap has_devices (answer_keeps (file_call call t.memory).answer (record t { memory = (file_call call t.memory).memory }))
 effect_keeps t c = tt
 
 reading_keeps : (t : Top) (r : Result Call refusal.Badcall) → KeepsDevices t (by_reading t r)

@@ -6,7 +6,7 @@ use Rattle.std.proofs.Common.{◌≡◌, ℕ, zero, suc, pred, ◌+◌, ◌-◌,
 use Rattle.std.proofs.lemmas.Bool.Decides.{nat_tests}
 use Rattle.std.specs.Prelude.{option_map, if◌then◌else◌}
 use Rattle.call_model.specs.declared.Call.{Call}
-use Rattle.call_model.specs.declared.Call.TheVariants.{Put, PutTree, Get, GetTree, Ret, ConsoleOut, Fork, Wait, Tfork, Tjoin}
+use Rattle.call_model.specs.declared.Call.TheVariants.{Put, PutTree, Get, GetTree, Ret, ConsoleOut, Fork, Wait, Tfork, Tjoin, File}
 use Rattle.call_model.specs.Limits.{IsChild}
 use Rattle.space_model.specs.declared.Refusal.{Refusal}
 use Rattle.space_model.specs.Space.{Space, space, Children, none, child, Top, top_of, children_of, find, over, has, enter, put_child, remove_child, height, levels_of}
@@ -17,7 +17,8 @@ use Rattle.space_model.specs.Call.{Meeting, below, seen_of, copy_to, edit, apply
 use Rattle.space_model.specs.Part.{Part, child_after, caller_after}
 use Rattle.space_model.specs.Runtime.{after_fork, after_thread_fork, after_join, after_wait}
 use Rattle.space_model.specs.Event.{MayPay}
-use Rattle.space_model.specs.Meeting.{MayMeet, awaits, meet, or_fresh, test_refusal, height_refusal, refusals, first_refusal, action, unless_refused}
+use Rattle.space_model.specs.Meeting.{MayMeet, awaits, meet, or_fresh, test_refusal, height_refusal, refusals, action, unless_refused}
+use Rattle.space_model.specs.Refusals.{first_refusal}
 use Rattle.space_model.proofs.Parts.{IsAlike, child_alike, caller_alike, fork_alike, thread_fork_alike, join_alike, wait_alike}
 
 same_number : (n m : ℕ) → (n == m) ≡ true → n ≡ m
@@ -248,6 +249,7 @@ action_sound levels root fuel (Tjoin n) u cs may top ok passes =
     (caller_sound fuel root u (after_join c u) (join_alike c u) top, ok)
 action_sound levels root fuel (Ret value) u cs may top ok passes = absurd may
 action_sound levels root fuel (ConsoleOut addr len) u cs may top ok passes = absurd may
+action_sound levels root fuel (File call) u cs may top ok passes = absurd may
 
 -- a caller that stops is as sound as it was
 unless_sound : (levels : ℕ) (root : Bool) (fuel : ℕ) (o : Option Refusal) (u : Top) (m : Meeting) (cs : Children) → IsSoundTop fuel root u → AreSound levels fuel 0 cs

@@ -13,6 +13,14 @@ stop t cause value = record t { status = Stopped cause value }
 abbrev pub after_success : Top → Top
 after_success t = record t { registers = with_register (onward t.registers) 10 0 }
 
+-- a call that is refused, and not as a trap: a0 is the number of the error, and the next instruction follows
+abbrev pub after_error : ℕ → Top → Top
+after_error number t = record t { registers = with_register (onward t.registers) 10 number }
+
+-- a call that has counted something: a1 is how much
+abbrev pub with_count : ℕ → Top → Top
+with_count n t = record t { registers = with_register t.registers 11 n }
+
 -- with the fuel, the use and the limit of t, less or more the units that so many events take
 abbrev pub after_spending : ℕ → Top → Top → Top
 after_spending n t u = record u { fuel = t.fuel - n; used = t.used + n; limit = option_map (λ k. k - n) t.limit }

@@ -15,7 +15,11 @@ use Rattle.space_model.specs.declared.Cause.TheVariants.{LoadFault, Badcall, Lim
 use Rattle.space_model.specs.Stop.{cause_of}
 use Rattle.space_model.specs.Space.{Top, Devices}
 use Rattle.space_model.specs.Sound.{has_devices}
-use Rattle.space_model.specs.Change.{stop, after_success, after_payment}
+use Rattle.space_model.specs.Change.{stop, after_success, after_error, with_count, after_payment}
+use Rattle.space_model.specs.declared.FileAnswer.{FileAnswer}
+use Rattle.space_model.specs.declared.FileAnswer.TheVariants.{Done, Refused, Fault}
+use Rattle.file_model.specs.Operations.{error_number}
+use Rattle.space_model.specs.Files.{FileResult, file_call}
 
 -- what an event does, before what it costs
 pub data Effect : Type 0 where
@@ -50,10 +54,21 @@ output t d addr len None = becomes (after_success (with_output t d (bytes_from t
 abbrev pub console_out : Top → ℕ → ℕ → Devices → Effect
 console_out t addr len d = output t d addr len (first_without (may_read t.memory) addr len)
 
+-- what a call on a file answers: a0, and a count in a1; or the trap of a byte that lacks a right
+abbrev pub after_answer : FileAnswer → Top → Top
+after_answer (Done None) t = after_success t
+after_answer (Done (Some n)) t = after_success (with_count n t)
+after_answer (Refused error) t = after_error (error_number error) t
+after_answer (Fault r) t = stop t r.cause r.value
+
+abbrev pub after_file_call : FileResult → Top → Top
+after_file_call result t = after_answer result.answer (record t { memory = result.memory })
+
 -- what a call does; one that meets children is asked for
 abbrev pub effect_of : Top → Call → Effect
 effect_of t (named.Ret value) = becomes (stop (after_success t) Ret value)
 effect_of t (named.ConsoleOut addr len) = with_devices t t.devices (console_out t addr len)
+effect_of t (named.File call) = becomes (after_file_call (file_call call t.memory) t)
 effect_of t call = asks call
 
 -- what registers come to that name a call, or fail a test

@@ -5,6 +5,8 @@ pub mod Beginning
 pub mod Sound
 pub mod Path
 pub mod Change
+pub mod Refusals
+pub mod Files
 pub mod Block
 pub mod Call
 pub mod Part

@@ -5,7 +5,7 @@
 -- that a byte which both sides changed stops the merging space.
 -- Our choice: the order of the tests and of the parts, that all tests come before any change, and that Tree is a copy.
 use Rattle.std.specs.Prelude.{ℕ, ◌+◌, List, [], ◌∷◌, Option, Some, None, option_map, Bool, if◌then◌else◌, ◌≤◌, nat_lt}
-use Rattle.memory_model.specs.Memory.{Memory, may_read, may_write, first_without}
+use Rattle.memory_model.specs.Memory.{Memory, may_read, may_write}
 use Rattle.merge_model.specs.Merge.{first_conflict}
 use Rattle.call_model.specs.declared.Transfer.{Transfer}
 use Rattle.call_model.specs.declared.Call.{Call}
@@ -17,6 +17,7 @@ use Rattle.space_model.specs.declared.Cause.TheVariants.{LoadFault, StoreFault, 
 use Rattle.space_model.specs.declared.Refusal.{Refusal}
 use Rattle.space_model.specs.Space.{Space, space, Children, Top, top_of, find, height}
 use Rattle.space_model.specs.Change.{stop, after_success}
+use Rattle.space_model.specs.Refusals.{first_refusal, access_refusal}
 use Rattle.space_model.specs.Beginning.{fresh_top}
 use Rattle.space_model.specs.Part.{child_after, caller_after, destination_page, page_count}
 use Rattle.space_model.specs.Runtime.{shared_pages, after_fork, after_thread_fork, after_join, after_wait}
@@ -53,7 +54,7 @@ awaits k = []
 
 -- with Regs, the least address of the register block that lacks a right
 abbrev pub block_refusal : Transfer → Cause → (ℕ → Bool) → Option Refusal
-block_refusal x cause right = if has regs x.options then option_map (λ a. record { cause = cause; value = a }) (first_without right x.block block_size) else None
+block_refusal x cause right = if has regs x.options then access_refusal cause right x.block block_size else None
 
 -- the call fails the test of this number, one of those that stand behind the tests on registers
 abbrev pub test_refusal : ℕ → Option Refusal
@@ -98,12 +99,6 @@ refusals levels (PutTree child from to) t seen = height_refusal levels (second_s
 refusals levels (Get x) t seen = get_refusals x t (or_fresh t (first_top seen))
 refusals levels (Tjoin child) t seen = join_refusals t (or_fresh t (first_top seen))
 refusals levels k t seen = []
-
--- the first that stops the caller
-abbrev pub first_refusal : List (Option Refusal) → Option Refusal
-first_refusal [] = None
-first_refusal (None ∷ others) = first_refusal others
-first_refusal (Some r ∷ others) = Some r
 
 -- a child's child becomes a copy of a space, or goes
 abbrev pub with_copy : ℕ → Option Space → Space → Space

@@ -7,6 +7,7 @@ use Rattle.memory_model.specs.Sizes.{pages}
 use Rattle.instruction_model.specs.Outcome.{Registers, with_register, onward}
 use Rattle.space_model.specs.Space.{Top}
 use Rattle.space_model.specs.Block.{stop_number, stop_value}
+use Rattle.space_model.specs.Files.{with_file_bases, with_files_of, files_left_out}
 use Rattle.space_model.specs.Part.{Part, registers_part, copy_part, merge_part, snapshot_part, start_part}
 
 -- the pages that threads share: those below the address 0xC0000000
@@ -21,9 +22,13 @@ fork_registers r = with_register (onward r) 10 1
 abbrev pub twin_part : Top → Part
 twin_part t c = copy_part t.memory 0 0 pages (registers_part (fork_registers t.registers) c)
 
+-- its files have their base
+abbrev pub base_part : Part
+base_part c = record c { memory = with_file_bases c.memory }
+
 -- the child of a caller after a fork: it runs without a limit
 unfoldable pub after_fork : Top → Part
-after_fork t c = start_part None (twin_part t c)
+after_fork t c = start_part None (base_part (twin_part t c))
 
 -- and after a fork of a thread, which has a snapshot too
 unfoldable pub after_thread_fork : Top → Part
@@ -37,6 +42,10 @@ stop_part c t = registers_part (with_register (with_register t.registers 11 (sto
 unfoldable pub after_join : Top → Part
 after_join c t = stop_part c (merge_part c.snapshot c.memory 0 shared_pages t)
 
--- the caller after it has waited for a process: how it stopped, and in a3 how many of its files found no place: none, as long as there are no files
+-- what it takes over from a child's files; a3 is how many of them found no free slot
+abbrev pub files_part : Top → Part
+files_part c t = record t { registers = with_register t.registers 13 (files_left_out c.memory t.memory); memory = with_files_of c.memory t.memory }
+
+-- the caller after it has waited for a process: its files, and how it stopped
 unfoldable pub after_wait : Top → Part
-after_wait c t = let u = stop_part c t in registers_part (with_register u.registers 13 0) u
+after_wait c t = stop_part c (files_part c t)

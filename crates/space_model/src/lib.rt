@@ -1,6 +1,8 @@
 //! Definitions of spaces and of their local events, for contracts: `specs/` has them.
 #![tactic(auto)]
 
+use file_model::FileError;
+
 /// Why a space has stopped. The first eight are traps of RISC-V (Privileged ISA, "Machine Cause"), with its numbers 0 to 7.
 #[derive(Clone, Copy, Debug, PartialEq, Eq)]
 pub enum Cause {
@@ -48,6 +50,17 @@ pub enum Status {
 pub struct Refusal {
     pub cause: Cause,
     pub value: u32,
+}
+
+/// What a call on a file answers.
+#[derive(Clone, Copy, Debug, PartialEq, Eq)]
+pub enum FileAnswer {
+    /// It is done; of a call that counts bytes, how many.
+    Done(Option<u32>),
+    /// It is refused, and nothing has changed.
+    Refused(FileError),
+    /// A byte that it names lacks a right, and nothing has changed.
+    Fault(Refusal),
 }
 
 /// How much of a child is waited for.
