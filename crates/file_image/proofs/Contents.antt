@@ -4,8 +4,8 @@ use Rattle.std.specs.Prelude.{nat_le}
 use Rattle.std.proofs.lemmas.Bool.Decides.{nat_tests}
 use Rattle.file_model.specs.Sizes.{greatest_length}
 use Rattle.file_model.specs.File.{File}
-use Rattle.file_model.specs.Slots.{overwritten, header_bytes, with_slot, slot_start}
-use Rattle.file_model.specs.Operations.{new_content, rewritten}
+use Rattle.file_model.specs.Slots.{with_bytes, header_bytes, with_slot, slot_start}
+use Rattle.file_model.specs.Operations.{new_content, with_content}
 use Rattle.file_model.proofs.Headers.{added_written}
 use Rattle.file_image.specs.Lookup.{file_in, HasFile}
 use Rattle.file_image.proofs.Parts.{own_content, own_name}
@@ -26,14 +26,14 @@ pub room_is : (f : File) (part : List ℕ) (add : Bool) (start : ℕ) → length
 room_is f part add start l e = le_moved start (length part) greatest_length (start_short f add start l e) ∙ ap (λ n. nat_le n greatest_length) (length_new f part add start e)
 
 pub content_written : (b c d : ℕ → ℕ) (k : ℕ) (part : List ℕ) (add : Bool) (start : ℕ) → HasFile b k → start ≡ cond add (length (file_in b k).content) 0
-    → c ≡ overwritten b (slot_start k) (header_bytes (rewritten part add (file_in b k))) → d ≡ overwritten c (slot_start k + (4096 + start)) part
-    → d ≡ with_slot b k (rewritten part add (file_in b k))
+    → c ≡ with_bytes b (slot_start k) (header_bytes (with_content part add (file_in b k))) → d ≡ with_bytes c (slot_start k + (4096 + start)) part
+    → d ≡ with_slot b k (with_content part add (file_in b k))
 unfolding with_slot
 content_written b c d k part true start h e f g =
-    let f2 = rewritten part true (file_in b k) in
+    let f2 = with_content part true (file_in b k) in
     let a : slot_start k + (4096 + start) ≡ slot_start k + 4096 + length (file_in b k).content = omega (arith, e) in
-    g ∙ ap (λ (x : ℕ → ℕ). overwritten x (slot_start k + (4096 + start)) part) f ∙ ap (λ o. overwritten (overwritten b (slot_start k) (header_bytes f2)) o part) a
+    g ∙ ap (λ (x : ℕ → ℕ). with_bytes x (slot_start k + (4096 + start)) part) f ∙ ap (λ o. with_bytes (with_bytes b (slot_start k) (header_bytes f2)) o part) a
     ∙ added_written b k f2 (file_in b k).content part (own_name b k h) refl (own_content b k)
 content_written b c d k part false start h e f g =
     let a : slot_start k + (4096 + start) ≡ slot_start k + 4096 = omega (arith, e) in
-    g ∙ ap (λ (x : ℕ → ℕ). overwritten x (slot_start k + (4096 + start)) part) f ∙ ap (λ o. overwritten (overwritten b (slot_start k) (header_bytes (rewritten part false (file_in b k)))) o part) a
+    g ∙ ap (λ (x : ℕ → ℕ). with_bytes x (slot_start k + (4096 + start)) part) f ∙ ap (λ o. with_bytes (with_bytes b (slot_start k) (header_bytes (with_content part false (file_in b k)))) o part) a

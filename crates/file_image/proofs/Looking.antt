@@ -6,7 +6,7 @@ use Rattle.file_model.specs.File.{File}
 use Rattle.file_model.specs.Slots.{slot_at, slots_from, is_in_use, slot_start}
 use Rattle.file_model.specs.Operations.{Entry, entry_from, free_from}
 use Rattle.file_model.proofs.Lookups.{slots_next}
-use Rattle.file_image.specs.Lookup.{file_in, holds, entry_in, found}
+use Rattle.file_image.specs.Lookup.{file_in, holds, entry_in, optional_entry}
 
 entry_other : (k : ℕ) (s : Option File) (slots : List (Option File)) (name : List ℕ) → holds name s ≡ false → entry_from k (s ∷ slots) name ≡ entry_from (k + 1) slots name
 unfolding entry_from
@@ -42,7 +42,7 @@ unfolding entry_from slots_from
 entry_end b k n name h = let e : n - k ≡ 0 = omega arith in ap (λ m. entry_from k (slots_from b k m) name) e
 
 -- the number of a slot that was found
-pub number_found : (b : ℕ → ℕ) (r : Option ℕ) → r ≡ option_map (λ (e : Entry). e.slot) (found b r)
+pub number_found : (b : ℕ → ℕ) (r : Option ℕ) → r ≡ option_map (λ (e : Entry). e.slot) (optional_entry b r)
 number_found b None = refl
 number_found b (Some k) = refl
 

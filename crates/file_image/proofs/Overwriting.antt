@@ -4,19 +4,19 @@ use Rattle.std.specs.Prelude.{codes, replicate}
 use Rattle.std.specs.Int.{w32, to_le_bytes}
 use Rattle.std.proofs.lemmas.List.{drop-replicate, length-take-le}
 use Rattle.file_model.specs.File.{File}
-use Rattle.file_model.specs.Slots.{overwritten, header_bytes, padded, bytes_from}
-use Rattle.file_model.proofs.Bytes.{overwritten_joined, length-bytes_from}
+use Rattle.file_model.specs.Slots.{with_bytes, header_bytes, with_padding, bytes_from}
+use Rattle.file_model.proofs.Bytes.{with_bytes_twice, length-bytes_from}
 use Rattle.file_image.specs.declared.writing.Header.{Header}
 use Rattle.file_image.specs.Writes.{Describes, first_half, second_half}
 
 -- a part right behind another
-pub written_next : (b c d : ℕ → ℕ) (at n : ℕ) (xs ys : List ℕ) → length xs ≡ n → c ≡ overwritten b at xs → d ≡ overwritten c (at + n) ys → d ≡ overwritten b at (xs ++ ys)
+pub written_next : (b c d : ℕ → ℕ) (at n : ℕ) (xs ys : List ℕ) → length xs ≡ n → c ≡ with_bytes b at xs → d ≡ with_bytes c (at + n) ys → d ≡ with_bytes b at (xs ++ ys)
 written_next b c d at n xs ys e f g =
-    g ∙ ap (λ (c : ℕ → ℕ). overwritten c (at + n) ys) f ∙ ap (λ m. overwritten (overwritten b at xs) (at + m) ys) (sym e) ∙ overwritten_joined b at xs ys
+    g ∙ ap (λ (c : ℕ → ℕ). with_bytes c (at + n) ys) f ∙ ap (λ m. with_bytes (with_bytes b at xs) (at + m) ys) (sym e) ∙ with_bytes_twice b at xs ys
 
 -- a part that begins further on
-pub written_at : (b c : ℕ → ℕ) (at to : ℕ) (xs : List ℕ) → at ≡ to → c ≡ overwritten b at xs → c ≡ overwritten b to xs
-written_at b c at to xs e f = f ∙ ap (λ a. overwritten b a xs) e
+pub written_at : (b c : ℕ → ℕ) (at to : ℕ) (xs : List ℕ) → at ≡ to → c ≡ with_bytes b at xs → c ≡ with_bytes b to xs
+written_at b c at to xs e f = f ∙ ap (λ a. with_bytes b a xs) e
 
 -- the two halves of a header are that of its file
 pub spelled : (h : Header) (f : File) → Describes h f → first_half h ++ second_half h ≡ header_bytes f
@@ -32,8 +32,8 @@ spelled h f d = λ i.
     ++ d.name i
 
 -- a name that was read into zeros
-pub padded_read : (b : ℕ → ℕ) (at n : ℕ) (out : List ℕ) → n ≤ 32 → out ≡ bytes_from b at (length (take n (replicate {A = ℕ} 32 0))) → out ++ drop n (replicate {A = ℕ} 32 0) ≡ padded (bytes_from b at n)
-padded_read b at n out h e =
+pub padding_read : (b : ℕ → ℕ) (at n : ℕ) (out : List ℕ) → n ≤ 32 → out ≡ bytes_from b at (length (take n (replicate {A = ℕ} 32 0))) → out ++ drop n (replicate {A = ℕ} 32 0) ≡ with_padding (bytes_from b at n)
+padding_read b at n out h e =
     let l : length (take n (replicate {A = ℕ} 32 0)) ≡ n = length-take-le n (replicate {A = ℕ} 32 0) h in
     let o : out ≡ bytes_from b at n = e ∙ ap (bytes_from b at) l in
     let d : drop n (replicate {A = ℕ} 32 0) ≡ replicate (32 - n) 0 = drop-replicate n 32 0 in
@@ -41,5 +41,5 @@ padded_read b at n out h e =
     λ i. o i ++ (d ∙ r) i
 
 -- a name that was copied into zeros
-pub padded_copy : (name out : List ℕ) → out ≡ name → out ++ drop (length name) (replicate {A = ℕ} 32 0) ≡ padded name
-padded_copy name out e = let d : drop (length name) (replicate {A = ℕ} 32 0) ≡ replicate (32 - length name) 0 = drop-replicate (length name) 32 0 in λ i. e i ++ d i
+pub padding_copy : (name out : List ℕ) → out ≡ name → out ++ drop (length name) (replicate {A = ℕ} 32 0) ≡ with_padding name
+padding_copy name out e = let d : drop (length name) (replicate {A = ℕ} 32 0) ≡ replicate (32 - length name) 0 = drop-replicate (length name) 32 0 in λ i. e i ++ d i

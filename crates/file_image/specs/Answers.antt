@@ -9,6 +9,6 @@ count_of (Ok part) = Ok (length part)
 count_of (Err e) = Err e
 
 -- a buffer that begins with what was read
-abbrev pub filled : Result (List ℕ) FileError → List ℕ → List ℕ
-filled (Ok part) buffer = part ++ drop (length part) buffer
-filled (Err e) buffer = buffer
+abbrev pub buffer_after : Result (List ℕ) FileError → List ℕ → List ℕ
+buffer_after (Ok part) buffer = part ++ drop (length part) buffer
+buffer_after (Err e) buffer = buffer

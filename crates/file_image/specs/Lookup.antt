@@ -21,13 +21,13 @@ abbrev pub entry_in : (ℕ → ℕ) → ℕ → Entry
 entry_in bytes k = record { slot = k; file = file_in bytes k }
 
 -- the entry of a slot that was found
-abbrev pub found : (ℕ → ℕ) → Option ℕ → Option Entry
-found bytes None = None
-found bytes (Some k) = Some (entry_in bytes k)
+abbrev pub optional_entry : (ℕ → ℕ) → Option ℕ → Option Entry
+optional_entry bytes None = None
+optional_entry bytes (Some k) = Some (entry_in bytes k)
 
-abbrev pub answered : (ℕ → ℕ) → Result ℕ FileError → Result Entry FileError
-answered bytes (Ok k) = Ok (entry_in bytes k)
-answered bytes (Err e) = Err e
+abbrev pub entry_answer : (ℕ → ℕ) → Result ℕ FileError → Result Entry FileError
+entry_answer bytes (Ok k) = Ok (entry_in bytes k)
+entry_answer bytes (Err e) = Err e
 
 -- slot k is in use
 pub record HasFile (bytes : ℕ → ℕ) (k : ℕ) : Type 0 where

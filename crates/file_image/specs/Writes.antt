@@ -4,20 +4,20 @@ use Rattle.std.specs.Prelude.{◌≡◌, ℕ, ◌+◌, cond, List, ◌++◌, len
 use Rattle.std.specs.Int.{w32, to_le_bytes}
 use Rattle.file_model.specs.declared.FileError.{FileError}
 use Rattle.file_model.specs.File.{File}
-use Rattle.file_model.specs.Slots.{padded, with_slot}
+use Rattle.file_model.specs.Slots.{with_padding, with_slot}
 use Rattle.file_model.specs.Operations.{Entry}
 use Rattle.file_image.specs.declared.writing.Header.{Header}
 
 -- the slot that changes has its new file, or the first error is answered and nothing changes
-abbrev pub Applied : {A : Type 0} → Result Entry FileError → Result A FileError → (ℕ → ℕ) → (ℕ → ℕ) → Type 0
-Applied (Ok e) (Ok x) old new = new ≡ with_slot old e.slot e.file
-Applied (Ok e) (Err f) old new = ⊥
-Applied (Err e) (Ok x) old new = ⊥
-Applied (Err e) (Err f) old new = (f ≡ e) × (new ≡ old)
+abbrev pub Applies : {A : Type 0} → Result Entry FileError → Result A FileError → (ℕ → ℕ) → (ℕ → ℕ) → Type 0
+Applies (Ok e) (Ok x) old new = new ≡ with_slot old e.slot e.file
+Applies (Ok e) (Err f) old new = ⊥
+Applies (Err e) (Ok x) old new = ⊥
+Applies (Err e) (Err f) old new = (f ≡ e) × (new ≡ old)
 
 -- the header of a file
 pub record Describes (h : Header) (f : File) : Type 0 where
-  pub name : h.name ≡ padded f.name
+  pub name : h.name ≡ with_padding f.name
   pub name_length : h.name_length ≡ length f.name
   pub version : h.version ≡ f.version
   pub base : h.base ≡ f.base

@@ -1,10 +1,10 @@
 ghost use Rattle.std.specs.Prelude.{◌≡◌, ◌<◌, ◌+◌, ◌%◌, ◌^◌, true, IfOk};
 ghost use Rattle.file_model.specs.Sizes.{slot_count};
 ghost use Rattle.file_model.specs.File.{is_name};
-ghost use Rattle.file_model.specs.Slots.{slots_of, with_slot, padded};
+ghost use Rattle.file_model.specs.Slots.{slots_of, with_slot, with_padding};
 ghost use Rattle.file_model.specs.Operations as files;
 ghost use Rattle.file_image.specs.Lookup.{file_in, HasFile};
-ghost use Rattle.file_image.specs.Writes.{Applied};
+ghost use Rattle.file_image.specs.Writes.{Applies};
 
 use crate::fields::is_deleted;
 use crate::file_bytes::FileBytes;
@@ -21,9 +21,9 @@ pub(crate) fn next_version(version: u32) -> u32
 }
 
 // A name padded with 0.
-fn padded(name: &[u8]) -> [u8; 32]
+fn pad(name: &[u8]) -> [u8; 32]
     requires { is_name name.now ≡ true }
-    ensures { result ≡ padded name.now }
+    ensures { result ≡ with_padding name.now }
 {
     let mut bytes = [0; 32];
     bytes[..name.len()].copy_from_slice(name);
@@ -39,7 +39,7 @@ fn write_new<B: FileBytes>(bytes: &mut B, slot: u32, name: &[u8], append: bool)
     ensures kept { B.keeps bytes.old bytes.new }
 {
     let header = Header {
-        name: padded(name),
+        name: pad(name),
         name_length: name.len() as u32,
         version: 1,
         base: 0,
@@ -56,7 +56,7 @@ fn write_new<B: FileBytes>(bytes: &mut B, slot: u32, name: &[u8], append: bool)
 fn revive<B: FileBytes>(bytes: &mut B, slot: u32, append: bool)
     requires slot { HasFile (B.bytes bytes.old) slot }
     requires ready { B.is_ready bytes.old slot ≡ true }
-    ensures bytes { B.bytes bytes.new ≡ with_slot (B.bytes bytes.old) slot (files.revived (file_in (B.bytes bytes.old) slot) append) }
+    ensures bytes { B.bytes bytes.new ≡ with_slot (B.bytes bytes.old) slot (files.revival (file_in (B.bytes bytes.old) slot) append) }
     ensures kept { B.keeps bytes.old bytes.new }
 {
     let mut header = read_header(bytes, slot);
@@ -71,7 +71,7 @@ fn revive<B: FileBytes>(bytes: &mut B, slot: u32, append: bool)
 /// Makes a file, or a deleted one anew. The slot that it takes is ready.
 pub fn create<B: FileBytes>(bytes: &mut B, name: &[u8], append: bool) -> Result<(), FileError>
     requires { IfOk (files.create (slots_of (B.bytes bytes.old)) name.now append) (λ e. B.is_ready bytes.old e.slot ≡ true) }
-    ensures applied { Applied (files.create (slots_of (B.bytes bytes.old)) name.now append) result (B.bytes bytes.old) (B.bytes bytes.new) }
+    ensures applied { Applies (files.create (slots_of (B.bytes bytes.old)) name.now append) result (B.bytes bytes.old) (B.bytes bytes.new) }
     ensures kept { B.keeps bytes.old bytes.new }
 {
     if !is_name(name) {
@@ -113,7 +113,7 @@ fn mark_deleted<B: FileBytes>(bytes: &mut B, slot: u32)
 /// Deletes a file. Its slot, which is ready, stays in use.
 pub fn delete<B: FileBytes>(bytes: &mut B, name: &[u8]) -> Result<(), FileError>
     requires { IfOk (files.delete (slots_of (B.bytes bytes.old)) name.now) (λ e. B.is_ready bytes.old e.slot ≡ true) }
-    ensures applied { Applied (files.delete (slots_of (B.bytes bytes.old)) name.now) result (B.bytes bytes.old) (B.bytes bytes.new) }
+    ensures applied { Applies (files.delete (slots_of (B.bytes bytes.old)) name.now) result (B.bytes bytes.old) (B.bytes bytes.new) }
     ensures kept { B.keeps bytes.old bytes.new }
 {
     match present(bytes, name) {

@@ -3,7 +3,7 @@ ghost use Rattle.file_model.specs.Sizes.{slot_count};
 ghost use Rattle.file_model.specs.Slots.{slot_at, slots_of, slot_start, is_in_use};
 ghost use Rattle.file_model.specs.Operations.{entry_of, lowest_free};
 ghost use Rattle.file_model.specs.Reconcile.{is_used, bits_of};
-ghost use Rattle.file_image.specs.Lookup.{holds, found, HasFile};
+ghost use Rattle.file_image.specs.Lookup.{holds, optional_entry, HasFile};
 
 use crate::file_bytes::FileBytes;
 use crate::header::{SLOT_SIZE, SLOTS, has_name, is_in_use};
@@ -22,7 +22,7 @@ fn slot_holds<B: FileBytes>(bytes: &B, slot: u32, name: &[u8]) -> bool
 /// The slot of a name's file: the lowest in use that has the name.
 pub fn find<B: FileBytes>(bytes: &B, name: &[u8]) -> Option<u32>
     ensures slot { result ≡ option_map (λ e. e.slot) (entry_of (slots_of (B.bytes bytes.now)) name.now) }
-    ensures entry { entry_of (slots_of (B.bytes bytes.now)) name.now ≡ found (B.bytes bytes.now) result }
+    ensures entry { entry_of (slots_of (B.bytes bytes.now)) name.now ≡ optional_entry (B.bytes bytes.now) result }
     ensures file { IfSome result (λ k. HasFile (B.bytes bytes.now) k) }
 {
     for slot in 0..SLOTS {

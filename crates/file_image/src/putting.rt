@@ -3,13 +3,13 @@ ghost use Rattle.file_model.specs.Sizes.{greatest_length};
 ghost use Rattle.file_model.specs.Slots.{slots_of, with_slot};
 ghost use Rattle.file_model.specs.Operations as files;
 ghost use Rattle.file_image.specs.Lookup.{file_in, HasFile};
-ghost use Rattle.file_image.specs.Writes.{Applied};
+ghost use Rattle.file_image.specs.Writes.{Applies};
 
 use crate::editing::next_version;
 use crate::fields::{is_append, length};
 use crate::file_bytes::FileBytes;
 use crate::header::{CONTENT, GREATEST_LENGTH};
-use crate::reading::settled;
+use crate::reading::usable;
 use crate::writing::{read_header, write_bytes, write_header};
 use file_model::FileError;
 
@@ -25,7 +25,7 @@ fn write_content<B: FileBytes>(bytes: &mut B, slot: u32, part: &[u8], add: bool)
     requires slot { HasFile (B.bytes bytes.old) slot }
     requires long { length (files.new_content (file_in (B.bytes bytes.old) slot) part.now add) ≤ greatest_length }
     requires ready { B.is_ready bytes.old slot ≡ true }
-    ensures bytes { B.bytes bytes.new ≡ with_slot (B.bytes bytes.old) slot (files.rewritten part.now add (file_in (B.bytes bytes.old) slot)) }
+    ensures bytes { B.bytes bytes.new ≡ with_slot (B.bytes bytes.old) slot (files.with_content part.now add (file_in (B.bytes bytes.old) slot)) }
     ensures kept { B.keeps bytes.old bytes.new }
 {
     let mut header = read_header(bytes, slot);
@@ -53,10 +53,10 @@ pub fn put<B: FileBytes>(
     add: bool,
 ) -> Result<(), FileError>
     requires { IfOk (files.put (slots_of (B.bytes bytes.old)) name.now part.now add) (λ e. B.is_ready bytes.old e.slot ≡ true) }
-    ensures applied { Applied (files.put (slots_of (B.bytes bytes.old)) name.now part.now add) result (B.bytes bytes.old) (B.bytes bytes.new) }
+    ensures applied { Applies (files.put (slots_of (B.bytes bytes.old)) name.now part.now add) result (B.bytes bytes.old) (B.bytes bytes.new) }
     ensures kept { B.keeps bytes.old bytes.new }
 {
-    match settled(bytes, name) {
+    match usable(bytes, name) {
         Err(error) => Err(error),
         Ok(slot) => {
             if !add && is_append(bytes, slot) {

@@ -4,8 +4,8 @@ ghost use Rattle.file_model.specs.Sizes.{all_slots_size};
 ghost use Rattle.file_model.specs.File.{is_name};
 ghost use Rattle.file_model.specs.Slots.{slots_of, bytes_from};
 ghost use Rattle.file_model.specs.Operations as files;
-ghost use Rattle.file_image.specs.Lookup.{answered, file_in, HasFile};
-ghost use Rattle.file_image.specs.Answers.{count_of, filled};
+ghost use Rattle.file_image.specs.Lookup.{entry_answer, file_in, HasFile};
+ghost use Rattle.file_image.specs.Answers.{count_of, buffer_after};
 
 use crate::fields::{is_conflicted, is_deleted, length};
 use crate::file_bytes::FileBytes;
@@ -35,7 +35,7 @@ pub(crate) fn is_name(name: &[u8]) -> bool
 
 // The slot of a name's file that is not deleted.
 pub(crate) fn present<B: FileBytes>(bytes: &B, name: &[u8]) -> Result<u32, FileError>
-    ensures present { files.present (slots_of (B.bytes bytes.now)) name.now ≡ answered (B.bytes bytes.now) result }
+    ensures present { files.present (slots_of (B.bytes bytes.now)) name.now ≡ entry_answer (B.bytes bytes.now) result }
     ensures slot { IfOk result (λ k. HasFile (B.bytes bytes.now) k) }
 {
     if !is_name(name) {
@@ -53,8 +53,8 @@ pub(crate) fn present<B: FileBytes>(bytes: &B, name: &[u8]) -> Result<u32, FileE
 }
 
 // The slot of a name's file that is neither deleted nor conflicted.
-pub(crate) fn settled<B: FileBytes>(bytes: &B, name: &[u8]) -> Result<u32, FileError>
-    ensures settled { files.settled (slots_of (B.bytes bytes.now)) name.now ≡ answered (B.bytes bytes.now) result }
+pub(crate) fn usable<B: FileBytes>(bytes: &B, name: &[u8]) -> Result<u32, FileError>
+    ensures usable { files.usable (slots_of (B.bytes bytes.now)) name.now ≡ entry_answer (B.bytes bytes.now) result }
     ensures slot { IfOk result (λ k. HasFile (B.bytes bytes.now) k) }
 {
     match present(bytes, name) {
@@ -72,7 +72,7 @@ pub(crate) fn settled<B: FileBytes>(bytes: &B, name: &[u8]) -> Result<u32, FileE
 pub fn len<B: FileBytes>(bytes: &B, name: &[u8]) -> Result<u32, FileError>
     ensures { result ≡ files.length_of (slots_of (B.bytes bytes.now)) name.now }
 {
-    match settled(bytes, name) {
+    match usable(bytes, name) {
         Err(error) => Err(error),
         Ok(slot) => Ok(length(bytes, slot)),
     }
@@ -93,7 +93,7 @@ pub(crate) fn read_bytes<B: FileBytes>(bytes: &B, at: u32, out: &mut [u8])
 fn read_content<B: FileBytes>(bytes: &B, slot: u32, offset: u32, out: &mut [u8]) -> u32
     requires { HasFile (B.bytes bytes.now) slot }
     ensures count { result ≡ length (take (length out.old) (drop offset (file_in (B.bytes bytes.now) slot).content)) }
-    ensures out { out.new ≡ filled (Ok (take (length out.old) (drop offset (file_in (B.bytes bytes.now) slot).content))) out.old }
+    ensures out { out.new ≡ buffer_after (Ok (take (length out.old) (drop offset (file_in (B.bytes bytes.now) slot).content))) out.old }
 {
     let length = length(bytes, slot);
     let from = offset.min(length);
@@ -110,9 +110,9 @@ pub fn get<B: FileBytes>(
     out: &mut [u8],
 ) -> Result<u32, FileError>
     ensures answer { result ≡ count_of (files.get (slots_of (B.bytes bytes.now)) name.now offset (length out.old)) }
-    ensures out { out.new ≡ filled (files.get (slots_of (B.bytes bytes.now)) name.now offset (length out.old)) out.old }
+    ensures out { out.new ≡ buffer_after (files.get (slots_of (B.bytes bytes.now)) name.now offset (length out.old)) out.old }
 {
-    match settled(bytes, name) {
+    match usable(bytes, name) {
         Err(error) => Err(error),
         Ok(slot) => Ok(read_content(bytes, slot, offset, out)),
     }

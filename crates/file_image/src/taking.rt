@@ -1,6 +1,6 @@
 ghost use Rattle.std.specs.Prelude.{◌≡◌, ◌<◌, ◌≤◌, ◌+◌, true};
 ghost use Rattle.file_model.specs.Sizes.{slot_count, slot_size, all_slots_size};
-ghost use Rattle.file_model.specs.Slots.{slot_start, bytes_from, overwritten, with_slot};
+ghost use Rattle.file_model.specs.Slots.{slot_start, bytes_from, with_bytes, with_slot};
 ghost use Rattle.file_model.specs.Reconcile as reconciling;
 ghost use Rattle.file_image.specs.Lookup.{file_in, HasFile};
 
@@ -23,7 +23,7 @@ fn copy_bytes<P: FileBytes, C: FileBytes>(
     requires within { offset + count ≤ slot_size }
     requires from { from + count ≤ all_slots_size }
     requires ready { P.is_ready parent.old slot ≡ true }
-    ensures bytes { P.bytes parent.new ≡ overwritten (P.bytes parent.old) (slot_start slot + offset) (bytes_from (C.bytes child.now) from count) }
+    ensures bytes { P.bytes parent.new ≡ with_bytes (P.bytes parent.old) (slot_start slot + offset) (bytes_from (C.bytes child.now) from count) }
     ensures ready { P.is_ready parent.new slot ≡ true }
     ensures kept { P.keeps parent.old parent.new }
 {
@@ -45,7 +45,7 @@ pub(crate) fn take_file<P: FileBytes, C: FileBytes>(
     requires to { to < slot_count }
     requires slot { HasFile (C.bytes child.now) slot }
     requires ready { P.is_ready parent.old to ≡ true }
-    ensures bytes { P.bytes parent.new ≡ with_slot (P.bytes parent.old) to (reconciling.taken (file_in (C.bytes child.now) slot) base length_at_base) }
+    ensures bytes { P.bytes parent.new ≡ with_slot (P.bytes parent.old) to (reconciling.child_file (file_in (C.bytes child.now) slot) base length_at_base) }
     ensures kept { P.keeps parent.old parent.new }
 {
     let mut header = read_header(child, slot);

@@ -2,7 +2,7 @@ ghost use Rattle.std.specs.Prelude.{◌≡◌, ◌<◌, ◌≤◌, ◌+◌, true
 ghost use Rattle.std.specs.Int.{w32, to_le_bytes};
 ghost use Rattle.file_model.specs.Sizes.{slot_count, slot_size};
 ghost use Rattle.file_model.specs.File.{File};
-ghost use Rattle.file_model.specs.Slots.{slot_start, overwritten, header_bytes, padded};
+ghost use Rattle.file_model.specs.Slots.{slot_start, with_bytes, header_bytes, with_padding};
 ghost use Rattle.file_image.specs.Lookup.{file_in, HasFile};
 ghost use Rattle.file_image.specs.Writes.{Describes, first_half, second_half};
 
@@ -30,7 +30,7 @@ pub(crate) fn write_bytes<B: FileBytes>(bytes: &mut B, slot: u32, offset: u32, p
     requires slot { slot < slot_count }
     requires within { offset + length part.now ≤ slot_size }
     requires ready { B.is_ready bytes.old slot ≡ true }
-    ensures bytes { B.bytes bytes.new ≡ overwritten (B.bytes bytes.old) (slot_start slot + offset) part.now }
+    ensures bytes { B.bytes bytes.new ≡ with_bytes (B.bytes bytes.old) (slot_start slot + offset) part.now }
     ensures ready { B.is_ready bytes.new slot ≡ true }
     ensures kept { B.keeps bytes.old bytes.new }
 {
@@ -45,7 +45,7 @@ fn write_number<B: FileBytes>(bytes: &mut B, slot: u32, offset: u32, value: u32)
     requires slot { slot < slot_count }
     requires within { offset + 4 ≤ slot_size }
     requires ready { B.is_ready bytes.old slot ≡ true }
-    ensures bytes { B.bytes bytes.new ≡ overwritten (B.bytes bytes.old) (slot_start slot + offset) (to_le_bytes w32 value) }
+    ensures bytes { B.bytes bytes.new ≡ with_bytes (B.bytes bytes.old) (slot_start slot + offset) (to_le_bytes w32 value) }
     ensures ready { B.is_ready bytes.new slot ≡ true }
     ensures kept { B.keeps bytes.old bytes.new }
 {
@@ -63,7 +63,7 @@ fn flags(header: &Header) -> u32
 fn write_versions<B: FileBytes>(bytes: &mut B, slot: u32, header: &Header)
     requires slot { slot < slot_count }
     requires ready { B.is_ready bytes.old slot ≡ true }
-    ensures bytes { B.bytes bytes.new ≡ overwritten (B.bytes bytes.old) (slot_start slot) (first_half header.now) }
+    ensures bytes { B.bytes bytes.new ≡ with_bytes (B.bytes bytes.old) (slot_start slot) (first_half header.now) }
     ensures ready { B.is_ready bytes.new slot ≡ true }
     ensures kept { B.keeps bytes.old bytes.new }
 {
@@ -77,7 +77,7 @@ fn write_versions<B: FileBytes>(bytes: &mut B, slot: u32, header: &Header)
 fn write_name<B: FileBytes>(bytes: &mut B, slot: u32, header: &Header)
     requires slot { slot < slot_count }
     requires ready { B.is_ready bytes.old slot ≡ true }
-    ensures bytes { B.bytes bytes.new ≡ overwritten (B.bytes bytes.old) (slot_start slot + 16) (second_half header.now) }
+    ensures bytes { B.bytes bytes.new ≡ with_bytes (B.bytes bytes.old) (slot_start slot + 16) (second_half header.now) }
     ensures ready { B.is_ready bytes.new slot ≡ true }
     ensures kept { B.keeps bytes.old bytes.new }
 {
@@ -91,7 +91,7 @@ fn write_name<B: FileBytes>(bytes: &mut B, slot: u32, header: &Header)
 pub(crate) fn write_header<B: FileBytes>(bytes: &mut B, slot: u32, header: &Header)
     requires slot { slot < slot_count }
     requires ready { B.is_ready bytes.old slot ≡ true }
-    ensures bytes { (f : File) → Describes header.now f → B.bytes bytes.new ≡ overwritten (B.bytes bytes.old) (slot_start slot) (header_bytes f) }
+    ensures bytes { (f : File) → Describes header.now f → B.bytes bytes.new ≡ with_bytes (B.bytes bytes.old) (slot_start slot) (header_bytes f) }
     ensures ready { B.is_ready bytes.new slot ≡ true }
     ensures kept { B.keeps bytes.old bytes.new }
 {
@@ -102,7 +102,7 @@ pub(crate) fn write_header<B: FileBytes>(bytes: &mut B, slot: u32, header: &Head
 // The name of a slot in use, padded with 0.
 fn read_name<B: FileBytes>(bytes: &B, slot: u32) -> [u8; 32]
     requires { HasFile (B.bytes bytes.now) slot }
-    ensures { result ≡ padded (file_in (B.bytes bytes.now) slot).name }
+    ensures { result ≡ with_padding (file_in (B.bytes bytes.now) slot).name }
 {
     let at = SLOT_SIZE * slot;
     let n = number(bytes, at + 24) as usize;

@@ -7,8 +7,8 @@ use Rattle.std.proofs.lemmas.Bool.{cases_lt}
 use Rattle.std.proofs.lemmas.Bool.Decides.{nat_tests}
 use Rattle.file_model.specs.Sizes.{greatest_length, greatest_name}
 use Rattle.file_model.specs.File.{File, IsFile, is_name}
-use Rattle.file_model.specs.Slots.{number_at, bytes_from, name_at, is_in_use, file_at, slot_at, slots_from, slots_of, slot_start, overwritten, header_bytes, with_slot, has_append, has_conflicted, has_deleted}
-use Rattle.file_model.proofs.Bytes.{length-bytes_from, same_bytes_from, overwritten_before, overwritten_after}
+use Rattle.file_model.specs.Slots.{number_at, bytes_from, name_at, is_in_use, file_at, slot_at, slots_from, slots_of, slot_start, with_bytes, header_bytes, with_slot, has_append, has_conflicted, has_deleted}
+use Rattle.file_model.proofs.Bytes.{length-bytes_from, same_bytes_from, with_bytes_before, with_bytes_after}
 use Rattle.file_model.proofs.Headers.{length-header}
 use Rattle.file_model.proofs.Lookups.{short_name, short_content}
 use Rattle.file_model.proofs.ReadingBack.{slot_read}
@@ -115,16 +115,16 @@ slot_same b d k h =
 lower_byte : (b : ℕ → ℕ) (k : ℕ) (f : File) (j o : ℕ) → j < k → o < 65536 → with_slot b k f (slot_start j + o) ≡ b (slot_start j + o)
 unfolding with_slot
 lower_byte b k f j o l h =
-    overwritten_before (overwritten b (slot_start k) (header_bytes f)) (slot_start k + 4096) f.content (slot_start j + o) (omega arith)
-    ∙ overwritten_before b (slot_start k) (header_bytes f) (slot_start j + o) (omega arith)
+    with_bytes_before (with_bytes b (slot_start k) (header_bytes f)) (slot_start k + 4096) f.content (slot_start j + o) (omega arith)
+    ∙ with_bytes_before b (slot_start k) (header_bytes f) (slot_start j + o) (omega arith)
 
 higher_byte : (b : ℕ → ℕ) (k : ℕ) (f : File) (j o : ℕ) → IsFile f → k < j → with_slot b k f (slot_start j + o) ≡ b (slot_start j + o)
 unfolding with_slot
 higher_byte b k f j o i l =
     let n = length-header f i.named in
     let c = i.long in
-    overwritten_after (overwritten b (slot_start k) (header_bytes f)) (slot_start k + 4096) f.content (slot_start j + o) (omega (arith, c))
-    ∙ overwritten_after b (slot_start k) (header_bytes f) (slot_start j + o) (omega (arith, n))
+    with_bytes_after (with_bytes b (slot_start k) (header_bytes f)) (slot_start k + 4096) f.content (slot_start j + o) (omega (arith, c))
+    ∙ with_bytes_after b (slot_start k) (header_bytes f) (slot_start j + o) (omega (arith, n))
 
 pub slot_lower : (b : ℕ → ℕ) (k : ℕ) (f : File) (j : ℕ) → j < k → slot_at (with_slot b k f) j ≡ slot_at b j
 slot_lower b k f j l = slot_same (with_slot b k f) b j (record { byte = λ o h. lower_byte b k f j o l h })

@@ -7,8 +7,8 @@ use Rattle.std.proofs.lemmas.List.{ext_get_or, get_or_append_left, get_or-append
 use Rattle.std.proofs.lemmas.Nat.{from_le_bytes-to_le_bytes_4}
 use Rattle.file_model.specs.Sizes.{greatest_length}
 use Rattle.file_model.specs.File.{File, IsFile, is_name}
-use Rattle.file_model.specs.Slots.{number_at, bytes_from, name_at, is_in_use, file_at, slot_at, slot_start, overwritten, header_bytes, padded, with_slot, flags_of, has_append, has_conflicted, has_deleted}
-use Rattle.file_model.proofs.Bytes.{length-bytes_from, index-bytes_from, overwritten_inside, overwritten_before}
+use Rattle.file_model.specs.Slots.{number_at, bytes_from, name_at, is_in_use, file_at, slot_at, slot_start, with_bytes, header_bytes, with_padding, with_slot, flags_of, has_append, has_conflicted, has_deleted}
+use Rattle.file_model.proofs.Bytes.{length-bytes_from, index-bytes_from, with_bytes_inside, with_bytes_before}
 use Rattle.file_model.proofs.Headers.{length-header, name_short}
 
 -- ---- the bytes of a slot with a file
@@ -18,15 +18,15 @@ unfolding with_slot
 header_byte b k f o n h =
     let l : length (header_bytes f) ≡ 60 = length-header f n in
     let e : slot_start k + o - slot_start k ≡ o = omega arith in
-    overwritten_before (overwritten b (slot_start k) (header_bytes f)) (slot_start k + 4096) f.content (slot_start k + o) (omega arith)
-    ∙ overwritten_inside b (slot_start k) (header_bytes f) (slot_start k + o) (omega arith) (omega arith)
+    with_bytes_before (with_bytes b (slot_start k) (header_bytes f)) (slot_start k + 4096) f.content (slot_start k + o) (omega arith)
+    ∙ with_bytes_inside b (slot_start k) (header_bytes f) (slot_start k + o) (omega arith) (omega arith)
     ∙ ap (λ i. get_or (header_bytes f) i 0) e
 
 content_byte : (b : ℕ → ℕ) (k : ℕ) (f : File) (i : ℕ) → i < length f.content → with_slot b k f (slot_start k + 4096 + i) ≡ get_or f.content i 0
 unfolding with_slot
 content_byte b k f i h =
     let e : slot_start k + 4096 + i - (slot_start k + 4096) ≡ i = omega arith in
-    overwritten_inside (overwritten b (slot_start k) (header_bytes f)) (slot_start k + 4096) f.content (slot_start k + 4096 + i) (omega arith) (omega arith)
+    with_bytes_inside (with_bytes b (slot_start k) (header_bytes f)) (slot_start k + 4096) f.content (slot_start k + 4096 + i) (omega arith) (omega arith)
     ∙ ap (λ j. get_or f.content j 0) e
 
 -- ---- its numbers
@@ -119,7 +119,7 @@ deleted_flag false false false = refl
 name_byte : (f : File) (i : ℕ) → i < length f.name → get_or (header_bytes f) (28 + i) 0 ≡ get_or f.name i 0
 unfolding header_bytes
 name_byte f i h =
-    get_or-append-add (codes "DTF1" ++ to_le_bytes w32 f.version ++ to_le_bytes w32 f.base ++ to_le_bytes w32 (length f.content) ++ to_le_bytes w32 f.length_at_base ++ to_le_bytes w32 (flags_of f) ++ to_le_bytes w32 (length f.name)) (padded f.name) i 0
+    get_or-append-add (codes "DTF1" ++ to_le_bytes w32 f.version ++ to_le_bytes w32 f.base ++ to_le_bytes w32 (length f.content) ++ to_le_bytes w32 f.length_at_base ++ to_le_bytes w32 (flags_of f) ++ to_le_bytes w32 (length f.name)) (with_padding f.name) i 0
     ∙ get_or_append_left f.name (replicate (32 - length f.name) 0) 0 i h
 
 name_read : (b : ℕ → ℕ) (k : ℕ) (f : File) → IsFile f → name_at (with_slot b k f) (slot_start k) ≡ f.name

@@ -7,8 +7,8 @@ use Rattle.std.proofs.lemmas.List.{get_or_append_left, get_or-append_right}
 use Rattle.file_model.specs.Sizes.{greatest_length}
 use Rattle.file_model.specs.File.{File, IsFile, AreBytes, is_name, next_version, with_base}
 use Rattle.file_model.specs.Slots.{number_at, bytes_from, is_in_use, file_at}
-use Rattle.file_model.specs.Operations.{new_file, revived, deleted_file, rewritten, new_content}
-use Rattle.file_model.specs.Reconcile.{joined, are_joinable, taken, with_addition, with_conflict, after_both, after_child}
+use Rattle.file_model.specs.Operations.{new_file, revival, deleted_file, with_content, new_content}
+use Rattle.file_model.specs.Reconcile.{joint_content, are_joinable, child_file, with_addition, with_conflict, after_both, after_child}
 use Rattle.file_model.proofs.Bytes.{length-bytes_from, index-bytes_from}
 use Rattle.file_model.proofs.Lookups.{short_content}
 use Rattle.file_model.proofs.OtherSlots.{named_in_use, short_base}
@@ -72,8 +72,8 @@ new_well name append n h = record { named = n; name_bytes = h; version = omega a
 pub next_below : (f : File) → next_version f < 2 ^ 32
 next_below f = omega arith
 
-pub revived_well : (f : File) (append : Bool) → IsFile f → IsFile (revived f append)
-revived_well f append h = record { named = h.named; name_bytes = h.name_bytes; version = next_below f; base = h.base; length_at_base = h.length_at_base; long = omega arith; content_bytes = no_bytes }
+pub revival_well : (f : File) (append : Bool) → IsFile f → IsFile (revival f append)
+revival_well f append h = record { named = h.named; name_bytes = h.name_bytes; version = next_below f; base = h.base; length_at_base = h.length_at_base; long = omega arith; content_bytes = no_bytes }
 
 pub deleted_well : (f : File) → IsFile f → IsFile (deleted_file f)
 deleted_well f h = record { named = h.named; name_bytes = h.name_bytes; version = next_below f; base = h.base; length_at_base = h.length_at_base; long = omega arith; content_bytes = no_bytes }
@@ -82,19 +82,19 @@ content_new : (f : File) (bytes : List ℕ) (add : Bool) → IsFile f → AreByt
 content_new f bytes true h b = joined_bytes f.content bytes h.content_bytes b
 content_new f bytes false h b = b
 
-pub rewritten_well : (f : File) (bytes : List ℕ) (add : Bool) → IsFile f → AreBytes bytes → length (new_content f bytes add) ≤ greatest_length → IsFile (rewritten bytes add f)
-rewritten_well f bytes add h b l = record { named = h.named; name_bytes = h.name_bytes; version = next_below f; base = h.base; length_at_base = h.length_at_base; long = l; content_bytes = content_new f bytes add h b }
+pub with_content_well : (f : File) (bytes : List ℕ) (add : Bool) → IsFile f → AreBytes bytes → length (new_content f bytes add) ≤ greatest_length → IsFile (with_content bytes add f)
+with_content_well f bytes add h b l = record { named = h.named; name_bytes = h.name_bytes; version = next_below f; base = h.base; length_at_base = h.length_at_base; long = l; content_bytes = content_new f bytes add h b }
 
 -- ---- what reconciling writes
 
-pub taken_well : (c : File) (base length : ℕ) → IsFile c → base < 2 ^ 32 → length ≤ greatest_length → IsFile (taken c base length)
-taken_well c base length h b l = record { named = h.named; name_bytes = h.name_bytes; version = h.version; base = b; length_at_base = l; long = h.long; content_bytes = h.content_bytes }
+pub child_file_well : (c : File) (base length : ℕ) → IsFile c → base < 2 ^ 32 → length ≤ greatest_length → IsFile (child_file c base length)
+child_file_well c base length h b l = record { named = h.named; name_bytes = h.name_bytes; version = h.version; base = b; length_at_base = l; long = h.long; content_bytes = h.content_bytes }
 
 pub conflict_well : (p : File) → IsFile p → IsFile (with_conflict p)
 conflict_well p i = record { named = i.named; name_bytes = i.name_bytes; version = next_below p; base = i.base; length_at_base = i.length_at_base; long = i.long; content_bytes = i.content_bytes }
 
-short_joined : (c p : File) → are_joinable c p ≡ true → length (joined c p) ≤ greatest_length
-short_joined c p e = let l : nat_le (length (joined c p)) greatest_length ≡ true = grind (arith, nat_tests) in grind (arith, nat_tests)
+short_joint : (c p : File) → are_joinable c p ≡ true → length (joint_content c p) ≤ greatest_length
+short_joint c p e = let l : nat_le (length (joint_content c p)) greatest_length ≡ true = grind (arith, nat_tests) in grind (arith, nat_tests)
 
 pub addition_well : (c p : File) → are_joinable c p ≡ true → IsFile c → IsFile p → IsFile (with_addition c p)
 addition_well c p e h i = record {
@@ -103,7 +103,7 @@ addition_well c p e h i = record {
   version = next_below p;
   base = i.base;
   length_at_base = i.length_at_base;
-  long = short_joined c p e;
+  long = short_joint c p e;
   content_bytes = joined_bytes p.content (drop c.length_at_base c.content) i.content_bytes (later_bytes c.length_at_base c.content h.content_bytes);
 }
 
@@ -119,4 +119,4 @@ either_well true f g h i = h
 either_well false f g h i = i
 
 pub after_child_well : (c p : File) → IsFile c → IsFile p → IsFile (after_child c p)
-after_child_well c p h i = either_well (p.version == c.base) (taken c p.base p.length_at_base) (after_both c p) (taken_well c p.base p.length_at_base h i.base i.length_at_base) (after_both_well c p h i)
+after_child_well c p h i = either_well (p.version == c.base) (child_file c p.base p.length_at_base) (after_both c p) (child_file_well c p.base p.length_at_base h i.base i.length_at_base) (after_both_well c p h i)

@@ -64,8 +64,8 @@ abbrev pub unless_conflicted : Entry → Result Entry FileError
 unless_conflicted e = if e.file.conflicted then Err Conflicted else Ok e
 
 -- a file that is there, whose content is known
-abbrev pub settled : List (Option File) → List ℕ → Result Entry FileError
-settled slots name = present slots name >>= unless_conflicted
+abbrev pub usable : List (Option File) → List ℕ → Result Entry FileError
+usable slots name = present slots name >>= unless_conflicted
 
 -- ---- making a file
 
@@ -74,8 +74,8 @@ abbrev pub new_file : List ℕ → Bool → File
 new_file name append = record { name = name; version = 1; base = 0; length_at_base = 0; content = []; append = append; conflicted = false; deleted = false }
 
 -- a file that was deleted is there again; its base stays
-abbrev pub revived : File → Bool → File
-revived f append = record f { version = next_version f; content = []; append = append; conflicted = false; deleted = false }
+abbrev pub revival : File → Bool → File
+revival f append = record f { version = next_version f; content = []; append = append; conflicted = false; deleted = false }
 
 abbrev pub place_new : Option ℕ → File → Result Entry FileError
 place_new None f = Err NoSlot
@@ -83,7 +83,7 @@ place_new (Some k) f = Ok (record { slot = k; file = f })
 
 abbrev pub make_at : Option Entry → List (Option File) → List ℕ → Bool → Result Entry FileError
 make_at None slots name append = place_new (lowest_free slots) (new_file name append)
-make_at (Some e) slots name append = if e.file.deleted then Ok (record e { file = revived e.file append }) else Err Exists
+make_at (Some e) slots name append = if e.file.deleted then Ok (record e { file = revival e.file append }) else Err Exists
 
 abbrev pub create : List (Option File) → List ℕ → Bool → Result Entry FileError
 create slots name append = if is_name name then make_at (entry_of slots name) slots name append else Err BadName
@@ -94,30 +94,30 @@ create slots name append = if is_name name then make_at (entry_of slots name) sl
 abbrev pub new_content : File → List ℕ → Bool → List ℕ
 new_content f bytes add = if add then f.content ++ bytes else bytes
 
-abbrev pub rewritten : List ℕ → Bool → File → File
-rewritten bytes add f = record f { version = next_version f; content = new_content f bytes add }
+abbrev pub with_content : List ℕ → Bool → File → File
+with_content bytes add f = record f { version = next_version f; content = new_content f bytes add }
 
 abbrev pub rewrite : List ℕ → Bool → Entry → Result Entry FileError
 rewrite bytes add e =
     if not add && e.file.append then Err NotAppend
-    else if nat_le (length (new_content e.file bytes add)) greatest_length then Ok (record e { file = rewritten bytes add e.file })
+    else if nat_le (length (new_content e.file bytes add)) greatest_length then Ok (record e { file = with_content bytes add e.file })
     else Err TooLong
 
 -- the version grows for no bytes, too
 abbrev pub put : List (Option File) → List ℕ → List ℕ → Bool → Result Entry FileError
-put slots name bytes add = settled slots name >>= rewrite bytes add
+put slots name bytes add = usable slots name >>= rewrite bytes add
 
 -- ---- reading
 
 -- at most `count` bytes of the content, from an offset on
 abbrev pub get : List (Option File) → List ℕ → ℕ → ℕ → Result (List ℕ) FileError
 get slots name offset count = do
-  e ← settled slots name
+  e ← usable slots name
   Ok (take count (drop offset e.file.content))
 
 abbrev pub length_of : List (Option File) → List ℕ → Result ℕ FileError
 length_of slots name = do
-  e ← settled slots name
+  e ← usable slots name
   Ok (length e.file.content)
 
 -- ---- deleting: the slot stays in use, so that the parent learns of it

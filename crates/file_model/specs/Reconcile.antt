@@ -33,27 +33,27 @@ pub data Outcome : Type 0 where
   leaves_out : Outcome
 
 -- the child's file, with the base that the parent's has
-abbrev pub taken : File → ℕ → ℕ → File
-taken c base length = record c { base = base; length_at_base = length }
+abbrev pub child_file : File → ℕ → ℕ → File
+child_file c base length = record c { base = base; length_at_base = length }
 
 -- a file that the parent lacks
-abbrev pub taken_new : File → Option ℕ → Outcome
-taken_new c None = leaves_out
-taken_new c (Some k) = writes (record { slot = k; file = taken c 0 0 })
+abbrev pub arrival : File → Option ℕ → Outcome
+arrival c None = leaves_out
+arrival c (Some k) = writes (record { slot = k; file = child_file c 0 0 })
 
 -- both only added: to the parent's content comes what the child added since its base
-abbrev pub joined : File → File → List ℕ
-joined c p = p.content ++ drop c.length_at_base c.content
+abbrev pub joint_content : File → File → List ℕ
+joint_content c p = p.content ++ drop c.length_at_base c.content
 
 -- whether a file may only have been added to since it had this length
 abbrev pub only_grew : ℕ → File → Bool
 only_grew base f = f.append && not f.conflicted && not f.deleted && nat_le base (length f.content)
 
 abbrev pub are_joinable : File → File → Bool
-are_joinable c p = only_grew c.length_at_base c && only_grew c.length_at_base p && nat_le (length (joined c p)) greatest_length
+are_joinable c p = only_grew c.length_at_base c && only_grew c.length_at_base p && nat_le (length (joint_content c p)) greatest_length
 
 abbrev pub with_addition : File → File → File
-with_addition c p = record p { version = next_version p; content = joined c p }
+with_addition c p = record p { version = next_version p; content = joint_content c p }
 
 -- its content and whether it only grows stay
 abbrev pub with_conflict : File → File
@@ -65,10 +65,10 @@ after_both c p = if are_joinable c p then with_addition c p else with_conflict p
 
 -- the parent's file, where the child changed its own
 abbrev pub after_child : File → File → File
-after_child c p = if p.version == c.base then taken c p.base p.length_at_base else after_both c p
+after_child c p = if p.version == c.base then child_file c p.base p.length_at_base else after_both c p
 
 abbrev pub against : File → Option Entry → List (Option File) → Outcome
-against c None parent = taken_new c (lowest_free parent)
+against c None parent = arrival c (lowest_free parent)
 against c (Some e) parent = writes (record e { file = after_child c e.file })
 
 abbrev pub reconcile_file : File → List (Option File) → Outcome
@@ -77,22 +77,22 @@ reconcile_file c parent = if c.version == c.base then stays else against c (entr
 -- ---- all of them
 
 -- the parent's slots, which of them were written, with what, and how many files were left out
-pub record Reconciled : Type 0 where
+pub record Reconciliation : Type 0 where
   pub slots : List (Option File)
   pub edits : List Entry
   pub left_out : ℕ
 
-abbrev pub after_outcome : Reconciled → Outcome → Reconciled
+abbrev pub after_outcome : Reconciliation → Outcome → Reconciliation
 after_outcome r stays = r
 after_outcome r (writes e) = record r { slots = slice_set r.slots e.slot (Some e.file); edits = r.edits ++ e ∷ [] }
 after_outcome r leaves_out = record r { left_out = r.left_out + 1 }
 
 -- one child's file after the other
-unfoldable pub reconcile_files : Reconciled → List File → Reconciled
+unfoldable pub reconcile_files : Reconciliation → List File → Reconciliation
 reconcile_files r [] = r
 reconcile_files r (c ∷ cs) = reconcile_files (after_outcome r (reconcile_file c r.slots)) cs
 
-abbrev pub reconcile : List (Option File) → List (Option File) → Reconciled
+abbrev pub reconcile : List (Option File) → List (Option File) → Reconciliation
 reconcile parent child = reconcile_files (record { slots = parent; edits = []; left_out = 0 }) (shown_files child)
 
 -- ---- on bytes
@@ -112,8 +112,8 @@ mark_entries marks [] = marks
 mark_entries marks (e ∷ es) = mark_entries (slice_set marks e.slot true) es
 
 -- whether each slot is written
-abbrev pub written : List Entry → List Bool
-written es = mark_entries (replicate slot_count false) es
+abbrev pub marks_of : List Entry → List Bool
+marks_of es = mark_entries (replicate slot_count false) es
 
 -- one bit for each, the first the lowest
 unfoldable pub bits_of : List Bool → ℕ

@@ -100,8 +100,8 @@ abbrev pub flags_of : File → ℕ
 flags_of f = cond f.append 1 0 + cond f.conflicted 2 0 + cond f.deleted 4 0
 
 -- a name padded with 0
-abbrev pub padded : List ℕ → List ℕ
-padded name = name ++ replicate (greatest_name - length name) 0
+abbrev pub with_padding : List ℕ → List ℕ
+with_padding name = name ++ replicate (greatest_name - length name) 0
 
 -- the 60 bytes of a header: the mark, the fields, and the name
 unfoldable pub header_bytes : File → List ℕ
@@ -113,12 +113,12 @@ header_bytes f =
     ++ to_le_bytes w32 f.length_at_base
     ++ to_le_bytes w32 (flags_of f)
     ++ to_le_bytes w32 (length f.name)
-    ++ padded f.name
+    ++ with_padding f.name
 
 -- these bytes from an offset on; all others stay
-unfoldable pub overwritten : (ℕ → ℕ) → ℕ → List ℕ → ℕ → ℕ
-overwritten bytes at part a = if nat_le at a && nat_lt a (at + length part) then slice_index part (a - at) else bytes a
+unfoldable pub with_bytes : (ℕ → ℕ) → ℕ → List ℕ → ℕ → ℕ
+with_bytes bytes at part a = if nat_le at a && nat_lt a (at + length part) then slice_index part (a - at) else bytes a
 
 -- slot k with a file: its header, and its content; all other bytes stay
 unfoldable pub with_slot : (ℕ → ℕ) → ℕ → File → ℕ → ℕ
-with_slot bytes k f = overwritten (overwritten bytes (slot_start k) (header_bytes f)) (slot_start k + content_offset) f.content
+with_slot bytes k f = with_bytes (with_bytes bytes (slot_start k) (header_bytes f)) (slot_start k + content_offset) f.content

@@ -1,5 +1,5 @@
 use Rattle.std.proofs.Common.{◌+◌, ◌%◌, ◌^◌, refl, ap, ◌∙◌}
-use Rattle.file_model.specs.Operations.{revived}
+use Rattle.file_model.specs.Operations.{revival}
 use Rattle.file_model.proofs.Headers.{empty_written}
 use Rattle.file_image.specs.Lookup.{file_in}
 use Rattle.file_image.proofs.editing.revive.Goals as goal
@@ -7,7 +7,7 @@ use Rattle.file_image.proofs.editing.revive.Goals as goal
 pub returns-clause-bytes : goal.returns-clause-bytes
 returns-clause-bytes g c =
     let b = g.B.FileBytes.bytes c.args.bytes.now in
-    let f = revived (file_in b c.args.slot) c.args.append in
+    let f = revival (file_in b c.args.slot) c.args.append in
     let r = c.read_header-header.ensures in
     c.write_header.ensures.bytes f (record {
       name = r.name;

@@ -1,5 +1,5 @@
 use Rattle.std.proofs.Common.{◌≡◌, ◌+◌, ◌%◌, ◌^◌, cond, ap, ◌∙◌, length}
-use Rattle.file_model.specs.Operations.{rewritten}
+use Rattle.file_model.specs.Operations.{with_content}
 use Rattle.file_image.specs.Lookup.{file_in}
 use Rattle.file_image.proofs.Contents.{length_new, content_written}
 use Rattle.file_image.proofs.putting.write_content.Goals as goal
@@ -11,7 +11,7 @@ returns-clause-bytes g c =
     let r = c.read_header-header.ensures in
     let e : c.start_of-start.result ≡ cond c.args.add (length f.content) 0 = c.start_of-start.ensures ∙ ap (λ n. cond c.args.add n 0) r.length in
     content_written b (g.B.FileBytes.bytes c.write_header.new.bytes) (g.B.FileBytes.bytes c.write_bytes.new.bytes) c.args.slot c.args.part.now c.args.add c.start_of-start.result c.requires.slot e
-    (c.write_header.ensures.bytes (rewritten c.args.part.now c.args.add f) (record {
+    (c.write_header.ensures.bytes (with_content c.args.part.now c.args.add f) (record {
       name = r.name;
       name_length = r.name_length;
       version = c.next_version.ensures ∙ ap (λ v. (v + 1) % 2 ^ 32) r.version;

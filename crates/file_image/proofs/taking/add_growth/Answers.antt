@@ -2,7 +2,7 @@ use Rattle.std.proofs.Common.{◌≡◌, ◌+◌, ◌-◌, ◌%◌, ◌^◌, ap,
 use Rattle.file_model.specs.Reconcile.{with_addition}
 use Rattle.file_image.specs.Lookup.{file_in}
 use Rattle.file_image.proofs.Parts.{short_file}
-use Rattle.file_image.proofs.Growth.{grew_from, grown_fits, length-joined, growth_is, growth_written}
+use Rattle.file_image.proofs.Growth.{grew_from, grown_fits, length-joint_content, growth_is, growth_written}
 use Rattle.file_image.proofs.taking.add_growth.Goals as goal
 
 pub overflow_sub-count : goal.overflow_sub-count
@@ -44,7 +44,7 @@ returns-clause-bytes g c =
       name_length = r.name_length;
       version = c.next_version.ensures ∙ ap (λ v. (v + 1) % 2 ^ 32) r.version;
       base = r.base;
-      length = l ∙ length-joined child (file_in p c.args.to);
+      length = l ∙ length-joint_content child (file_in p c.args.to);
       length_at_base = r.length_at_base;
       append = r.append;
       conflicted = r.conflicted;

@@ -1,6 +1,6 @@
 use Rattle.std.proofs.Common.{◌≡◌, ℕ, ◌+◌, ◌*◌, ◌/◌, cond, nat_eq, length, take, get_or, ap, sym, ◌∙◌, arith, List}
-use Rattle.file_model.specs.Slots.{overwritten, bytes_from}
-use Rattle.file_model.proofs.Bytes.{nothing_at, overwritten_more, length-bytes_from, index-bytes_from}
+use Rattle.file_model.specs.Slots.{with_bytes, bytes_from}
+use Rattle.file_model.proofs.Bytes.{nothing_at, with_bytes_more, length-bytes_from, index-bytes_from}
 use Rattle.file_image.proofs.Parts.{take_all}
 use Rattle.file_image.proofs.taking.copy_bytes.Goals as goal
 
@@ -26,7 +26,7 @@ loop-i-preserved g c =
       bytes = λ a. c.set.ensures.bytes a
           ∙ ap (λ x. cond (nat_eq a (65536 * c.args.slot + c.args.offset + c.loop-i.i)) x (g.P.FileBytes.bytes c.loop-i.parent a)) v
           ∙ ap (λ x. cond (nat_eq a (65536 * c.args.slot + c.args.offset + c.loop-i.i)) (get_or part c.loop-i.i 0) x) (c.loop-i.invariant.bytes a)
-          ∙ overwritten_more (g.P.FileBytes.bytes c.args.parent.now) (65536 * c.args.slot + c.args.offset) part c.loop-i.i a (omega (arith, l));
+          ∙ with_bytes_more (g.P.FileBytes.bytes c.args.parent.now) (65536 * c.args.slot + c.args.offset) part c.loop-i.i a (omega (arith, l));
       ready = g.met.P.FileBytes.ready_on c.loop-i.parent c.set.new.self c.args.slot c.set.ensures.kept c.loop-i.invariant.ready;
       kept = g.met.P.FileBytes.keeps_on c.args.parent.now c.loop-i.parent c.set.new.self c.loop-i.invariant.kept c.set.ensures.kept;
     }
@@ -37,7 +37,7 @@ returns g c =
     let l : length part ≡ c.args.count = length-bytes_from (g.C.FileBytes.bytes c.args.child.now) c.args.from c.args.count in
     let w : take c.loop-i.i part ≡ part = take_all c.loop-i.i part (omega (arith, l)) in
     record {
-      bytes = λ t a. (c.loop-i.invariant.bytes a ∙ ap (λ xs. overwritten (g.P.FileBytes.bytes c.args.parent.now) (65536 * c.args.slot + c.args.offset) xs a) w) t;
+      bytes = λ t a. (c.loop-i.invariant.bytes a ∙ ap (λ xs. with_bytes (g.P.FileBytes.bytes c.args.parent.now) (65536 * c.args.slot + c.args.offset) xs a) w) t;
       ready = c.loop-i.invariant.ready;
       kept = c.loop-i.invariant.kept;
     }

@@ -1,6 +1,6 @@
 use Rattle.std.proofs.Common.{◌≡◌, ℕ, ◌+◌, ◌*◌, refl, ap, sym, ◌∙◌, arith}
-use Rattle.file_model.specs.Slots.{overwritten, bytes_from, with_slot, slot_start}
-use Rattle.file_model.specs.Reconcile.{taken}
+use Rattle.file_model.specs.Slots.{with_bytes, bytes_from, with_slot, slot_start}
+use Rattle.file_model.specs.Reconcile.{child_file}
 use Rattle.file_image.specs.Lookup.{file_in}
 use Rattle.file_image.proofs.Parts.{own_content, short_file}
 use Rattle.file_image.proofs.taking.take_file.Goals as goal
@@ -16,14 +16,14 @@ unfolding with_slot
 returns-clause-bytes g c =
     let p = g.P.FileBytes.bytes c.args.parent.now in
     let d = g.C.FileBytes.bytes c.args.child.now in
-    let f = taken (file_in d c.args.slot) c.args.base c.args.length_at_base in
+    let f = child_file (file_in d c.args.slot) c.args.base c.args.length_at_base in
     let r = c.read_header-header.ensures in
     let x : bytes_from d (65536 * c.args.slot + 4096) c.read_header-header.result.length ≡ (file_in d c.args.slot).content =
     ap (bytes_from d (65536 * c.args.slot + 4096)) r.length ∙ sym (own_content d c.args.slot) in
     let a : slot_start c.args.to + 4096 ≡ slot_start c.args.to + 4096 = refl in
     c.copy_bytes.ensures.bytes
-    ∙ ap (overwritten (g.P.FileBytes.bytes c.write_header.new.bytes) (slot_start c.args.to + 4096)) x
-    ∙ ap (λ (y : ℕ → ℕ). overwritten y (slot_start c.args.to + 4096) (file_in d c.args.slot).content)
+    ∙ ap (with_bytes (g.P.FileBytes.bytes c.write_header.new.bytes) (slot_start c.args.to + 4096)) x
+    ∙ ap (λ (y : ℕ → ℕ). with_bytes y (slot_start c.args.to + 4096) (file_in d c.args.slot).content)
     (c.write_header.ensures.bytes f (record {
       name = r.name;
       name_length = r.name_length;

@@ -1,5 +1,5 @@
 use Rattle.std.proofs.Common.{ℕ, refl, ap, ◌∙◌}
-use Rattle.file_model.specs.Slots.{slot_start, overwritten}
+use Rattle.file_model.specs.Slots.{slot_start, with_bytes}
 use Rattle.file_image.specs.Writes.{first_half, second_half}
 use Rattle.file_image.proofs.Overwriting.{written_next, spelled}
 use Rattle.file_image.proofs.writing.write_header.Goals as goal
@@ -10,4 +10,4 @@ returns-clause-bytes g c = λ f d.
     let b1 : ℕ → ℕ = g.B.FileBytes.bytes c.write_versions.new.bytes in
     let b2 : ℕ → ℕ = g.B.FileBytes.bytes c.write_name.new.bytes in
     written_next a b1 b2 (slot_start c.args.slot) 16 (first_half c.args.header.now) (second_half c.args.header.now) refl c.write_versions.ensures.bytes c.write_name.ensures.bytes
-    ∙ ap (overwritten a (slot_start c.args.slot)) (spelled c.args.header.now f d)
+    ∙ ap (with_bytes a (slot_start c.args.slot)) (spelled c.args.header.now f d)
