@@ -6,3 +6,4 @@ pub mod Overwriting
 pub mod Bases
 pub mod Contents
 pub mod Growth
+pub mod LaterFiles

@@ -1,3 +1,4 @@
 pub mod Lookup
 pub mod Answers
 pub mod Writes
+pub mod Outcomes

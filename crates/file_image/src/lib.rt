@@ -9,6 +9,7 @@ mod header;
 mod lookup;
 mod putting;
 mod reading;
+mod reconciling;
 mod taking;
 mod writing;
 
@@ -19,3 +20,4 @@ pub use file_model::FileError;
 pub use lookup::{find, used};
 pub use putting::put;
 pub use reading::{get, len};
+pub use reconciling::reconcile;

@@ -5,3 +5,4 @@ pub mod ReadingBack
 pub mod OtherSlots
 pub mod WellFormed
 pub mod Examples
+pub mod Reconciling
