@@ -7,3 +7,6 @@ pub mod Bases
 pub mod Contents
 pub mod Growth
 pub mod LaterFiles
+pub mod Following
+pub mod MarkBits
+pub mod Marked

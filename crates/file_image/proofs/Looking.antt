@@ -8,7 +8,7 @@ use Rattle.file_model.specs.Operations.{Entry, entry_from, free_from}
 use Rattle.file_model.proofs.Lookups.{slots_next}
 use Rattle.file_image.specs.Lookup.{file_in, holds, entry_in, optional_entry}
 
-entry_other : (k : ℕ) (s : Option File) (slots : List (Option File)) (name : List ℕ) → holds name s ≡ false → entry_from k (s ∷ slots) name ≡ entry_from (k + 1) slots name
+pub entry_other : (k : ℕ) (s : Option File) (slots : List (Option File)) (name : List ℕ) → holds name s ≡ false → entry_from k (s ∷ slots) name ≡ entry_from (k + 1) slots name
 unfolding entry_from
 entry_other k None slots name h = refl
 entry_other k (Some f) slots name h = ap (λ t. cond t (Some (record { slot = k; file = f })) (entry_from (k + 1) slots name)) h

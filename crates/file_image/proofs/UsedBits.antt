@@ -11,7 +11,7 @@ used_flag : (t : Bool) (f : File) → is_used (cond t (Some f) None) ≡ t
 used_flag true f = refl
 used_flag false f = refl
 
-used_slot : (b : ℕ → ℕ) (k : ℕ) → is_used (slot_at b k) ≡ is_in_use b (slot_start k)
+pub used_slot : (b : ℕ → ℕ) (k : ℕ) → is_used (slot_at b k) ≡ is_in_use b (slot_start k)
 unfolding slot_at
 used_slot b k = used_flag (is_in_use b (slot_start k)) (file_at b (slot_start k))
 
@@ -19,7 +19,7 @@ pub no_bits : (b : ℕ → ℕ) (k : ℕ) → 0 ≡ bits_of (map is_used (slots_
 unfolding bits_of slots_from
 no_bits b k = refl
 
-bits_first : (t : Bool) (ts : List Bool) → bits_of (t ∷ ts) ≡ cond t 1 0 + 2 * bits_of ts
+pub bits_first : (t : Bool) (ts : List Bool) → bits_of (t ∷ ts) ≡ cond t 1 0 + 2 * bits_of ts
 unfolding bits_of
 bits_first t ts = refl
 
@@ -30,7 +30,7 @@ used_next b k s n e h =
     ∙ ap (λ t. cond t 1 0 + 2 * bits_of (map is_used (slots_from b (k + 1) (n - (k + 1))))) (used_slot b k)
     ∙ ap (λ j. cond (is_in_use b (slot_start k)) 1 0 + 2 * bits_of (map is_used (slots_from b j (n - j)))) (sym e)
 
-bit_below : (t : Bool) → cond t 1 0 ≤ 1
+pub bit_below : (t : Bool) → cond t 1 0 ≤ 1
 bit_below true = omega arith
 bit_below false = omega arith
 

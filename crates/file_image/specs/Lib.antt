@@ -2,3 +2,4 @@ pub mod Lookup
 pub mod Answers
 pub mod Writes
 pub mod Outcomes
+pub mod Marks

@@ -34,7 +34,7 @@ pub fn find<B: FileBytes>(bytes: &B, name: &[u8]) -> Option<u32>
 }
 
 // One bit more, below the others.
-fn with_bit(bits: u64, bit: bool) -> u64
+pub(crate) fn with_bit(bits: u64, bit: bool) -> u64
     requires { bits < 2 ^ 63 }
     ensures { result ≡ cond bit 1 0 + 2 * bits }
 {
