@@ -6,3 +6,4 @@ pub mod OtherSlots
 pub mod WellFormed
 pub mod Examples
 pub mod Reconciling
+pub mod Marks
