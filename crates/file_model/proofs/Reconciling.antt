@@ -19,42 +19,42 @@ abbrev pub rest : List (Option File) → List File → Reconciliation
 rest slots cs = reconcile_files (beginning slots) cs
 
 -- one after the other
-abbrev followed : Reconciliation → Reconciliation → Reconciliation
-followed r t = record { slots = t.slots; edits = r.edits ++ t.edits; left_out = r.left_out + t.left_out }
+abbrev together : Reconciliation → Reconciliation → Reconciliation
+together r t = record { slots = t.slots; edits = r.edits ++ t.edits; left_out = r.left_out + t.left_out }
 
 nothing_behind : {A : Type 0} (xs : List A) → xs ≡ xs ++ []
 nothing_behind [] = refl
 nothing_behind (x ∷ xs) = ap (λ ys. x ∷ ys) (nothing_behind xs)
 
-step_followed : (r : Reconciliation) (o : Outcome) (cs : List File)
-    → followed (after_outcome r o) (rest (after_outcome r o).slots cs) ≡ followed r (followed (after_outcome (beginning r.slots) o) (rest (after_outcome (beginning r.slots) o).slots cs))
-step_followed r stays cs =
+step_together : (r : Reconciliation) (o : Outcome) (cs : List File)
+    → together (after_outcome r o) (rest (after_outcome r o).slots cs) ≡ together r (together (after_outcome (beginning r.slots) o) (rest (after_outcome (beginning r.slots) o).slots cs))
+step_together r stays cs =
     let t = rest r.slots cs in
     let n : r.left_out + t.left_out ≡ r.left_out + (0 + t.left_out) = omega arith in
     λ i. record { slots = t.slots; edits = r.edits ++ t.edits; left_out = n i }
-step_followed r (writes e) cs =
+step_together r (writes e) cs =
     let t = rest (slice_set r.slots e.slot (Some e.file)) cs in
     let n : r.left_out + t.left_out ≡ r.left_out + (0 + t.left_out) = omega arith in
     let a : (r.edits ++ e ∷ []) ++ t.edits ≡ r.edits ++ (e ∷ t.edits) = append_assoc r.edits (e ∷ []) t.edits in
     λ i. record { slots = t.slots; edits = a i; left_out = n i }
-step_followed r leaves_out cs =
+step_together r leaves_out cs =
     let t = rest r.slots cs in
     let n : r.left_out + 1 + t.left_out ≡ r.left_out + (0 + 1 + t.left_out) = omega arith in
     λ i. record { slots = t.slots; edits = r.edits ++ t.edits; left_out = n i }
 
 -- what was done before stands before the rest
-rest_followed : (r : Reconciliation) (cs : List File) → reconcile_files r cs ≡ followed r (rest r.slots cs)
+rest_together : (r : Reconciliation) (cs : List File) → reconcile_files r cs ≡ together r (rest r.slots cs)
 unfolding reconcile_files
-rest_followed r [] =
+rest_together r [] =
     let n : r.left_out ≡ r.left_out + 0 = omega arith in
     λ i. record { slots = r.slots; edits = nothing_behind r.edits i; left_out = n i }
-rest_followed r (c ∷ cs) =
+rest_together r (c ∷ cs) =
     let o = reconcile_file c r.slots in
-    rest_followed (after_outcome r o) cs ∙ step_followed r o cs ∙ ap (followed r) (sym (rest_followed (after_outcome (beginning r.slots) o) cs))
+    rest_together (after_outcome r o) cs ∙ step_together r o cs ∙ ap (together r) (sym (rest_together (after_outcome (beginning r.slots) o) cs))
 
-rest_first : (s : List (Option File)) (c : File) (cs : List File) (o : Outcome) → reconcile_file c s ≡ o → rest s (c ∷ cs) ≡ followed (after_outcome (beginning s) o) (rest (after_outcome (beginning s) o).slots cs)
+rest_first : (s : List (Option File)) (c : File) (cs : List File) (o : Outcome) → reconcile_file c s ≡ o → rest s (c ∷ cs) ≡ together (after_outcome (beginning s) o) (rest (after_outcome (beginning s) o).slots cs)
 unfolding reconcile_files
-rest_first s c cs o e = ap (λ q. reconcile_files (after_outcome (beginning s) q) cs) e ∙ rest_followed (after_outcome (beginning s) o) cs
+rest_first s c cs o e = ap (λ q. reconcile_files (after_outcome (beginning s) q) cs) e ∙ rest_together (after_outcome (beginning s) o) cs
 
 pub rest_none : (s : List (Option File)) → rest s [] ≡ beginning s
 unfolding reconcile_files
