@@ -1,0 +1,6 @@
+pub mod Writes
+pub mod Owned
+pub mod Results
+pub mod Contents
+pub mod Bases
+pub mod Parents

@@ -1,0 +1,61 @@
+-- What a parent takes over from a child, and that it is nothing where the child keeps no bytes of slots.
+use Rattle.std.proofs.Common.{◌≡◌, ℕ, zero, suc, ◌+◌, ◌/◌, ◌%◌, ◌^◌, ◌<◌, Bool, false, List, Result, Ok, Err, refl, sym, ◌∙◌, ap, arith}
+use Rattle.std.specs.Prelude.{IfOk, ◌&&◌}
+use Rattle.file_model.specs.Sizes.{slot_count}
+use Rattle.file_model.specs.Slots.{slots_of, is_in_use, slot_start}
+use Rattle.file_model.specs.Operations.{entry_of}
+use Rattle.file_model.specs.Reconcile.{reconcile, reconciled_bytes, with_entries, bits_of, marks_of, is_at}
+use Rattle.file_model.proofs.Marks.{ready_if_set}
+use Rattle.file_model.proofs.Reconciling.{rest}
+use Rattle.file_image.specs.Lookup.{file_in}
+use Rattle.file_image.specs.Outcomes.{AreReady, is_shown}
+use Rattle.file_image.proofs.LaterFiles.{later, later_hidden, nothing_left, none_left_out}
+use Rattle.space_mem.specs.Held.{Held, AllZero}
+use Rattle.space_model.specs.Files.{file_bytes, files_in, with_file_bytes, with_files_of, files_left_out}
+use Rattle.memory_files.specs.Slots.{KeepsRest, HasBits, has_slot}
+use Rattle.memory_files.specs.Laws.{keeps_itself}
+use Rattle.memory_files.proofs.Bases.{none_used}
+use Rattle.memory_files.proofs.Results.{memory_is}
+
+-- the bits of the slots that are written
+abbrev written_bits : Held → Held → ℕ
+written_bits parent child = bits_of (marks_of (reconcile (files_in parent.memory) (files_in child.memory)).edits)
+
+pub touched_ready : {E : Type 0} (r : Result (List Bool) E) (h m c d : Held) (bits : ℕ) → m ≡ h → d ≡ c → bits ≡ written_bits m d → IfOk r (λ slots. HasBits bits slots)
+    → IfOk r (λ slots. AreReady (has_slot slots) (reconcile (files_in h.memory) (files_in c.memory)))
+touched_ready (Err e) h m c d bits parent child told has = tt
+touched_ready (Ok slots) h m c d bits parent child told has =
+    let is : bits ≡ written_bits h c = told ∙ ap (λ x. written_bits x d) parent ∙ ap (written_bits h) child in
+    ready_if_set (has_slot slots) (file_bytes h.memory) (file_bytes c.memory) (λ k below bit. has k below (ap (λ i. i / 2 ^ k % 2) is ∙ bit))
+
+pub taken_over : (h m n g c d : Held) → m ≡ h → d ≡ c → g ≡ n → file_bytes n.memory ≡ reconciled_bytes (file_bytes m.memory) (file_bytes d.memory) → KeepsRest m n → g.memory ≡ with_files_of c.memory h.memory
+unfolding with_files_of
+taken_over h m n g c d parent child back is kept =
+    ap (λ (x : Held). x.memory) back ∙ memory_is m n (reconciled_bytes (file_bytes m.memory) (file_bytes d.memory)) kept is
+    ∙ ap (λ (x : Held). with_file_bytes x.memory (reconciled_bytes (file_bytes x.memory) (file_bytes d.memory))) parent
+    ∙ ap (λ (x : Held). with_file_bytes h.memory (reconciled_bytes (file_bytes h.memory) (file_bytes x.memory))) child
+
+-- ---- a child that keeps no bytes of slots
+
+none_shown : (d : ℕ → ℕ) (k : ℕ) → is_in_use d (slot_start k) ≡ false → is_shown d k ≡ false
+none_shown d k free = ap (λ t. t && is_at k (entry_of (slots_of d) (file_in d k).name)) free
+
+none_later : (d : ℕ → ℕ) (n k : ℕ) → k + n ≡ 64 → ((j : ℕ) → j < slot_count → is_in_use d (slot_start j) ≡ false) → later d k ≡ later d 64
+none_later d zero k e free = let same : k ≡ 64 = omega arith in ap (later d) same
+none_later d (suc n) k e free = later_hidden d k (omega arith) (none_shown d k (free k (omega arith))) ∙ none_later d n (k + 1) (omega arith) free
+
+no_files : (c : Held) → AllZero c.memory 786432 787456 → later (file_bytes c.memory) 0 ≡ later (file_bytes c.memory) 64
+no_files c none = none_later (file_bytes c.memory) 64 0 (omega arith) (λ j below. none_used c.memory j none below)
+
+same_entries : (b d : ℕ → ℕ) → later d 0 ≡ later d 64 → reconciled_bytes b d ≡ b
+same_entries b d e = ap (λ cs. with_entries b (rest (slots_of b) cs).edits) e ∙ nothing_left b d 64 (omega arith)
+
+pub nothing_taken : (h c : Held) → AllZero c.memory 786432 787456 → h.memory ≡ with_files_of c.memory h.memory
+unfolding with_files_of
+nothing_taken h c none =
+    memory_is h h (file_bytes h.memory) (keeps_itself h) refl ∙ ap (with_file_bytes h.memory) (sym (same_entries (file_bytes h.memory) (file_bytes c.memory) (no_files c none)))
+
+pub nothing_left_out : (h c : Held) → AllZero c.memory 786432 787456 → 0 ≡ files_left_out c.memory h.memory
+unfolding files_left_out
+nothing_left_out h c none =
+    sym (ap (λ cs. (rest (files_in h.memory) cs).left_out) (no_files c none) ∙ none_left_out (files_in h.memory) (file_bytes c.memory) 64 (omega arith))

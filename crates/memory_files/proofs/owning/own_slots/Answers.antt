@@ -1,0 +1,24 @@
+use Rattle.std.proofs.Common.{refl, arith, ◌∙◌}
+use Rattle.space_mem.proofs.Dirty.{marks_refl, marks_then}
+use Rattle.memory_files.proofs.Owned.{none_owned, rest_next, slots_next}
+use Rattle.memory_files.proofs.owning.own_slots.Goals as goal
+
+pub loop-slot-init : goal.loop-slot-init
+loop-slot-init c = record {
+  same = refl;
+  owned = none_owned c.args.memory.now;
+  long = refl;
+  rest = omega arith;
+  slots = λ k below bit. absurd (omega arith);
+  marks = marks_refl c.args.memory.now;
+}
+
+pub loop-slot-preserved : goal.loop-slot-preserved
+loop-slot-preserved c = record {
+  same = c.in_ok-own_if.ensures.same ∙ c.loop-slot.invariant.same;
+  owned = c.in_ok-own_if.ensures.owned c.loop-slot.invariant.owned;
+  long = omega arith;
+  rest = rest_next c.args.bits c.loop-slot.slot c.loop-slot.rest c.loop-slot.invariant.rest;
+  slots = slots_next c.args.bits c.loop-slot.slots c.own_if.new.slots c.loop-slot.slot c.loop-slot.rest (omega arith) c.loop-slot.invariant.rest c.in_ok-own_if.ensures.slots c.loop-slot.invariant.slots;
+  marks = marks_then c.args.memory.now c.loop-slot.memory c.own_if.new.memory c.loop-slot.invariant.marks c.in_ok-own_if.ensures.marks;
+}

@@ -1,0 +1,6 @@
+use Rattle.memory_files.proofs.Parents.{touched_ready}
+use Rattle.memory_files.proofs.reconciling.own_touched.Goals as goal
+
+pub returns-clause-ready : goal.returns-clause-ready
+returns-clause-ready c =
+    touched_ready c.own_slots.result c.args.parent.now c.new.result.memory.now c.args.child.now c.new-2.result.memory.now c.touched-bits.result c.new.ensures c.new-2.ensures c.touched-bits.ensures c.own_slots.ensures.slots

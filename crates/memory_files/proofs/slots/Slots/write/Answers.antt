@@ -1,0 +1,16 @@
+use Rattle.std.proofs.Common.{◌+◌}
+use Rattle.file_model.specs.Sizes.{first_address}
+use Rattle.memory_files.proofs.Writes.{slot_owner, owned_after, rest_kept}
+use Rattle.memory_files.proofs.slots.Slots.write.Goals as goal
+
+pub write_owned-requires : goal.write_owned-requires
+write_owned-requires c = slot_owner c.args.self.now.memory c.args.self.now.ready c.args.offset c.args.self.now.owned c.requires.ready
+
+pub invariant_of-self : goal.invariant_of-self
+invariant_of-self c = record {
+  owned = owned_after c.args.self.now.memory c.write_owned.new.memory (first_address + c.args.offset) c.args.value c.args.self.now.ready c.write_owned.ensures.written c.args.self.now.owned;
+  small = c.write_owned.ensures.small;
+}
+
+pub returns-clause-kept : goal.returns-clause-kept
+returns-clause-kept c = rest_kept c.args.self.now.memory c.write_owned.new.memory c.args.offset c.args.value c.requires.within c.write_owned.ensures.written c.write_owned.ensures.marks

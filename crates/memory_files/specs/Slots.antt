@@ -1,0 +1,39 @@
+-- The slots of files in a memory: which of them may be written without taking memory, and what a write to them leaves as it is.
+-- Our choice: that a slot is ready where the memory owns each of its pages.
+use Rattle.std.specs.Prelude.{◌≡◌, ℕ, ◌+◌, ◌*◌, ◌/◌, ◌%◌, ◌^◌, ◌<◌, ◌≤◌, ◌⊎◌, Bool, true, false, List, get_or}
+use Rattle.memory_model.specs.Memory.{Memory, byte_at}
+use Rattle.file_model.specs.Sizes.{first_address, slot_count, all_slots_size}
+use Rattle.space_mem.specs.Held.{Held, Owns, Marks}
+
+-- the page that slot k begins with
+abbrev pub slot_page : ℕ → ℕ
+slot_page k = 786432 + 16 * k
+
+-- the memory owns each page of slot k
+abbrev pub OwnsSlot : Held → ℕ → Type 0
+OwnsSlot h k = (page : ℕ) → slot_page k ≤ page → page < slot_page k + 16 → Owns h page
+
+abbrev pub has_slot : List Bool → ℕ → Bool
+has_slot slots k = get_or slots k false
+
+-- the memory owns each of these slots
+abbrev pub OwnsSlots : Held → List Bool → Type 0
+OwnsSlots h slots = (k : ℕ) → has_slot slots k ≡ true → OwnsSlot h k
+
+-- each number that a memory keeps is a byte
+abbrev pub HasBytes : Memory → Type 0
+HasBytes m = (a : ℕ) → byte_at m a < 256
+
+-- an address that is in no slot
+abbrev pub IsElsewhere : ℕ → Type 0
+IsElsewhere a = (a < first_address) ⊎ (first_address + all_slots_size ≤ a)
+
+-- all but the bytes of slots stays, and what changes is dirty
+pub record KeepsRest (before after : Held) : Type 0 where
+  pub permissions : after.memory.permissions ≡ before.memory.permissions
+  pub elsewhere : (a : ℕ) → IsElsewhere a → byte_at after.memory a ≡ byte_at before.memory a
+  pub marks : Marks before after
+
+-- slots with those that bits tell, the lowest for slot 0
+abbrev pub HasBits : ℕ → List Bool → Type 0
+HasBits bits slots = (k : ℕ) → k < slot_count → bits / 2 ^ k % 2 ≡ 1 → has_slot slots k ≡ true

@@ -1,0 +1,61 @@
+ghost use Rattle.std.specs.Prelude.{◌≡◌, ℕ, ◌+◌, ◌<◌, true, IfOk, IsFalse, OnErr, OnOk};
+ghost use Rattle.file_image.specs.Lookup.{HasFile};
+ghost use Rattle.space_mem.specs.Held.{AllZero, Marks};
+ghost use Rattle.space_model.specs.Files.{file_bytes, with_file_bases};
+ghost use Rattle.memory_files.specs.Slots.{OwnsSlots, has_slot};
+
+use crate::files::Files;
+use crate::owning::{FIRST_PAGE, own_slots};
+use crate::slots::Slots;
+use file_image::used;
+use space_mem::Mem;
+use std::alloc::AllocError;
+
+// Whether bytes are kept of the slots of files; where none are, they are all 0.
+pub(crate) fn are_kept(memory: &Mem) -> bool
+    ensures { IsFalse result → AllZero memory.now.memory 786432 787456 }
+{
+    match memory.next_kept(FIRST_PAGE) {
+        Some(page) => page < FIRST_PAGE + 1024,
+        None => false,
+    }
+}
+
+// Gives each file its base, in a memory that owns the slots in use.
+#[tactic(auto, unfolding(space_model::specs::Files::with_file_bases))]
+fn mark_owned(memory: &mut Mem, slots: [bool; 64])
+    requires owned { OwnsSlots memory.old slots }
+    requires used { (k : ℕ) → HasFile (file_bytes memory.old.memory) k → has_slot slots k ≡ true }
+    ensures memory { memory.new.memory ≡ with_file_bases memory.old.memory }
+    ensures marks { Marks memory.old memory.new }
+{
+    let mut files = Slots::take(memory, slots);
+    file_image::mark_base(&mut files);
+    files.put_back(memory);
+}
+
+// Owns the slots in use, and answers which are owned. The one error is want of memory.
+fn own_used(memory: &mut Mem) -> Result<[bool; 64], AllocError>
+    ensures same { memory.new.memory ≡ memory.old.memory }
+    ensures owned { IfOk result (λ slots. OwnsSlots memory.new slots) }
+    ensures used { IfOk result (λ slots. (k : ℕ) → HasFile (file_bytes memory.old.memory) k → has_slot slots k ≡ true) }
+    ensures marks { Marks memory.old memory.new }
+{
+    let bits = used(&Files::new(memory));
+    own_slots(memory, bits)
+}
+
+/// Gives each file in a memory its base: its version and length as they are, which a later change differs from. The one error is want of memory: no byte
+/// has changed then, and no permission.
+pub fn mark_base(memory: &mut Mem) -> Result<(), AllocError>
+    ensures ok { OnOk result (memory.new.memory ≡ with_file_bases memory.old.memory) }
+    ensures err { OnErr result (memory.new.memory ≡ memory.old.memory) }
+    ensures marks { Marks memory.old memory.new }
+{
+    if !are_kept(memory) {
+        return Ok(());
+    }
+    let slots = own_used(memory)?;
+    mark_owned(memory, slots);
+    Ok(())
+}

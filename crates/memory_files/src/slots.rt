@@ -1,0 +1,103 @@
+ghost use Rattle.std.specs.Prelude.{◌≡◌, ◌+◌, ◌/◌, ◌<◌, true};
+ghost use Rattle.file_model.specs.Sizes.{first_address, slot_size, slot_count, all_slots_size};
+ghost use Rattle.space_model.specs.Files.{file_bytes};
+ghost use Rattle.memory_model.specs.Sizes.{page_size};
+ghost use Rattle.space_mem.specs.Held.{Marks, Owns, with_written};
+ghost use Rattle.memory_files.specs.Slots.{OwnsSlots, HasBytes, KeepsRest, has_slot};
+
+use file_image::FileBytes;
+use space_mem::Mem;
+use std::mem;
+
+// Where slot 0 begins in a memory.
+pub(crate) const FIRST_ADDRESS: u32 = 0xC000_0000;
+
+// The files of a memory, and which slots it owns: they may be written without taking memory.
+#[derive(Drop)]
+pub(crate) struct Slots {
+    pub(crate) memory: Mem,
+    pub(crate) ready: [bool; 64],
+    pub(crate) ghost owned: { OwnsSlots memory ready },
+    pub(crate) ghost small: { HasBytes memory.memory },
+}
+
+impl Slots {
+    // Takes a memory that owns these slots out of its place.
+    pub(crate) fn take(memory: &mut Mem, ready: [bool; 64]) -> Slots
+        requires { OwnsSlots memory.old ready }
+        ensures memory { result.memory ≡ memory.old }
+        ensures ready { result.ready ≡ ready }
+    {
+        memory.bounds();
+        let none = Mem::new(memory.allocator());
+        Slots {
+            memory: mem::replace(memory, none),
+            ready,
+        }
+    }
+
+    // Puts the memory into its place again.
+    pub(crate) fn put_back(self, memory: &mut Mem)
+        ensures { memory.new ≡ self.memory }
+    {
+        let Slots { memory: own, .. } = self;
+        *memory = own;
+    }
+
+    // Writes a byte of a slot that is ready.
+    fn write(&mut self, offset: u32, value: u8)
+        requires within { offset < all_slots_size }
+        requires ready { has_slot self.old.ready (offset / slot_size) ≡ true }
+        ensures memory { self.new.memory ≡ with_written self.old.memory (first_address + offset) value }
+        ensures ready { self.new.ready ≡ self.old.ready }
+        ensures kept { KeepsRest self.old.memory self.new.memory }
+    {
+        write_owned(&mut self.memory, FIRST_ADDRESS + offset, value);
+    }
+}
+
+// Writes a byte of a page that is owned.
+fn write_owned(memory: &mut Mem, at: u32, value: u8)
+    requires { Owns memory.old (at / page_size) }
+    ensures written { memory.new ≡ with_written memory.old at value }
+    ensures small { HasBytes memory.new.memory }
+    ensures marks { Marks memory.old memory.new }
+{
+    match memory.write(at, value) {
+        Ok(()) => {}
+        Err(_) => {}
+    }
+    memory.bounds();
+}
+
+impl FileBytes for Slots {
+    ghost use Rattle.std.proofs.Common.{◌≡◌, ◌∙◌, ap, refl};
+    ghost use Rattle.memory_files.specs.Slots.{KeepsRest, has_slot};
+    ghost use Rattle.memory_files.specs.Laws as laws;
+
+    ghost bytes = { λ s. file_bytes s.memory.memory };
+
+    ghost is_ready = { λ s. has_slot s.ready };
+
+    ghost keeps = { λ s t. KeepsRest s.memory t.memory × (t.ready ≡ s.ready) };
+
+    fn byte(&self, offset: u32) -> u8 {
+        self.memory.byte(FIRST_ADDRESS + offset)
+    }
+
+    fn set(&mut self, offset: u32, value: u8) {
+        self.write(offset, value);
+    }
+
+    fn ready(&self, slot: u32) -> bool {
+        self.ready[slot as usize]
+    }
+
+    ghost small = { λ s a. s.small (first_address + a) };
+
+    ghost keeps_itself = { λ s. (laws.keeps_itself s.memory, refl) };
+
+    ghost keeps_on = { λ s t u first second. (laws.keeps_on s.memory t.memory u.memory first.0 second.0, second.1 ∙ first.1) };
+
+    ghost ready_on = { λ s t k kept ready. ap (λ r. has_slot r k) kept.1 ∙ ready };
+}
