@@ -1,4 +1,6 @@
 ghost use Rattle.std.specs.Prelude.{◌≡◌, ◌<◌, false};
+ghost use Rattle.call_model.specs.declared.Call.TheVariants.{File};
+ghost use Rattle.call_model.specs.declared.Kind.TheVariants as kinds;
 ghost use Rattle.call_model.specs.Limits.{IsChild};
 ghost use Rattle.call_model.specs.Tests as table;
 ghost use Rattle.call_model.specs.Reading as reading;
@@ -10,12 +12,12 @@ use crate::checks::{
 };
 use crate::kinds::kind_of;
 use crate::options::{TREE, has};
-use call_model::{Badcall, Call, Kind, Transfer};
+use call_model::{Badcall, Call, FileCall, Kind, Transfer};
 use std::marker::Model;
 
 /// A call that passed the tests on registers. Options of Put and Get stand together; with Copy, Zero, Merge or Perm the
 /// destination is a range of whole pages of memory, with Copy the source too; with Regs the register block stands in memory, at a
-/// multiple of 4. Console out's bytes stand in memory and are at most 65,536.
+/// multiple of 4. Console out's bytes, and a file call's name, data and buffer, stand in memory and are at most 65,536 bytes each.
 #[derive(Clone, Copy, Debug, PartialEq, Eq)]
 pub struct AcceptedCall {
     call: Call,
@@ -58,6 +60,43 @@ fn transfer(x: &[u32; 32]) -> Transfer
         destination: argument(x, 4),
         size: argument(x, 5),
         limit: argument(x, 6),
+    }
+}
+
+// What registers a1 to a3 say of a file that is to be made.
+fn file_new(x: &[u32; 32]) -> FileCall
+    ensures { File result ≡ reading.call_of kinds.FileNew x.now }
+{
+    FileCall::New {
+        name: argument(x, 1),
+        name_len: argument(x, 2),
+        append: argument(x, 3) == 1,
+    }
+}
+
+// What registers a1 to a5 say of a file that is to be written.
+fn file_put(x: &[u32; 32]) -> FileCall
+    ensures { File result ≡ reading.call_of kinds.FilePut x.now }
+{
+    FileCall::Put {
+        name: argument(x, 1),
+        name_len: argument(x, 2),
+        addr: argument(x, 3),
+        len: argument(x, 4),
+        add: argument(x, 5) == 1,
+    }
+}
+
+// What registers a1 to a5 say of a file that is to be read.
+fn file_get(x: &[u32; 32]) -> FileCall
+    ensures { File result ≡ reading.call_of kinds.FileGet x.now }
+{
+    FileCall::Get {
+        name: argument(x, 1),
+        name_len: argument(x, 2),
+        addr: argument(x, 3),
+        len: argument(x, 4),
+        offset: argument(x, 5),
     }
 }
 
@@ -122,6 +161,17 @@ fn call_of(kind: Kind, x: &[u32; 32]) -> Call
         Kind::Tjoin => Call::Tjoin {
             child: argument(x, 1) as u16,
         },
+        Kind::FileNew => Call::File(file_new(x)),
+        Kind::FilePut => Call::File(file_put(x)),
+        Kind::FileGet => Call::File(file_get(x)),
+        Kind::FileLength => Call::File(FileCall::Length {
+            name: argument(x, 1),
+            name_len: argument(x, 2),
+        }),
+        Kind::FileDelete => Call::File(FileCall::Delete {
+            name: argument(x, 1),
+            name_len: argument(x, 2),
+        }),
     }
 }
 
@@ -130,11 +180,12 @@ fn call_of(kind: Kind, x: &[u32; 32]) -> Call
 ///
 /// 1. a7 is no call number;
 /// 2. an option that is not known, permission bits without Perm, two of Copy, Zero and Merge, Tree with another bit; in Put
-///    Merge, or Limit without Start; in Get one of Snap, Start and Limit;
+///    Merge, or Limit without Start; in Get one of Snap, Start and Limit; in FileNew an a3, or in FilePut an a5, above 1;
 /// 3. a child number above 65,535, with Tree one of three;
-/// 4. a range that is not of whole pages of 4,096 bytes, or one that passes the end of memory;
+/// 4. a range of Put or Get that is not of whole pages of 4,096 bytes or passes the end of memory; console out's bytes, or a file call's
+///    name, data or buffer, that pass it;
 /// 6. console out outside the root;
-/// 7. console out of more than 65,536 bytes;
+/// 7. console out of more than 65,536 bytes, or a file call's name, data or buffer of more;
 /// 8. Put, Fork or Tfork at depth 8, Put with Tree at depth 7 or 8;
 /// 9. a register block at no multiple of 4, or above 0xFFFFFF78.
 #[tactic(auto, using(call_model::proofs::Accepted::named_accepted, call_model::proofs::Accepted::named_child))]

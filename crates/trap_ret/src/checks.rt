@@ -1,4 +1,5 @@
-ghost use Rattle.std.specs.Prelude.{◌≡◌, ◌+◌, ◌<◌, ◌≤◌};
+ghost use Rattle.std.specs.Prelude.{◌≡◌, ◌+◌, ◌<◌, ◌≤◌, nat_lt};
+ghost use Rattle.call_model.specs.Limits.{greatest_length};
 ghost use Rattle.call_model.specs.Options as options_of;
 ghost use Rattle.call_model.specs.Tests as table;
 
@@ -95,7 +96,14 @@ fn bad_block(options: u32, block: u32) -> bool
     has(options, REGS) && (block % 4 != 0 || block > LAST_BLOCK)
 }
 
-/// Test 2: options that do not stand, or do not stand together.
+// What says yes or no is neither 1 nor 0.
+fn is_no_choice(number: u32) -> bool
+    ensures { result ≡ table.is_no_choice number }
+{
+    number > 1
+}
+
+/// Test 2: options that do not stand, or do not stand together; of a file call, a choice that is none.
 #[tactic(auto, unfolding(call_model::specs::Tests::wrong_options))]
 pub(crate) fn wrong_options(kind: Kind, x: &[u32; 32]) -> bool
     ensures { result ≡ table.wrong_options kind x.now }
@@ -103,6 +111,8 @@ pub(crate) fn wrong_options(kind: Kind, x: &[u32; 32]) -> bool
     match kind {
         Kind::Put => bad_put_options(argument(x, 0)),
         Kind::Get => bad_get_options(argument(x, 0)),
+        Kind::FileNew => is_no_choice(argument(x, 3)),
+        Kind::FilePut => is_no_choice(argument(x, 5)),
         _ => false,
     }
 }
@@ -134,7 +144,21 @@ pub(crate) fn wrong_child(kind: Kind, x: &[u32; 32]) -> bool
     }
 }
 
-/// Test 4: a range of Put or Get, or the bytes of console out.
+// A file's name that passes the end of memory.
+fn wrong_name(x: &[u32; 32]) -> bool
+    ensures { result ≡ table.wrong_name x.now }
+{
+    passes_end(argument(x, 1), argument(x, 2))
+}
+
+// The same of a name, or of the data or the buffer behind it.
+fn wrong_data(x: &[u32; 32]) -> bool
+    ensures { result ≡ table.wrong_data x.now }
+{
+    wrong_name(x) || passes_end(argument(x, 3), argument(x, 4))
+}
+
+/// Test 4: a range of Put or Get, the bytes of console out, or what a file call names.
 #[tactic(auto, unfolding(call_model::specs::Tests::wrong_range))]
 pub(crate) fn wrong_range(kind: Kind, x: &[u32; 32]) -> bool
     ensures { result ≡ table.wrong_range kind x.now }
@@ -147,6 +171,8 @@ pub(crate) fn wrong_range(kind: Kind, x: &[u32; 32]) -> bool
             argument(x, 5),
         ),
         Kind::ConsoleOut => passes_end(argument(x, 1), argument(x, 2)),
+        Kind::FilePut | Kind::FileGet => wrong_data(x),
+        Kind::FileNew | Kind::FileLength | Kind::FileDelete => wrong_name(x),
         _ => false,
     }
 }
@@ -162,13 +188,29 @@ pub(crate) fn outside_root(kind: Kind, is_root: bool) -> bool
     }
 }
 
+fn is_too_long(length: u32) -> bool
+    ensures { result ≡ nat_lt greatest_length length }
+{
+    length > GREATEST_LENGTH
+}
+
+// The name of a file that is too long, or the data or the buffer behind it.
+fn long_data(x: &[u32; 32]) -> bool
+    ensures { result ≡ table.long_data x.now }
+{
+    is_too_long(argument(x, 2)) || is_too_long(argument(x, 4))
+}
+
 /// Test 7: a length above the greatest.
 #[tactic(auto, unfolding(call_model::specs::Tests::too_long))]
 pub(crate) fn too_long(kind: Kind, x: &[u32; 32]) -> bool
     ensures { result ≡ table.too_long kind x.now }
 {
     match kind {
-        Kind::ConsoleOut => argument(x, 2) > GREATEST_LENGTH,
+        Kind::ConsoleOut | Kind::FileNew | Kind::FileLength | Kind::FileDelete => {
+            is_too_long(argument(x, 2))
+        }
+        Kind::FilePut | Kind::FileGet => long_data(x),
         _ => false,
     }
 }

@@ -16,6 +16,11 @@ pub(crate) fn kind_of(number: u32) -> Option<Kind>
         17 => Some(Kind::Wait),
         18 => Some(Kind::Tfork),
         19 => Some(Kind::Tjoin),
+        24 => Some(Kind::FileNew),
+        25 => Some(Kind::FilePut),
+        26 => Some(Kind::FileGet),
+        27 => Some(Kind::FileLength),
+        28 => Some(Kind::FileDelete),
         _ => None,
     }
 }

@@ -6,7 +6,7 @@ pub const GREATEST_CHILD: u32 = 65_535;
 /// The depth of the deepest spaces; the root is at depth 0.
 pub const GREATEST_DEPTH: u8 = 8;
 
-/// The greatest length, in bytes, that a call of a device names.
+/// The greatest length, in bytes, that a call of a device or on a file names.
 pub const GREATEST_LENGTH: u32 = 65_536;
 
 /// The bytes of a register block.

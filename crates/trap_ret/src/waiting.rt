@@ -39,6 +39,6 @@ pub fn awaits(call: Call) -> Awaits
             one(child, Reach::Itself)
         }
         Call::Wait { child } => one(child, Reach::Whole),
-        Call::Ret { .. } | Call::ConsoleOut { .. } => ArrayVec::new(),
+        Call::Ret { .. } | Call::ConsoleOut { .. } | Call::File(_) => ArrayVec::new(),
     }
 }
