@@ -8,6 +8,7 @@ ghost use Rattle.space_model.specs.Event.{MayPay};
 ghost use Rattle.space_step.specs.Steps.{Acts, Does, Steps};
 
 use crate::event::Next;
+use crate::files::file_call;
 use space_model::Cause;
 use space_tree::Top;
 use std::alloc::{AllocError, Global};
@@ -56,6 +57,7 @@ fn act(top: &mut Top, accepted: AcceptedCall) -> Result<Next, AllocError>
             top.stop(Cause::Ret, value);
         }
         Call::ConsoleOut { addr, len } => console_out(top, addr, len)?,
+        Call::File(call) => file_call(top, call)?,
         _ => return Ok(Next::Meet(accepted)),
     }
     Ok(Next::Local)

@@ -4,6 +4,7 @@
 mod calling;
 mod decode_cache;
 mod event;
+mod files;
 mod paying;
 mod peeking;
 mod run;

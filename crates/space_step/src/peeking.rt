@@ -40,7 +40,7 @@ fn answer_of(accepted: AcceptedCall) -> Next
     ensures { (t : model.Top) → IsAnswer result (effect_of t accepted) }
 {
     match accepted.call() {
-        Call::Ret { .. } | Call::ConsoleOut { .. } => Next::Local,
+        Call::Ret { .. } | Call::ConsoleOut { .. } | Call::File(_) => Next::Local,
         _ => Next::Meet(accepted),
     }
 }
