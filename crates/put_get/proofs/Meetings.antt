@@ -6,7 +6,7 @@ use Rattle.std.specs.BTreeMap.{is_at}
 use Rattle.std.specs.Map.{lookup}
 use Rattle.call_model.specs.declared.Transfer.{Transfer}
 use Rattle.call_model.specs.declared.Call.{Call}
-use Rattle.call_model.specs.declared.Call.TheVariants.{Put, PutTree, Get, GetTree, Ret, ConsoleOut, Fork, Wait, Tfork, Tjoin}
+use Rattle.call_model.specs.declared.Call.TheVariants.{Put, PutTree, Get, GetTree, Ret, ConsoleOut, Fork, Wait, Tfork, Tjoin, File}
 use Rattle.call_model.specs.Options.{has}
 use Rattle.space_model.specs.declared.Refusal.{Refusal}
 use Rattle.space_model.specs.declared.Cause.TheVariants.{Conflict}
@@ -15,7 +15,8 @@ use Rattle.space_model.specs.Change.{after_payment, stop, after_success}
 use Rattle.space_model.specs.Call.{Seen, edit, change, seen_of, apply_meeting}
 use Rattle.space_model.specs.Event.{MayPay}
 use Rattle.space_model.specs.Beginning.{fresh_top}
-use Rattle.space_model.specs.Meeting.{or_fresh, awaits, refusals, first_refusal, action, unless_refused, meet, MayMeet}
+use Rattle.space_model.specs.Refusals.{first_refusal}
+use Rattle.space_model.specs.Meeting.{or_fresh, awaits, refusals, action, unless_refused, meet, MayMeet}
 use Rattle.space_model.specs.Part.{Part, part_if, with_parts, get_parts, child_after, caller_after}
 use Rattle.space_model.specs.Sound.{IsSoundAt}
 use Rattle.space_model.proofs.Entries.{find_entries}
@@ -173,6 +174,7 @@ early_then levels (Wait n) t seen h = h
 early_then levels (Tfork n) t seen h = h
 early_then levels (Ret value) t seen h = h
 early_then levels (ConsoleOut addr len) t seen h = h
+early_then levels (File call) t seen h = h
 
 early_stops : (levels : ℕ) (k : Call) (t : Top) (seen : List Seen) (r : Refusal) → first_refusal (early_refusals levels k t seen) ≡ Some r → first_refusal (refusals levels k t seen) ≡ Some r
 early_stops levels (Get x) t seen r h = three_stops _ _ _ r h
@@ -185,6 +187,7 @@ early_stops levels (Wait n) t seen r h = h
 early_stops levels (Tfork n) t seen r h = h
 early_stops levels (Ret value) t seen r h = h
 early_stops levels (ConsoleOut addr len) t seen r h = h
+early_stops levels (File call) t seen r h = h
 
 unless_is : (o : Option Refusal) (k : Call) (s : Space)
     → unless_conflict o k s ≡ apply_meeting (unless_refused o (after_payment (top_of s) (top_of s)) (action k (after_payment (top_of s) (top_of s)) (seen_of (awaits k) (children_of s)))) (children_of s)

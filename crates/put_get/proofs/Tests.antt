@@ -10,7 +10,8 @@ use Rattle.space_model.specs.declared.Refusal.{Refusal}
 use Rattle.space_model.specs.declared.Cause.TheVariants.{LoadFault, StoreFault}
 use Rattle.space_model.specs.Space.{Space, space, Children, Top, top_of, children_of, find}
 use Rattle.space_model.specs.Change.{after_payment}
-use Rattle.space_model.specs.Meeting.{or_fresh, block_refusal, snapshot_refusal, height_refusal, refusal_if, first_refusal}
+use Rattle.space_model.specs.Meeting.{or_fresh, block_refusal, snapshot_refusal, height_refusal, refusal_if}
+use Rattle.space_model.specs.Refusals.{first_refusal}
 use Rattle.put_get.specs.Meetings.{snapshot_in, early_get, early_of}
 
 -- a call with one test is stopped by that test

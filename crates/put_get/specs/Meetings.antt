@@ -13,7 +13,8 @@ use Rattle.space_model.specs.Change.{stop, after_payment}
 use Rattle.space_model.specs.Call.{Seen, first_top, seen_of, apply_meeting}
 use Rattle.space_model.specs.Part.{destination_page, page_count}
 use Rattle.space_model.specs.Runtime.{shared_pages}
-use Rattle.space_model.specs.Meeting.{awaits, or_fresh, block_refusal, snapshot_refusal, conflict_refusal, refusal_if, refusals, first_refusal, action}
+use Rattle.space_model.specs.Meeting.{awaits, or_fresh, block_refusal, snapshot_refusal, conflict_refusal, refusal_if, refusals, action}
+use Rattle.space_model.specs.Refusals.{first_refusal}
 use Rattle.snapshot.specs.declared.fault.MergeError.{MergeError}
 use Rattle.snapshot.specs.declared.fault.MergeError.TheVariants as faults
 
