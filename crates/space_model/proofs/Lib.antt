@@ -3,3 +3,4 @@ pub mod Children
 pub mod Parts
 pub mod Sound
 pub mod Next
+pub mod NoFiles
