@@ -10,7 +10,8 @@ use Rattle.call_model.specs.declared.Call.TheVariants.{Tjoin}
 use Rattle.space_model.specs.Space.{Space, space, Children, Top, top_of, find}
 use Rattle.space_model.specs.Change.{after_payment, after_success, stop}
 use Rattle.space_model.specs.Call.{apply_meeting}
-use Rattle.space_model.specs.Meeting.{or_fresh, MayMeet, test_refusal, unless_refused, snapshot_refusal, conflict_refusal, first_refusal}
+use Rattle.space_model.specs.Refusals.{first_refusal}
+use Rattle.space_model.specs.Meeting.{or_fresh, MayMeet, test_refusal, unless_refused, snapshot_refusal, conflict_refusal}
 use Rattle.space_model.specs.Beginning.{fresh_top}
 use Rattle.space_model.specs.Event.{MayPay}
 use Rattle.space_model.specs.Sound.{IsSoundAt}

@@ -4,7 +4,6 @@ use Rattle.std.specs.Prelude.{Bool, true, false, option_map, Result, Ok, Err, On
 use Rattle.std.proofs.lemmas.Result.{on_ok_weaker, on_err_weaker}
 use Rattle.call_model.specs.declared.Call.{Call}
 use Rattle.call_model.specs.declared.Call.TheVariants.{Wait}
-use Rattle.space_model.specs.declared.Status.{Status}
 use Rattle.space_model.specs.Space.{Space, space, Children, Top, top_of, children_of, find}
 use Rattle.space_model.specs.Change.{after_payment, after_success}
 use Rattle.space_model.specs.Call.{edit, change, take_away, seen_of, apply_meeting}
@@ -14,7 +13,7 @@ use Rattle.space_model.specs.Meeting.{or_fresh, awaits, action, meet, MayMeet}
 use Rattle.space_model.specs.Runtime.{after_fork, after_thread_fork, after_wait}
 use Rattle.space_model.specs.Sound.{IsSoundAt}
 use Rattle.space_model.proofs.Sound.{meeting_sound}
-use Rattle.user_runtime.specs.Calls.{after_fork_of, fork_call, with_action, status_in, with_stop, with_no_lost_files}
+use Rattle.user_runtime.specs.Calls.{after_fork_of, fork_call, with_action}
 
 -- a caller that has paid reads the same child
 pub or_fresh-paid : (t : Top) (o : Option Top) → 0 < t.fuel → or_fresh (after_payment t t) o ≡ or_fresh t o
@@ -48,25 +47,26 @@ fork_met thread n s t u cs ds view some edited went =
     ∙ fork_acts thread n p cs
     ∙ ap (with_action (fork_call thread n)) view
 
--- a child is read by its status, also where it is missing
-status_read : (u : Top) (o : Option Space) → (or_fresh u (option_map top_of o)).status ≡ status_in o
-status_read u None = refl
-status_read u (Some c) = refl
-
--- the caller after it has waited for a child of this status, which it has not paid for yet
-abbrev with_wait : Status → Top → Top
-with_wait status t = after_success (after_payment t (with_no_lost_files (with_stop status t)))
-
-wait_acts : (n : ℕ) (t : Top) (cs : Children) → space (with_wait ((or_fresh (after_payment t t) (option_map top_of (find n cs))).status) t) (edit (take_away n) cs) ≡ with_action (Wait n) (space t cs)
+-- a caller may pay before it waits or behind that
+wait_paid : (c t : Top) → after_payment (after_wait c t) (after_wait c t) ≡ after_wait c (after_payment t t)
 unfolding after_wait
+wait_paid c t = refl
+
+-- the caller and its children after a wait
+abbrev with_wait : ℕ → Top → Children → Top → Space
+with_wait n p cs c = space (after_success (after_wait c p)) (edit (take_away n) cs)
+
+wait_acts : (n : ℕ) (t : Top) (cs : Children) → with_wait n (after_payment t t) cs (or_fresh (after_payment t t) (option_map top_of (find n cs))) ≡ with_action (Wait n) (space t cs)
 wait_acts n t cs = refl
 
-pub wait_met : (n : ℕ) (s : Space) (t u v : Top) (cs ds : Children) (status : Status) → space t cs ≡ s → status ≡ status_in (find n cs) → ds ≡ edit (take_away n) cs
-    → u ≡ with_no_lost_files (with_stop status t) → v ≡ after_success (after_payment u u) → space v ds ≡ with_action (Wait n) s
-wait_met n s t u v cs ds status view read gone told went =
-    let o = find n cs in
-    ap (λ x. space x ds) (went ∙ ap (λ x. after_success (after_payment x x)) told) ∙ ap (space (with_wait status t)) gone
-    ∙ ap (λ x. space (with_wait x t) (edit (take_away n) cs)) (read ∙ sym (status_read (after_payment t t) o))
+pub wait_met : (n : ℕ) (s : Space) (t u v : Top) (cs ds : Children) → space t cs ≡ s → 0 < (top_of s).fuel → u ≡ after_wait (or_fresh t (option_map top_of (find n cs))) t
+    → ds ≡ edit (take_away n) cs → v ≡ after_success (after_payment u u) → space v ds ≡ with_action (Wait n) s
+wait_met n s t u v cs ds view some waited gone went =
+    let o = option_map top_of (find n cs) in
+    let fuel : 0 < t.fuel = subst (λ r. 0 < (top_of r).fuel) (sym view) some in
+    ap (λ x. space x ds) (went ∙ ap (λ x. after_success (after_payment x x)) waited ∙ ap after_success (wait_paid (or_fresh t o) t))
+    ∙ ap (space (after_success (after_wait (or_fresh t o) (after_payment t t)))) gone
+    ∙ ap (with_wait n (after_payment t t) cs) (sym (or_fresh-paid t o fuel))
     ∙ wait_acts n t cs ∙ ap (with_action (Wait n)) view
 
 -- a space that met a child, or is as it was, is as sound as it was

@@ -8,12 +8,11 @@ use Rattle.space_mem.specs.Held.{Held, Covers, all_pages}
 use Rattle.space_model.specs.Space.{Space, Top, top_of, children_of}
 use Rattle.space_model.specs.Change.{after_payment}
 use Rattle.space_model.specs.Call.{seen_of, apply_meeting}
+use Rattle.space_model.specs.Files.{with_file_bases}
 use Rattle.space_model.specs.Meeting.{awaits, action}
 use Rattle.space_model.specs.Part.{Part, registers_part}
 use Rattle.space_model.specs.Block.{stop_number, stop_value}
 use Rattle.space_model.specs.declared.Status.{Status}
-use Rattle.space_model.specs.declared.Status.TheVariants.{Stopped}
-use Rattle.space_model.specs.declared.Cause.TheVariants.{Fresh}
 use Rattle.instruction_model.specs.Outcome.{with_register}
 use Rattle.space_model.specs.Runtime.{after_fork, after_thread_fork}
 
@@ -30,6 +29,10 @@ abbrev pub Suits : Held → Option Held → Type 0
 Suits h None = h.dirty ≡ all_pages
 Suits h (Some s) = Covers h s.memory
 
+-- the memory of a child that is forked, by its caller's: in a process's each file has its base
+abbrev pub forked_memory : Bool → Memory → Memory
+forked_memory thread m = if thread then m else with_file_bases m
+
 -- the child of a caller after a fork, of a thread or of a process
 abbrev pub after_fork_of : Bool → Top → Part
 after_fork_of thread t = if thread then after_thread_fork t else after_fork t
@@ -38,15 +41,6 @@ after_fork_of thread t = if thread then after_thread_fork t else after_fork t
 abbrev pub fork_call : Bool → ℕ → Call
 fork_call thread n = if thread then Tfork n else Fork n
 
--- the status of a child that was looked up; a missing one is read as one that has never run
-abbrev pub status_in : Option Space → Status
-status_in None = Stopped Fresh 0
-status_in (Some s) = let t = top_of s in t.status
-
 -- how a child has stopped: a1 is the number of the cause, a2 the value
 abbrev pub with_stop : Status → Part
 with_stop status t = registers_part (with_register (with_register t.registers 11 (stop_number status)) 12 (stop_value status)) t
-
--- a3 is 0: no file of the child was lost
-abbrev pub with_no_lost_files : Part
-with_no_lost_files t = registers_part (with_register t.registers 13 0) t

@@ -5,13 +5,15 @@ ghost use Rattle.space_model.specs.Beginning.{fresh_top};
 ghost use Rattle.space_model.specs.Call.{edit, change};
 ghost use Rattle.space_model.specs.Change.{after_payment};
 ghost use Rattle.space_model.specs.Event.{MayPay};
+ghost use Rattle.space_model.specs.Files.{with_file_bases};
 ghost use Rattle.space_model.specs.Meeting.{MayMeet, meet, or_fresh};
 ghost use Rattle.space_model.specs.Runtime as runtime;
 ghost use Rattle.space_model.specs.Sound.{IsSoundAt};
 ghost use Rattle.space_model.specs.Space.{space, none, children_from, children_of, find, top_of};
 ghost use Rattle.space_mem.specs.Held.{all_pages};
-ghost use Rattle.user_runtime.specs.Calls.{Suits, after_fork_of, fork_call, with_action, memory_of};
+ghost use Rattle.user_runtime.specs.Calls.{Suits, after_fork_of, fork_call, forked_memory, with_action, memory_of};
 
+use memory_files::mark_base;
 use put_get::succeed;
 use rv_exec::Regs;
 use snapshot::take;
@@ -38,9 +40,10 @@ fn keep(snapshot: Option<Mem>, kept: &mut Option<Mem>)
     }
 }
 
-// A child becomes what a fork makes of it, with a copy of its caller's memory, and another one as its snapshot where it is a thread.
+// A child becomes what a fork makes of it, with a copy of its caller's memory: a thread's has another one as its snapshot, a process's has
+// the base of each file.
 fn give(caller: &Top, memory: Mem, snapshot: Option<Mem>, child: &mut Top)
-    requires copy { memory.memory ≡ caller.now.memory }
+    requires copy { memory.memory ≡ forked_memory (is_some snapshot) caller.now.memory }
     requires kept { IfSome snapshot (λ s. s.memory ≡ caller.now.memory) }
     requires suits { Suits memory snapshot }
     ensures { child.new ≡ after_fork_of (is_some snapshot) caller.now child.old }
@@ -56,7 +59,7 @@ fn give(caller: &Top, memory: Mem, snapshot: Option<Mem>, child: &mut Top)
 
 // The same, and not those below it.
 fn give_top(caller: &Top, memory: Mem, snapshot: Option<Mem>, child: &mut Space)
-    requires copy { memory.memory ≡ caller.now.memory }
+    requires copy { memory.memory ≡ forked_memory (is_some snapshot) caller.now.memory }
     requires kept { IfSome snapshot (λ s. s.memory ≡ caller.now.memory) }
     requires suits { Suits memory snapshot }
     ensures { child.new ≡ space (after_fork_of (is_some snapshot) caller.now (top_of child.old)) (children_of child.old) }
@@ -66,7 +69,7 @@ fn give_top(caller: &Top, memory: Mem, snapshot: Option<Mem>, child: &mut Space)
 
 // The child that a fork makes.
 fn make_child(alloc: Global, caller: &Top, memory: Mem, snapshot: Option<Mem>) -> Space
-    requires copy { memory.memory ≡ caller.now.memory }
+    requires copy { memory.memory ≡ forked_memory (is_some snapshot) caller.now.memory }
     requires kept { IfSome snapshot (λ s. s.memory ≡ caller.now.memory) }
     requires suits { Suits memory snapshot }
     ensures { result ≡ space (after_fork_of (is_some snapshot) caller.now (fresh_top (caller.now.fuel + caller.now.used))) none }
@@ -85,7 +88,7 @@ fn give_child(
     snapshot: Option<Mem>,
     children: &mut BTreeMap<u16, Space>,
 ) -> Result<(), AllocError>
-    requires copy { memory.memory ≡ caller.now.memory }
+    requires copy { memory.memory ≡ forked_memory (is_some snapshot) caller.now.memory }
     requires kept { IfSome snapshot (λ s. s.memory ≡ caller.now.memory) }
     requires suits { Suits memory snapshot }
     ensures ok { let cs = children_from children.old.entries in OnOk result (children_from children.new.entries ≡ edit (change number (after_fork_of (is_some snapshot) caller.now (or_fresh caller.now (option_map top_of (find number cs))))) cs) }
@@ -112,7 +115,7 @@ fn fork_by(
     snapshot: Option<Mem>,
     space: &mut Space,
 ) -> Result<(), AllocError>
-    requires copy { memory.memory ≡ memory_of space.old }
+    requires copy { memory.memory ≡ forked_memory (is_some snapshot) (memory_of space.old) }
     requires kept { IfSome snapshot (λ s. s.memory ≡ memory_of space.old) }
     requires suits { Suits memory snapshot }
     requires pays { MayPay (top_of space.old) }
@@ -131,23 +134,32 @@ fn fork_by(
     Ok(())
 }
 
-// A copy of a space's memory, of which each page may differ from any snapshot.
+// A copy of a space's memory.
 #[tactic(auto, using(space_mem::proofs::Dirty::covers_in_same))]
 fn memory_copy(space: &mut Space) -> Result<Mem, AllocError>
     ensures equal { IfOk result (λ m. m.memory ≡ memory_of space.old) }
+    ensures same { space.new ≡ space.old }
+{
+    space.top.memory.share()
+}
+
+// A copy of a space's memory in which each file has its base, and of which each page may differ from any snapshot.
+fn process_memory(space: &mut Space) -> Result<Mem, AllocError>
+    ensures based { IfOk result (λ m. m.memory ≡ with_file_bases (memory_of space.old)) }
     ensures all { IfOk result (λ m. m.dirty ≡ all_pages) }
     ensures same { space.new ≡ space.old }
 {
-    let mut memory = space.top.memory.share()?;
+    let mut memory = memory_copy(space)?;
+    mark_base(&mut memory)?;
     memory.mark_all();
     Ok(memory)
 }
 
 /// Fork of a process (OSDI 2010, "Efficient System-Enforced Deterministic Parallelism", the section on emulating high-level abstractions), of a
 /// caller at this depth, 0 to 7, that has not paid yet, once the child, 0 to 65,535, has stopped or is missing. The child, made where it is
-/// missing, gets the caller's registers and a copy of all of its memory, and runs without a limit behind the call, with a0 = 1; its own
-/// children, its snapshot, fuel and use stay. The caller pays one unit and goes on with a0 = 0. The one error is want of memory: nothing is
-/// changed then.
+/// missing, gets the caller's registers and a copy of all of its memory, in which each file has its version and length as its base, and runs
+/// without a limit behind the call, with a0 = 1; its own children, its snapshot, fuel and use stay. The caller pays one unit and goes on with
+/// a0 = 0. The one error is want of memory: nothing is changed then.
 pub fn fork(alloc: Global, child: u16, depth: u8, space: &mut Space) -> Result<(), AllocError>
     requires depth { depth ≤ greatest_depth }
     requires may_meet { MayMeet (levels_below depth) (Fork child) }
@@ -156,13 +168,13 @@ pub fn fork(alloc: Global, child: u16, depth: u8, space: &mut Space) -> Result<(
     ensures err { OnErr result (space.new ≡ space.old) }
     ensures sound { (root : Bool) (fuel : ℕ) → IsSoundAt (levels_below depth) root fuel space.old → IsSoundAt (levels_below depth) root fuel space.new }
 {
-    let memory = memory_copy(space)?;
+    let memory = process_memory(space)?;
     fork_by(alloc, child, memory, None, space)
 }
 
 /// Fork of a thread that shares memory (OSDI 2010, "Efficient System-Enforced Deterministic Parallelism", the section on emulating high-level
-/// abstractions), of a caller at this depth, 0 to 7: as `fork`, but the child's new memory is kept as its snapshot too, for `tjoin` to merge
-/// against. The one error is want of memory: nothing is changed then.
+/// abstractions), of a caller at this depth, 0 to 7: as `fork`, but its files get no base, and the child's new memory is kept as its snapshot too,
+/// for `tjoin` to merge against. The one error is want of memory: nothing is changed then.
 pub fn tfork(alloc: Global, child: u16, depth: u8, space: &mut Space) -> Result<(), AllocError>
     requires depth { depth ≤ greatest_depth }
     requires may_meet { MayMeet (levels_below depth) (Tfork child) }

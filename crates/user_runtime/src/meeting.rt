@@ -37,6 +37,6 @@ pub fn meet(
         Call::Wait { child } => wait(alloc, child, depth, space),
         Call::Tfork { child } => tfork(alloc, child, depth, space),
         Call::Tjoin { child } => tjoin(alloc, child, depth, space),
-        Call::Ret { .. } | Call::ConsoleOut { .. } => unreachable!(),
+        Call::Ret { .. } | Call::ConsoleOut { .. } | Call::File(_) => unreachable!(),
     }
 }

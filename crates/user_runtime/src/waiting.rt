@@ -1,15 +1,17 @@
-ghost use Rattle.std.specs.Prelude.{◌≡◌, ◌-◌, ◌≤◌, ℕ, Bool, Ok, OnOk, OnErr};
+ghost use Rattle.std.specs.Prelude.{◌≡◌, ◌-◌, ◌≤◌, ℕ, Bool, OnOk, OnErr, option_map};
 ghost use Rattle.call_model.specs.Limits.{greatest_depth, levels_below};
 ghost use Rattle.call_model.specs.declared.Call.TheVariants.{Wait};
+ghost use Rattle.space_model.specs.Beginning.{fresh_top};
 ghost use Rattle.space_model.specs.Call.{edit, take_away};
-ghost use Rattle.space_model.specs.Change.{after_payment, after_success};
+ghost use Rattle.space_model.specs.Change.{after_payment};
 ghost use Rattle.space_model.specs.Event.{MayPay};
-ghost use Rattle.space_model.specs.Meeting.{MayMeet, meet};
+ghost use Rattle.space_model.specs.Meeting.{MayMeet, meet, or_fresh};
+ghost use Rattle.space_model.specs.Runtime.{files_part, after_wait};
 ghost use Rattle.space_model.specs.Sound.{IsSoundAt};
 ghost use Rattle.space_model.specs.Space.{children_from, children_of, find, top_of};
-ghost use Rattle.user_runtime.specs.Calls.{status_in, with_stop, with_no_lost_files};
 
 use crate::stopping::report;
+use memory_files::reconcile;
 use put_get::succeed;
 use space_tree::{Cause, Space, Status, Top};
 use std::alloc::{AllocError, Global};
@@ -21,52 +23,77 @@ const FRESH: Status = Status::Stopped {
     value: 0,
 };
 
-// How many files of the child found no place: none, since there are no files.
-const LOST_FILES: u32 = 0;
-
-// The status of a child that was looked up; a missing one is read as one that has never run.
-fn status_of(child: &Option<Space>) -> Status
-    ensures { result ≡ status_in child.now }
+// The caller takes over what a child changed in its files; a3 is how many of them found no free slot. At an error it is as it was.
+#[tactic(auto, using(space_mem::proofs::Dirty::covers_in_after))]
+fn take_over(child: &Top, caller: &mut Top) -> Result<(), AllocError>
+    ensures ok { OnOk result (caller.new ≡ files_part child.now caller.old) }
+    ensures err { OnErr result (caller.new ≡ caller.old) }
 {
-    match child {
-        Some(child) => child.top().status,
-        None => FRESH,
+    let left_out = reconcile(&mut caller.memory, &child.memory)?;
+    caller.registers.set_register(13, left_out);
+    Ok(())
+}
+
+// The caller has waited for a child. At an error it is as it was.
+#[tactic(auto, unfolding(space_model::specs::Runtime::after_wait))]
+fn wait_child(child: &Top, caller: &mut Top) -> Result<(), AllocError>
+    ensures ok { OnOk result (caller.new ≡ after_wait child.now caller.old) }
+    ensures err { OnErr result (caller.new ≡ caller.old) }
+{
+    take_over(child, caller)?;
+    report(child.status, caller);
+    Ok(())
+}
+
+// The caller has waited for a child that is missing: it is read as one that has never run, which has no files.
+fn wait_missing(caller: &mut Top)
+    ensures { (fuel : ℕ) → caller.new ≡ after_wait (fresh_top fuel) caller.old }
+{
+    caller.registers.set_register(13, 0);
+    report(FRESH, caller);
+}
+
+// The caller has waited for the child of that number. At an error it is as it was.
+fn wait_number(
+    number: u16,
+    caller: &mut Top,
+    children: &BTreeMap<u16, Space>,
+) -> Result<(), AllocError>
+    ensures ok { OnOk result (caller.new ≡ after_wait (or_fresh caller.old (option_map top_of (find number (children_from children.now.entries)))) caller.old) }
+    ensures err { OnErr result (caller.new ≡ caller.old) }
+{
+    match children.get(&number) {
+        Some(child) => wait_child(child.top(), caller),
+        None => {
+            wait_missing(caller);
+            Ok(())
+        }
     }
 }
 
-// The child of that number goes, with all below it; its status comes back.
-fn take_away(children: &mut BTreeMap<u16, Space>, number: u16) -> Status
-    ensures status { result ≡ status_in (find number (children_from children.old.entries)) }
-    ensures gone { children_from children.new.entries ≡ edit (take_away number) (children_from children.old.entries) }
+// The child of that number goes, with all below it.
+fn take_away(children: &mut BTreeMap<u16, Space>, number: u16)
+    ensures { children_from children.new.entries ≡ edit (take_away number) (children_from children.old.entries) }
 {
-    let child = children.remove(&number);
-    status_of(&child)
-}
-
-// The caller has waited for a child of this status: a1 is the number of its cause, a2 the value, a3 is 0.
-fn report_wait(status: Status, caller: &mut Top)
-    ensures { caller.new ≡ with_no_lost_files (with_stop status caller.old) }
-{
-    report(status, caller);
-    caller.registers.set_register(13, LOST_FILES);
+    children.remove(&number);
 }
 
 /// Wait for a process (OSDI 2010, "Efficient System-Enforced Deterministic Parallelism", the section on emulating high-level abstractions), of a
-/// caller at this depth, 0 to 8, that has not paid yet, once the child, 0 to 65,535, and all below it have stopped or it is missing. The
-/// child goes, with all below it. In a1 the caller gets the number of the cause with which it stopped, in a2 the value, and 0 in a3; a missing
-/// child is read as one that has never run (21 and 0). The caller pays one unit and goes on with a0 = 0. It takes no memory, so there is no
-/// error.
+/// caller at this depth, 0 to 8, that has not paid yet, once the child, 0 to 65,535, and all below it have stopped or it is missing. What the
+/// child changed in its files goes into the caller's files (`memory_files::reconcile`), and the child goes, with all below it. In a1 the caller
+/// gets the number of the cause with which it stopped, in a2 the value, in a3 how many of its files found no free slot; a missing child is read
+/// as one that has never run (21, 0 and 0). The caller pays one unit and goes on with a0 = 0. The one error is want of memory, which reconciling
+/// may come to: nothing is changed then.
 pub fn wait(_alloc: Global, child: u16, depth: u8, space: &mut Space) -> Result<(), AllocError>
     requires depth { depth ≤ greatest_depth }
     requires may_meet { MayMeet (levels_below depth) (Wait child) }
     requires may_pay { MayPay (top_of space.old) }
-    ensures done { result ≡ Ok tt }
     ensures ok { OnOk result (space.new ≡ meet (levels_below depth) (Wait child) (after_payment (top_of space.old) (top_of space.old)) (children_of space.old)) }
     ensures err { OnErr result (space.new ≡ space.old) }
     ensures sound { (root : Bool) (fuel : ℕ) → IsSoundAt (levels_below depth) root fuel space.old → IsSoundAt (levels_below depth) root fuel space.new }
 {
-    let status = take_away(&mut space.children, child);
-    report_wait(status, &mut space.top);
+    wait_number(child, &mut space.top, &space.children)?;
+    take_away(&mut space.children, child);
     succeed(&mut space.top);
     Ok(())
 }
