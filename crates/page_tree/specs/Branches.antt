@@ -30,6 +30,10 @@ branch_page b p = ref_page (block_at b (p / block_pages)) (p % block_pages)
 abbrev pub branch_own : Branch → ℕ → Bool
 branch_own b p = ref_own (block_at b (p / block_pages)) (p % block_pages)
 
+-- each block is uniform, of one permission
+abbrev pub IsUniformBranch : ℕ → Branch → Type 0
+IsUniformBranch permission b = (i : ℕ) → i < branch_blocks → block_at b i ≡ Uniform permission
+
 -- the same permissions and bytes
 pub record SameBelow (b c : Branch) : Type 0 where
   pub permission : (q : ℕ) → q < branch_pages → branch_permission c q ≡ branch_permission b q

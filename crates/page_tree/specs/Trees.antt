@@ -31,6 +31,10 @@ tree_page b p = limb_page (branch_at b (p / branch_pages)) (p % branch_pages)
 abbrev pub tree_own : Tree → ℕ → Bool
 tree_own b p = limb_own (branch_at b (p / branch_pages)) (p % branch_pages)
 
+-- each branch is uniform, of one permission
+abbrev pub IsUniformTree : ℕ → Tree → Type 0
+IsUniformTree permission t = (i : ℕ) → i < tree_branches → branch_at t i ≡ Uniform permission
+
 -- the same permissions and bytes
 pub record SameTree (b c : Tree) : Type 0 where
   pub permission : (q : ℕ) → q < tree_pages → tree_permission c q ≡ tree_permission b q

@@ -1,4 +1,4 @@
-ghost use Rattle.std.specs.Prelude.{◌≡◌, ℕ, ◌+◌, ◌<◌, ◌≤◌, ◌%◌, ◌&&◌, not, nat_lt, cond, IfOk, IsOk, OnOk, OnErr, IfSome, IsNone, IsTrue, IsFalse, false, true, length, slice_index, slice_index_or, slice_set};
+ghost use Rattle.std.specs.Prelude.{◌≡◌, ℕ, ◌+◌, ◌<◌, ◌≤◌, ◌%◌, ◌&&◌, not, nat_lt, cond, IfOk, IsOk, OnOk, OnErr, IfSome, IsNone, IsTrue, IsFalse, false, true, length, slice_index, slice_index_or};
 ghost use Rattle.page_store.specs.Bytes.{bytes_of, is_own, IsPage, with_bytes_in};
 ghost use Rattle.page_tree.specs.Blocks.{block_pages, page_in, permission_in, byte_in, is_own_in, IsWhole, AreWhole, IsShare, SameBytes, NoneOwn, IsBlankIn, within};
 
@@ -168,15 +168,6 @@ impl Block {
         ensures idle { is_own_in (page_in self.old j) ≡ true → IsOk result }
     {
         own_slot(&mut self.pages[j], alloc)
-    }
-
-    /// Keeps a page in the place of another.
-    pub fn put(&mut self, j: usize, page: PageRef)
-        requires { j < block_pages }
-        ensures permissions { self.new.permissions ≡ self.old.permissions }
-        ensures pages { self.new.pages ≡ slice_set self.old.pages j (Some page) }
-    {
-        self.pages[j] = Some(page);
     }
 }
 

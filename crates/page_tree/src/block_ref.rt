@@ -1,10 +1,12 @@
 ghost use Rattle.std.specs.Prelude.{◌≡◌, ℕ, ◌+◌, ◌%◌, ◌<◌, ◌≤◌, cond, IfOk, IsOk, OnOk, OnErr, IfSome, IsNone, false, true};
-ghost use Rattle.page_tree.specs.Blocks.{block_pages, SameBytes, NoneOwn, AreWhole};
+ghost use Rattle.std.specs.Arc.{arc_value};
+ghost use Rattle.page_tree.specs.Blocks.{block_pages, page_in, permission_in, SameBytes, NoneOwn, AreWhole, IsShare};
 ghost use Rattle.page_tree.specs.BlockRefs.{ref_permission, ref_page, ref_own, IsOwnBlock, AreWholeIn, SameRef, SameOwn, NoneOwnIn, IsOwnedToo, IsBlankAt};
 
 use crate::block::{BLOCK_PAGES, Block};
 use page_store::PageRef;
 use std::alloc::{AllocError, Global};
+use std::mem;
 use std::sync::Arc;
 
 /// What is kept of 64 pages.
@@ -56,7 +58,7 @@ impl BlockRef {
     {
         match self {
             BlockRef::Uniform(permission) => {
-                let block = Box::new(alloc, Block::uniform(*permission))?;
+                let block = box_uniform(*permission, alloc)?;
                 *self = BlockRef::Own(block);
                 Ok(())
             }
@@ -79,7 +81,7 @@ impl BlockRef {
             BlockRef::Uniform(permission) => Ok(BlockRef::Uniform(*permission)),
             BlockRef::Shared(block) => Ok(BlockRef::Shared(Arc::try_clone(block)?)),
             BlockRef::Own(block) => {
-                let copy = Box::new(alloc, block.share(alloc)?)?;
+                let copy = box_share(block, alloc)?;
                 Ok(BlockRef::Own(copy))
             }
         }
@@ -95,7 +97,7 @@ impl BlockRef {
     {
         if let BlockRef::Own(block) = self {
             block.freeze(alloc)?;
-            let shared = Arc::new(alloc, block.share(alloc)?)?;
+            let shared = arc_of(block, alloc)?;
             *self = BlockRef::Shared(shared);
         }
         Ok(())
@@ -134,7 +136,44 @@ impl BlockRef {
     }
 }
 
+// A block of pages that are not kept, each with the permission. Like the functions below it is not inlined, so that a loop over many
+// blocks does not clear its place on the stack at each turn.
+#[inline(never)]
+fn box_uniform(permission: u8, alloc: Global) -> Result<Box<Block, Global>, AllocError>
+    ensures pages { IfOk result (λ block. (j : ℕ) → page_in block.value j ≡ None) }
+    ensures permissions { IfOk result (λ block. (j : ℕ) → j < block_pages → permission_in block.value j ≡ permission) }
+{
+    let block = Box::new(alloc, Block::uniform(permission))?;
+    Ok(block)
+}
+
+// A block of the same pages: of shared ones another holder, of own ones copies.
+#[inline(never)]
+fn box_share(block: &Block, alloc: Global) -> Result<Box<Block, Global>, AllocError>
+    ensures { IfOk result (λ copy. IsShare block.now copy.value) }
+{
+    let copy = Box::new(alloc, block.share(alloc)?)?;
+    Ok(copy)
+}
+
+// Moves a block to where it can be shared, and leaves one of blank pages. At the one error, want of memory, it stays.
+#[inline(never)]
+fn arc_of(block: &mut Block, alloc: Global) -> Result<Arc<Block, Global>, AllocError>
+    ensures ok { IfOk result (λ arc. arc_value arc ≡ block.old) }
+    ensures err { OnErr result (block.new ≡ block.old) }
+{
+    let moved = mem::replace(block, Block::uniform(0));
+    match Arc::new(alloc, moved) {
+        Ok(arc) => Ok(arc),
+        Err(failed) => {
+            *block = failed.value;
+            Err(AllocError)
+        }
+    }
+}
+
 // A block of the same pages, none of which is an own one.
+#[inline(never)]
 fn copy_of(block: &Block, alloc: Global) -> Result<Box<Block, Global>, AllocError>
     ensures same { IfOk result (λ copy. SameBytes block.now copy.value) }
     ensures none { IfOk result (λ copy. NoneOwn copy.value) }

@@ -1,10 +1,12 @@
 ghost use Rattle.std.specs.Prelude.{◌≡◌, ℕ, ◌+◌, ◌%◌, ◌<◌, ◌≤◌, cond, IfOk, IsOk, OnOk, OnErr, IfSome, IsNone, false, true};
-ghost use Rattle.page_tree.specs.Branches.{branch_pages, SameBelow, NoneOwnBelow, AreWholeBelow};
+ghost use Rattle.std.specs.Arc.{arc_value};
+ghost use Rattle.page_tree.specs.Branches.{branch_pages, SameBelow, SameOwnBelow, NoneOwnBelow, AreWholeBelow, IsUniformBranch};
 ghost use Rattle.page_tree.specs.BranchRefs.{limb_permission, limb_page, limb_own, IsOwnBranch, AreWholeLimb, SameLimb, SameOwnLimb, NoneOwnLimb, IsOwnedLimb};
 
 use crate::branch::Branch;
 use page_store::PageRef;
 use std::alloc::{AllocError, Global};
+use std::mem;
 use std::sync::Arc;
 
 /// What is kept of 8,192 pages.
@@ -57,7 +59,7 @@ impl BranchRef {
     {
         match self {
             BranchRef::Uniform(permission) => {
-                let branch = Box::new(alloc, Branch::uniform(*permission))?;
+                let branch = box_uniform(*permission, alloc)?;
                 *self = BranchRef::Own(branch);
                 Ok(())
             }
@@ -80,7 +82,7 @@ impl BranchRef {
             BranchRef::Uniform(permission) => Ok(BranchRef::Uniform(*permission)),
             BranchRef::Shared(branch) => Ok(BranchRef::Shared(Arc::try_clone(branch)?)),
             BranchRef::Own(branch) => {
-                let copy = Box::new(alloc, branch.share(alloc)?)?;
+                let copy = box_share(branch, alloc)?;
                 Ok(BranchRef::Own(copy))
             }
         }
@@ -96,7 +98,7 @@ impl BranchRef {
     {
         if let BranchRef::Own(branch) = self {
             branch.freeze(alloc)?;
-            let shared = Arc::new(alloc, branch.share(alloc)?)?;
+            let shared = arc_of(branch, alloc)?;
             *self = BranchRef::Shared(shared);
         }
         Ok(())
@@ -119,7 +121,45 @@ impl BranchRef {
     }
 }
 
+// A branch of pages that are not kept, each with the permission. Like the functions below it is not inlined, so that a loop over many
+// of them does not clear its place on the stack at each turn.
+#[inline(never)]
+fn box_uniform(permission: u8, alloc: Global) -> Result<Box<Branch, Global>, AllocError>
+    ensures { IfOk result (λ branch. IsUniformBranch permission branch.value) }
+{
+    let branch = Box::new(alloc, Branch::uniform(permission))?;
+    Ok(branch)
+}
+
+// A branch of the same pages: of what is shared another holder, and copies of the rest.
+#[inline(never)]
+fn box_share(branch: &Branch, alloc: Global) -> Result<Box<Branch, Global>, AllocError>
+    ensures same { IfOk result (λ copy. SameBelow branch.now copy.value) }
+    ensures own { IfOk result (λ copy. SameOwnBelow branch.now copy.value) }
+    ensures whole { AreWholeBelow branch.now → IfOk result (λ copy. AreWholeBelow copy.value) }
+{
+    let copy = Box::new(alloc, branch.share(alloc)?)?;
+    Ok(copy)
+}
+
+// Moves a branch to where it can be shared, and leaves one of blank pages. At the one error, want of memory, it stays.
+#[inline(never)]
+fn arc_of(branch: &mut Branch, alloc: Global) -> Result<Arc<Branch, Global>, AllocError>
+    ensures ok { IfOk result (λ arc. arc_value arc ≡ branch.old) }
+    ensures err { OnErr result (branch.new ≡ branch.old) }
+{
+    let moved = mem::replace(branch, Branch::uniform(0));
+    match Arc::new(alloc, moved) {
+        Ok(arc) => Ok(arc),
+        Err(failed) => {
+            *branch = failed.value;
+            Err(AllocError)
+        }
+    }
+}
+
 // A branch of the same pages, none of which is an own one.
+#[inline(never)]
 fn copy_of(branch: &Branch, alloc: Global) -> Result<Box<Branch, Global>, AllocError>
     ensures same { IfOk result (λ copy. SameBelow branch.now copy.value) }
     ensures none { IfOk result (λ copy. NoneOwnBelow copy.value) }

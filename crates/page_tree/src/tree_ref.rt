@@ -1,10 +1,12 @@
 ghost use Rattle.std.specs.Prelude.{◌≡◌, ℕ, ◌+◌, ◌%◌, ◌<◌, ◌≤◌, cond, IfOk, IsOk, OnOk, OnErr, IfSome, IsNone, false, true};
-ghost use Rattle.page_tree.specs.Trees.{tree_pages, SameTree, NoneOwnTree, AreWholeTree};
+ghost use Rattle.std.specs.Arc.{arc_value};
+ghost use Rattle.page_tree.specs.Trees.{tree_pages, SameTree, SameOwnTree, NoneOwnTree, AreWholeTree, IsUniformTree};
 ghost use Rattle.page_tree.specs.TreeRefs.{root_permission, root_page, root_own, IsOwnTree, AreWholeRoot, SameRoot, SameOwnRoot, NoneOwnRoot, IsOwnedRoot};
 
 use crate::tree::Tree;
 use page_store::PageRef;
 use std::alloc::{AllocError, Global};
+use std::mem;
 use std::sync::Arc;
 
 /// What is kept of 1,048,576 pages.
@@ -57,7 +59,7 @@ impl TreeRef {
     {
         match self {
             TreeRef::Uniform(permission) => {
-                let tree = Box::new(alloc, Tree::uniform(*permission))?;
+                let tree = box_uniform(*permission, alloc)?;
                 *self = TreeRef::Own(tree);
                 Ok(())
             }
@@ -80,7 +82,7 @@ impl TreeRef {
             TreeRef::Uniform(permission) => Ok(TreeRef::Uniform(*permission)),
             TreeRef::Shared(tree) => Ok(TreeRef::Shared(Arc::try_clone(tree)?)),
             TreeRef::Own(tree) => {
-                let copy = Box::new(alloc, tree.share(alloc)?)?;
+                let copy = box_share(tree, alloc)?;
                 Ok(TreeRef::Own(copy))
             }
         }
@@ -96,7 +98,7 @@ impl TreeRef {
     {
         if let TreeRef::Own(tree) = self {
             tree.freeze(alloc)?;
-            let shared = Arc::new(alloc, tree.share(alloc)?)?;
+            let shared = arc_of(tree, alloc)?;
             *self = TreeRef::Shared(shared);
         }
         Ok(())
@@ -119,7 +121,45 @@ impl TreeRef {
     }
 }
 
+// A tree of pages that are not kept, each with the permission. Like the functions below it is not inlined, so that a loop over many
+// of them does not clear its place on the stack at each turn.
+#[inline(never)]
+fn box_uniform(permission: u8, alloc: Global) -> Result<Box<Tree, Global>, AllocError>
+    ensures { IfOk result (λ tree. IsUniformTree permission tree.value) }
+{
+    let tree = Box::new(alloc, Tree::uniform(permission))?;
+    Ok(tree)
+}
+
+// A tree of the same pages: of what is shared another holder, and copies of the rest.
+#[inline(never)]
+fn box_share(tree: &Tree, alloc: Global) -> Result<Box<Tree, Global>, AllocError>
+    ensures same { IfOk result (λ copy. SameTree tree.now copy.value) }
+    ensures own { IfOk result (λ copy. SameOwnTree tree.now copy.value) }
+    ensures whole { AreWholeTree tree.now → IfOk result (λ copy. AreWholeTree copy.value) }
+{
+    let copy = Box::new(alloc, tree.share(alloc)?)?;
+    Ok(copy)
+}
+
+// Moves a tree to where it can be shared, and leaves one of blank pages. At the one error, want of memory, it stays.
+#[inline(never)]
+fn arc_of(tree: &mut Tree, alloc: Global) -> Result<Arc<Tree, Global>, AllocError>
+    ensures ok { IfOk result (λ arc. arc_value arc ≡ tree.old) }
+    ensures err { OnErr result (tree.new ≡ tree.old) }
+{
+    let moved = mem::replace(tree, Tree::uniform(0));
+    match Arc::new(alloc, moved) {
+        Ok(arc) => Ok(arc),
+        Err(failed) => {
+            *tree = failed.value;
+            Err(AllocError)
+        }
+    }
+}
+
 // A tree of the same pages, none of which is an own one.
+#[inline(never)]
 fn copy_of(tree: &Tree, alloc: Global) -> Result<Box<Tree, Global>, AllocError>
     ensures same { IfOk result (λ copy. SameTree tree.now copy.value) }
     ensures none { IfOk result (λ copy. NoneOwnTree copy.value) }
