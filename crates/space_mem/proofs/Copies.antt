@@ -14,7 +14,7 @@ use Rattle.page_tree.specs.TreeRefs.{root_permission, root_page, root_own, root_
 use Rattle.space_mem.specs.declared.table.PageTable.{PageTable}
 use Rattle.space_mem.specs.Held.{Marks, OwnSameOutside}
 use Rattle.space_mem.specs.Moves.{HasMoved}
-use Rattle.space_mem.specs.Tables.{IsTable, held_of, memory_of}
+use Rattle.space_mem.specs.Tables.{IsBare, IsTable, held_of, memory_of}
 use Rattle.space_mem.proofs.Tables.{byte_at-of, byte_at-high, byte_at-page, permission_at-of, permission_at-high, memory_is, memory_same, owned_at, owned_high, owned_same, marked_at, marked_same, same_held}
 
 pub at_error : {T E : Type 0} (r : Result T E) (P : Type 0) → P → OnErr r P
@@ -103,9 +103,13 @@ marked_part first end t u s le same permitted = record {
   other = λ p below out. permitted.permission p below ∙ ap (λ b. cond b 1 (root_permission u p)) (out_of_range first end p out) ∙ same.permission p below;
 }
 
+-- marks that were made ready and set have no bytes
+pub marked_bare : (first end : ℕ) (t u s : TreeRef) → SameRow 1048576 (root_row t) (root_row u) → IsPermittedRow 1048576 first end 1 (root_row u) (root_row s) → IsBare t → IsBare s
+marked_bare first end t u s same permitted bare p k below = ap (λ o. byte_in o k) (permitted.page p below) ∙ same.byte p k below ∙ bare p k below
+
 -- what a table with such pages keeps
-pub copied_table : (from first end : ℕ) (source t s : PageTable) → end ≤ 1048576 → from + (end - first) ≤ 1048576 → IsTable source → IsTable t → IsCopied from first end source.pages t.pages s.pages → IsMarked first end t.dirty s.dirty → AreWholeRoot s.pages → IsTable s
-copied_table from first end source t s le reach origin table copied marked whole = record {
+pub copied_table : (from first end : ℕ) (source t s : PageTable) → end ≤ 1048576 → from + (end - first) ≤ 1048576 → IsTable source → IsTable t → IsCopied from first end source.pages t.pages s.pages → IsMarked first end t.dirty s.dirty → AreWholeRoot s.pages → IsBare s.dirty → IsTable s
+copied_table from first end source t s le reach origin table copied marked whole bare = record {
   whole = whole;
   permission = λ p below. elim (side first end p) [
     | inl at ↦ (let bound = origin.permission (from + (p - first)) (omega (arith, at.0, at.1)) in let e = copied.permission p at.0 at.1 in omega (arith, bound, e))
@@ -115,6 +119,7 @@ copied_table from first end source t s le reach origin table copied marked whole
     | inl at ↦ marked.here p at.0 at.1
     | inr out ↦ marked.other p below out ∙ table.marked p below (sym (copied.own p below out) ∙ own)
   ];
+  bare = bare;
 }
 
 pub copied_memory : (from first end : ℕ) (source t s : TreeRef) → first ≤ end → end ≤ 1048576 → from + (end - first) ≤ 1048576 → IsCopied from first end source t s → memory_of s ≡ with_copies (memory_of t) (memory_of source) from first (end - first)

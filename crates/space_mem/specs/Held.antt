@@ -75,6 +75,7 @@ memory_in (Some h) = Some h.memory
 pub record IsNextDirty (h : Held) (n page : ℕ) : Type 0 where
   pub above : n ≤ page
   pub below : page < pages
+  pub dirty : IsClean h page → ⊥
   pub clean : (q : ℕ) → n ≤ q → q < page → IsClean h q
 
 -- no page from n on and before another is dirty

@@ -34,12 +34,17 @@ marked_of t = with_row no_values 0 (root_permission t) pages
 abbrev pub held_of : PageTable → Held
 held_of t = record { memory = memory_of t.pages; owned = owned_of t.pages; dirty = marked_of t.dirty }
 
--- what every page table keeps: each page that is kept has the bytes of a page, permissions are at most 3, and each page that is owned is
--- marked as dirty
+-- a tree that keeps no byte other than 0
+abbrev pub IsBare : TreeRef → Type 0
+IsBare t = (p k : ℕ) → p < pages → byte_in (root_page t p) k ≡ 0
+
+-- what every page table keeps: each page that is kept has the bytes of a page, permissions are at most 3, each page that is owned is
+-- marked as dirty, and marks have no bytes
 pub record IsTable (t : PageTable) : Type 0 where
   pub whole : AreWholeRoot t.pages
   pub permission : (p : ℕ) → p < pages → root_permission t.pages p ≤ greatest_permission
   pub marked : (p : ℕ) → p < pages → root_own t.pages p ≡ true → root_permission t.dirty p ≡ 1
+  pub bare : IsBare t.dirty
 
 -- one page has these bytes; all else is the same
 pub record SetsPage (page : ℕ) (bytes : List ℕ) (t s : TreeRef) : Type 0 where

@@ -102,6 +102,7 @@ impl PageTable {
 
     // The least dirty page from `n` on.
     pub fn next_dirty(&self, n: u32) -> Option<u32>
+        requires { IsTable self.now }
         ensures some { IfSome result (IsNextDirty (held_of self.now) n) }
         ensures none { IsNone result → AllClean (held_of self.now) n 1048576 }
     {
@@ -109,7 +110,7 @@ impl PageTable {
             return None;
         }
         match self.dirty.next_used(n as usize) {
-            Some(page) => Some(page as u32),
+            Some(dirty) => Some(dirty as u32),
             None => None,
         }
     }

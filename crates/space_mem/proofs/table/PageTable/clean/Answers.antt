@@ -9,6 +9,7 @@ returns-clause-table c = let table = c.requires.table in record {
   whole = table.whole;
   permission = table.permission;
   marked = λ p low own. absurd (false≢true (sym (none_owned c.args.self.now c.requires.none p low) ∙ own));
+  bare = λ p k low. refl;
 }
 
 pub returns-clause-held : goal.returns-clause-held

@@ -1,7 +1,7 @@
 use Rattle.std.proofs.Common.{◌≡◌, arith, refl}
 use Rattle.space_mem.specs.declared.table.PageTable.{PageTable}
 use Rattle.space_mem.specs.Tables.{held_of}
-use Rattle.space_mem.proofs.Copies.{IsCopied, IsMarked, at_error, copied_part, marked_part, copied_table, copied_memory, copied_outside, copied_marks, prepared_held, same_marks, same_row}
+use Rattle.space_mem.proofs.Copies.{IsCopied, IsMarked, at_error, copied_part, marked_part, marked_bare, copied_table, copied_memory, copied_outside, copied_marks, prepared_held, same_marks, same_row}
 use Rattle.space_mem.proofs.table.PageTable.copy_part.Goals as goal
 
 pub returns-in_err-prepare-2-clause-err : goal.returns-in_err-prepare-2-clause-err
@@ -41,7 +41,8 @@ returns c =
     let marked : IsMarked first end t.dirty s.dirty = marked_part first end t.dirty c.prepare-2.new.self s.dirty c.requires.within c.in_ok-prepare-2.ensures.same c.permit.ensures.permitted in
     record {
       table = copied_table from first end source t s c.requires.within c.requires.in_range c.requires.source c.requires.table copied marked
-          (c.take.ensures.whole (c.in_ok-prepare-3.ensures.whole c.requires.table.whole) (c.in_ok-prepare.ensures.whole c.in_ok-made.ensures.whole));
+          (c.take.ensures.whole (c.in_ok-prepare-3.ensures.whole c.requires.table.whole) (c.in_ok-prepare.ensures.whole c.in_ok-made.ensures.whole))
+          (marked_bare first end t.dirty c.prepare-2.new.self s.dirty c.in_ok-prepare-2.ensures.same c.permit.ensures.permitted c.requires.table.bare);
       ok = copied_memory from first end source.pages t.pages s.pages (omega arith) c.requires.within c.requires.in_range copied;
       err = tt;
       outside = copied_outside from first end source.pages t s copied;

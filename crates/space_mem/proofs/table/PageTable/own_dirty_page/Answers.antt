@@ -15,6 +15,7 @@ returns-clause-table c = let h = c.in_ok-own_page.ensures in let table = c.requi
   whole = h.whole table.whole;
   permission = λ p low. omega (arith, h.same.permission p low, table.permission p low);
   marked = marks_owned c.args.self.now.pages c.own_page.new.self c.args.self.now.dirty c.args.page c.requires.page h.owned c.requires.dirty table.marked;
+  bare = table.bare;
 }
 
 pub returns-clause-ok : goal.returns-clause-ok

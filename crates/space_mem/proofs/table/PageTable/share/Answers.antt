@@ -9,6 +9,7 @@ returns-clause-table c = let h = c.in_ok-share.ensures in let table = c.requires
   whole = h.whole table.whole;
   permission = λ p low. omega (arith, h.same.permission p low, table.permission p low);
   marked = λ p low own. absurd (false≢true (sym (none_owned c.args.self.now c.requires.none p low) ∙ sym (h.own p low) ∙ own));
+  bare = λ p k low. refl;
 }
 
 pub returns-clause-held : goal.returns-clause-held

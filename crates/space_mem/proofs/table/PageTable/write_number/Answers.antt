@@ -31,6 +31,7 @@ returns-in-Some-clause-table c =
       whole = c.replace-in-Some.ensures.whole c.bytes-whole.ensures.whole (c.in-Some.ensures.whole tt table.whole);
       permission = λ p low. omega (arith, edited.permission p low, table.permission p low);
       marked = λ p low own. table.marked p low (sym (edited.own p low) ∙ own);
+      bare = table.bare;
     }
 
 pub returns-in-Some-clause-held : goal.returns-in-Some-clause-held
