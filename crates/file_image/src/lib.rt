@@ -18,7 +18,7 @@ pub use basing::mark_base;
 pub use editing::{create, delete};
 pub use file_bytes::FileBytes;
 pub use file_model::FileError;
-pub use lookup::{find, used};
+pub use lookup::{find, lowest_free, used};
 pub use marking::touched;
 pub use putting::put;
 pub use reading::{get, len};

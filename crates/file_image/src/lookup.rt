@@ -62,8 +62,8 @@ pub(crate) fn is_free<B: FileBytes>(bytes: &B, slot: u32) -> bool
     !is_in_use(bytes, SLOT_SIZE * slot)
 }
 
-// The lowest free slot.
-pub(crate) fn lowest_free<B: FileBytes>(bytes: &B) -> Option<u32>
+/// The lowest free slot.
+pub fn lowest_free<B: FileBytes>(bytes: &B) -> Option<u32>
     ensures slot { result ≡ lowest_free (slots_of (B.bytes bytes.now)) }
     ensures within { IfSome result (λ k. k < slot_count) }
 {
