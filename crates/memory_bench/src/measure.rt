@@ -3,7 +3,7 @@ ghost use Rattle.memory_model.specs.Memory.{no_memory, with_permissions};
 
 use crate::accesses::{Access, pass};
 use crate::frozen::{SMALL, frozen_after, small_memories};
-use crate::merges::{child_of, time_of_compare, time_of_merge};
+use crate::merges::{THREADS, child_of, time_of_compare, time_of_merge, time_of_threads};
 use crate::page_merges::{Difference, MERGED, time_of_pages};
 use crate::touches::{PageOrder, TOUCHED, permits, touches};
 use crate::walks::{Order, WALK, WordAddress, walk};
@@ -112,23 +112,48 @@ fn calls(
     Ok(())
 }
 
-// Measures a merge of so many pages of which a child changed ten, and beside it the plain comparison of each page with its
-// snapshot's. The number that it gives depends on each comparison.
-fn merges_of(rt: &(impl Clock + Print), alloc: Global, rounds: u32, pages: u32) -> io::Result<u32>
+// Measures merges of so many pages of which a child changed ten: 10 pages apart, and as far apart as there is room.
+fn merges_of(rt: &(impl Clock + Print), rounds: u32, pages: u32, mem: &mut Mem) -> io::Result<()>
     requires { pages ≤ 1048576 }
 {
-    let mut mem = memory_of(alloc, pages)?;
-    let forked = child_of(&mut mem, pages)?;
-    let mut sum: u32 = 0;
-    let mut best = (Duration::MAX, Duration::MAX);
-    for _round in 0..rounds {
-        let compare = time_of_compare(rt, &forked, pages, &mut sum)?;
-        let mut parent = mem.frozen()?;
-        let merge = time_of_merge(rt, &mut parent, &forked, pages)?;
-        best = (best.0.min(compare), best.1.min(merge));
+    for (what, apart) in [("merge, 10 near", 10), ("merge, 10 far", pages / 10)] {
+        let forked = child_of(mem, apart)?;
+        let mut best = Duration::MAX;
+        for _round in 0..rounds {
+            let mut parent = mem.frozen()?;
+            best = best.min(time_of_merge(rt, &mut parent, &forked, pages)?);
+        }
+        print_line(rt, what, pages, 1, best)?;
     }
-    print_line(rt, "compare, a page", pages, pages, best.0)?;
-    print_line(rt, "merge, 10 dirty", pages, 1, best.1)?;
+    Ok(())
+}
+
+// Measures the plain comparison of each of so many pages of a child with its snapshot's. The number that it gives depends on each.
+fn compares_of(
+    rt: &(impl Clock + Print),
+    rounds: u32,
+    pages: u32,
+    mem: &mut Mem,
+) -> io::Result<u32> {
+    let forked = child_of(mem, pages / 10)?;
+    let mut sum: u32 = 0;
+    let mut best = Duration::MAX;
+    for _round in 0..rounds {
+        best = best.min(time_of_compare(rt, &forked, pages, &mut sum)?);
+    }
+    print_line(rt, "compare, a page", pages, pages, best)?;
+    Ok(sum)
+}
+
+// Measures threads on a memory of 16 pages.
+fn threads(rt: &(impl Clock + Print), alloc: Global, rounds: u32) -> io::Result<u32> {
+    let mut mem = memory_of(alloc, 16)?;
+    let mut sum: u32 = 0;
+    let mut best = Duration::MAX;
+    for _round in 0..rounds {
+        best = best.min(time_of_threads(rt, &mut mem, &mut sum)?);
+    }
+    print_line(rt, "fork, write, merge", 16, THREADS, best)?;
     Ok(sum)
 }
 
@@ -201,7 +226,7 @@ fn smalls(rt: &(impl Clock + Print), alloc: Global, rounds: u32) -> io::Result<(
 }
 
 /// Measures memories of 9, 1,000 and 10,000 pages that may be read and written, and prints a line for each operation: what, how many
-/// pages, how many operations a round has, and the nanoseconds of one in the best of the rounds. Merges, small memories and `frozen` follow,
+/// pages, how many operations a round has, and the nanoseconds of one in the best of the rounds. Merges, threads, small memories and `frozen` follow,
 /// and last, measured once, first writes and permissions in several orders.
 pub fn all(rt: &(impl Clock + Print), alloc: Global, rounds: u32) -> io::Result<()> {
     println!(rt; "what                 pages operations ns an operation")?;
@@ -212,8 +237,11 @@ pub fn all(rt: &(impl Clock + Print), alloc: Global, rounds: u32) -> io::Result<
         calls(rt, alloc, rounds, pages, &mut mem)?;
     }
     for pages in [100, 65536] {
-        sum = sum.wrapping_add(merges_of(rt, alloc, rounds, pages)?);
+        let mut mem = memory_of(alloc, pages)?;
+        merges_of(rt, rounds, pages, &mut mem)?;
+        sum = sum.wrapping_add(compares_of(rt, rounds, pages, &mut mem)?);
     }
+    sum = sum.wrapping_add(threads(rt, alloc, rounds)?);
     sum = sum.wrapping_add(page_merges(rt, rounds)?);
     smalls(rt, alloc, rounds)?;
     freezes(rt, alloc, rounds)?;

@@ -19,23 +19,23 @@ pub struct Forked {
 impl Forked {
     // A child of a memory, which is equal to it.
     fn of(parent: &mut Mem) -> Result<Forked, AllocError> {
-        let mut child = parent.frozen()?;
+        let mut child = parent.share()?;
         let snapshot = take(&mut child)?;
         Ok(Forked { child, snapshot })
     }
 
     #[tactic(auto, using(space_mem::proofs::Dirty::covers_after))]
-    fn write(&mut self, at: u32) -> Result<(), AllocError> {
-        self.child.write(at, 1)
+    fn write(&mut self, at: u32, byte: u8) -> Result<(), AllocError> {
+        self.child.write(at, byte)
     }
 }
 
-/// A child of a memory that has changed a byte in ten of so many pages, far from one another.
-pub fn child_of(parent: &mut Mem, pages: u32) -> Result<Forked, AllocError> {
+/// A child of a memory that has changed a byte in each of ten pages, so many pages apart.
+pub fn child_of(parent: &mut Mem, apart: u32) -> Result<Forked, AllocError> {
     let mut forked = Forked::of(parent)?;
     for place in 0..10 {
-        let page = (pages / 10).wrapping_mul(place) % 1048576;
-        forked.write(4096 * page + 8)?;
+        let page = apart.wrapping_mul(place) % 1048576;
+        forked.write(4096 * page + 8, 1)?;
     }
     Ok(forked)
 }
@@ -85,4 +85,39 @@ pub fn time_of_merge(
     let merged = merge(parent, &forked.child, &forked.snapshot, range);
     let time = start.elapsed(rt)?;
     Ok(if merged.is_ok() { time } else { Duration::MAX })
+}
+
+/// How many threads are measured one after another.
+pub const THREADS: u32 = 100;
+
+// A child of a memory writes a byte of one of 16 pages and is merged. Tells whether it was.
+fn thread(parent: &mut Mem, number: u32) -> Result<bool, AllocError> {
+    let mut forked = Forked::of(parent)?;
+    forked.write(4096 * (number % 16), (number % 255 + 1) as u8)?;
+    let range = Pages {
+        first: 0,
+        count: 16,
+    };
+    let merged = merge(parent, &forked.child, &forked.snapshot, range);
+    Ok(merged.is_ok())
+}
+
+// How many of `THREADS` threads were merged.
+fn threads(parent: &mut Mem) -> Result<u32, AllocError> {
+    let mut merged: u32 = 0;
+    for number in 0..THREADS {
+        if thread(parent, number)? {
+            merged = merged.wrapping_add(1);
+        }
+    }
+    Ok(merged)
+}
+
+/// The time of `THREADS` threads on a memory of 16 pages. How many of them were merged is added to `sum`.
+pub fn time_of_threads(rt: &impl Clock, parent: &mut Mem, sum: &mut u32) -> io::Result<Duration> {
+    let start = Instant::now(rt)?;
+    let merged = threads(parent)?;
+    let time = start.elapsed(rt)?;
+    *sum = sum.wrapping_add(merged);
+    Ok(time)
 }
