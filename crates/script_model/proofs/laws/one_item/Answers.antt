@@ -1,0 +1,5 @@
+use Rattle.script_model.proofs.Items.{one}
+use Rattle.script_model.proofs.laws.one_item.Goals as goal
+
+pub returns : goal.returns
+returns c = λ line i j. one line i j
