@@ -1,0 +1,4 @@
+pub mod Numbers
+pub mod Loops
+pub mod Pairs
+pub mod Found
