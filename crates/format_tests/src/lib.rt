@@ -1,4 +1,4 @@
-//! Tests of the outside world, of images as files, of the words of a command line and of the assembler. Tests alone.
+//! Tests of the outside world, of images as files, of scripts, of the words of a command line and of the assembler. Tests alone.
 #![tactic(auto)]
 
 #[cfg(test)]
@@ -7,6 +7,8 @@ mod expected;
 mod files_and_sinks;
 #[cfg(test)]
 mod images;
+#[cfg(test)]
+mod scripts;
 #[cfg(test)]
 mod sources;
 #[cfg(test)]
