@@ -1,0 +1,171 @@
+-- A call reads and changes its caller's top and the children that it awaits, and nothing else. That it edits only what it awaits is the one
+-- fact that is told call by call, `action_within`; all others are of any meeting.
+use Rattle.std.proofs.Common.{◌≡◌, ℕ, ◌==◌, ◌≢◌, Bool, true, false, ◌||◌, ◌&&◌, List, [], ◌∷◌, Option, Some, None, refl, sym, ◌∙◌, ap, ap₂, arith, inl, inr, ◌⊎◌, true≢false}
+use Rattle.std.proofs.lemmas.Bool.Decides.{nat_tests}
+use Rattle.std.proofs.lemmas.Bool.{cases_eq, and_parts}
+use Rattle.std.specs.Prelude.{option_map}
+use Rattle.call_model.specs.declared.Call.{Call}
+use Rattle.call_model.specs.declared.Call.TheVariants.{GetTree}
+use Rattle.space_model.specs.declared.Reach.{Reach}
+use Rattle.space_model.specs.declared.Reach.TheVariants.{Itself, Whole}
+use Rattle.space_model.specs.declared.Await.{Await}
+use Rattle.space_model.specs.declared.Refusal.{Refusal}
+use Rattle.space_model.specs.Space.{Space, space, Children, Top, children_of, find, over, put_child}
+use Rattle.space_model.specs.Path.{under}
+use Rattle.space_model.specs.Call.{Seen, Edit, change, place, take_away, Meeting, see, seen_of, first_space, below, copy_to, edit, edit_all}
+use Rattle.space_model.specs.Meeting.{awaits, whole, refusals, first_refusal, action, unless_refused, meeting, meet}
+use Rattle.space_model.proofs.Children.{find-over_other, find-over_same, over-put_other, over-put_same, put-over_same, over-remove_other, find-put_other, find-put_same, find-remove_other}
+
+abbrev pub is_whole : Reach → Bool
+is_whole Itself = false
+is_whole Whole = true
+
+-- a child of this number is awaited
+abbrev pub is_awaited : ℕ → List Await → Bool
+is_awaited n [] = false
+is_awaited n (a ∷ others) = (n == a.number) || is_awaited n others
+
+-- and awaited whole
+abbrev pub is_awaited_whole : ℕ → List Await → Bool
+is_awaited_whole n [] = false
+is_awaited_whole n (a ∷ others) = ((n == a.number) && is_whole a.reach) || is_awaited_whole n others
+
+-- only the top of a child that is awaited is changed, and only one that is awaited whole is replaced or removed
+abbrev pub is_within : List Await → Edit → Bool
+is_within as' (change n t) = is_awaited n as'
+is_within as' (place n s) = is_awaited_whole n as'
+is_within as' (take_away n) = is_awaited_whole n as'
+
+abbrev pub are_within : List Await → List Edit → Bool
+are_within as' [] = true
+are_within as' (e ∷ es) = is_within as' e && are_within as' es
+
+copy_within : (n : ℕ) (o : Option Space) (as' : List Await) → is_awaited_whole n as' ≡ true → are_within as' (copy_to n o ∷ []) ≡ true
+copy_within n None as' h = rw h refl
+copy_within n (Some s) as' h = rw h refl
+
+second_whole : (n m : ℕ) → is_awaited_whole m (whole n ∷ whole m ∷ []) ≡ true
+second_whole n m = grind (arith, nat_tests)
+
+-- what a call edits is awaited
+action_within : (k : Call) (t : Top) (seen : List Seen) → are_within (awaits k) (action k t seen).edits ≡ true
+action_within (GetTree child from to) t seen = copy_within to (find from (below (first_space seen))) (awaits (GetTree child from to)) (second_whole child to)
+action_within k t seen = grind (arith, nat_tests)
+
+unless_within : (o : Option Refusal) (t : Top) (m : Meeting) (as' : List Await) → are_within as' m.edits ≡ true → are_within as' (unless_refused o t m).edits ≡ true
+unless_within None t m as' h = h
+unless_within (Some r) t m as' h = refl
+
+meeting_within : (levels : ℕ) (k : Call) (t : Top) (seen : List Seen) → are_within (awaits k) (meeting levels k t seen).edits ≡ true
+meeting_within levels k t seen = unless_within (first_refusal (refusals levels k t seen)) t (action k t seen) (awaits k) (action_within k t seen)
+
+awaited_whole : (n : ℕ) (as' : List Await) → is_awaited n as' ≡ false → is_awaited_whole n as' ≡ false
+awaited_whole n [] un = refl
+awaited_whole n (a ∷ others) un = grind (arith, nat_tests, awaited_whole n others)
+
+differs : (n m : ℕ) (as' : List Await) (f : ℕ → List Await → Bool) → f n as' ≡ false → f m as' ≡ true → n ≢ m
+differs n m as' f a b e = true≢false (sym b ∙ ap (λ i. f i as') (sym e) ∙ a)
+
+-- what is seen does not change by another child
+seen_other : (as' : List Await) (n : ℕ) (f : Space → Space) (cs : Children) → is_awaited n as' ≡ false → seen_of as' (over n f cs) ≡ seen_of as' cs
+seen_other [] n f cs un = refl
+seen_other (a ∷ others) n f cs un =
+    let ne : a.number ≢ n = grind (arith, nat_tests) in
+    ap₂ (λ o r. see a.reach o ∷ r) (find-over_other a.number n f cs ne) (seen_other others n f cs (grind (arith, nat_tests)))
+
+edit_other : (e : Edit) (as' : List Await) (n : ℕ) (f : Space → Space) (cs : Children) → is_awaited n as' ≡ false → is_within as' e ≡ true → edit e (over n f cs) ≡ over n f (edit e cs)
+edit_other (change m t) as' n f cs un within =
+    let ne = differs n m as' is_awaited un within in
+    ap (λ o. put_child m (space t (below o)) (over n f cs)) (find-over_other m n f cs (λ e. ne (sym e))) ∙ sym (over-put_other n m f (space t (below (find m cs))) cs ne)
+edit_other (place m s) as' n f cs un within = sym (over-put_other n m f s cs (differs n m as' is_awaited_whole (awaited_whole n as' un) within))
+edit_other (take_away m) as' n f cs un within = sym (over-remove_other n m f cs (differs n m as' is_awaited_whole (awaited_whole n as' un) within))
+
+edits_other : (es : List Edit) (as' : List Await) (n : ℕ) (f : Space → Space) (cs : Children) → is_awaited n as' ≡ false → are_within as' es ≡ true → edit_all es (over n f cs) ≡ over n f (edit_all es cs)
+edits_other [] as' n f cs un all = refl
+edits_other (e ∷ es) as' n f cs un all =
+    ap (edit_all es) (edit_other e as' n f cs un (and_parts _ _ all).0) ∙ edits_other es as' n f (edit e cs) un (and_parts _ _ all).1
+
+find-edit_other : (e : Edit) (as' : List Await) (n : ℕ) (cs : Children) → is_awaited n as' ≡ false → is_within as' e ≡ true → find n (edit e cs) ≡ find n cs
+find-edit_other (change m t) as' n cs un within = find-put_other n m (space t (below (find m cs))) cs (differs n m as' is_awaited un within)
+find-edit_other (place m s) as' n cs un within = find-put_other n m s cs (differs n m as' is_awaited_whole (awaited_whole n as' un) within)
+find-edit_other (take_away m) as' n cs un within = find-remove_other n m cs (differs n m as' is_awaited_whole (awaited_whole n as' un) within)
+
+find-edits_other : (es : List Edit) (as' : List Await) (n : ℕ) (cs : Children) → is_awaited n as' ≡ false → are_within as' es ≡ true → find n (edit_all es cs) ≡ find n cs
+find-edits_other [] as' n cs un all = refl
+find-edits_other (e ∷ es) as' n cs un all = find-edits_other es as' n (edit e cs) un (and_parts _ _ all).1 ∙ find-edit_other e as' n cs un (and_parts _ _ all).0
+
+-- a call passes a change of a child that it does not await, and leaves that child
+pub meet_other : (levels : ℕ) (k : Call) (t : Top) (n : ℕ) (f : Space → Space) (cs : Children) → is_awaited n (awaits k) ≡ false → meet levels k t (over n f cs) ≡ under (over n f) (meet levels k t cs)
+meet_other levels k t n f cs un =
+    let m = meeting levels k t (seen_of (awaits k) cs) in
+    ap (λ ss. space (meeting levels k t ss).caller (edit_all (meeting levels k t ss).edits (over n f cs))) (seen_other (awaits k) n f cs un)
+    ∙ ap (space m.caller) (edits_other m.edits (awaits k) n f cs un (meeting_within levels k t (seen_of (awaits k) cs)))
+
+pub find-meet_other : (levels : ℕ) (k : Call) (t : Top) (n : ℕ) (cs : Children) → is_awaited n (awaits k) ≡ false → find n (children_of (meet levels k t cs)) ≡ find n cs
+find-meet_other levels k t n cs un =
+    let seen = seen_of (awaits k) cs in
+    find-edits_other (meeting levels k t seen).edits (awaits k) n cs un (meeting_within levels k t seen)
+
+see_below : (g : Children → Children) (o : Option Space) → see Itself (option_map (under g) o) ≡ see Itself o
+see_below g None = refl
+see_below g (Some (space t cs)) = refl
+
+see_itself : (reach : Reach) (g : Children → Children) (o : Option Space) → is_whole reach ≡ false → see reach (option_map (under g) o) ≡ see reach o
+see_itself Itself g o un = see_below g o
+see_itself Whole g o un = absurd (true≢false un)
+
+-- nor by what is below a child that is awaited itself
+seen_below : (as' : List Await) (n : ℕ) (g : Children → Children) (cs : Children) → is_awaited_whole n as' ≡ false → seen_of as' (over n (under g) cs) ≡ seen_of as' cs
+seen_below [] n g cs un = refl
+seen_below (a ∷ others) n g cs un = ap₂ (λ o r. o ∷ r) (go (cases_eq a.number n)) (seen_below others n g cs (grind (arith, nat_tests)))
+  where
+    go : (a.number ≡ n) ⊎ (a.number ≡ n → ⊥) → see a.reach (find a.number (over n (under g) cs)) ≡ see a.reach (find a.number cs)
+    go (inl e) = let w : is_whole a.reach ≡ false = grind (arith, nat_tests) in rw (e, find-over_same n (under g) cs) (see_itself a.reach g (find n cs) w)
+    go (inr ne) = ap (see a.reach) (find-over_other a.number n (under g) cs ne)
+
+children_under : (g : Children → Children) (c : Space) → children_of (under g c) ≡ g (children_of c)
+children_under g (space t cs) = refl
+
+-- of a child n that was c: what is below it has stayed
+abbrev pub KeepsBelow : ℕ → Space → Children → Type 0
+KeepsBelow n c cs = (d : Space) × (find n cs ≡ Some d) × (children_of d ≡ children_of c)
+
+-- these edits pass a change below a child, and leave what is below it
+abbrev PassBelow : List Edit → ℕ → (Children → Children) → Children → Space → Type 0
+PassBelow es n g cs c = (edit_all es (over n (under g) cs) ≡ over n (under g) (edit_all es cs)) × KeepsBelow n c (edit_all es cs)
+
+change_below : (n m : ℕ) (t : Top) (g : Children → Children) (cs : Children) (c : Space) → find n cs ≡ Some c → PassBelow (change m t ∷ []) n g cs c
+change_below n m t g cs c is = go (cases_eq n m)
+  where
+    go : (n ≡ m) ⊎ (n ≡ m → ⊥) → PassBelow (change m t ∷ []) n g cs c
+    go (inl e) =
+        let at : find m cs ≡ Some c = ap (λ i. find i cs) (sym e) ∙ is in (
+          rw (e, find-over_same m (under g) cs, at, children_under g c, put-over_same m (under g) (space t (g (children_of c))) cs) (sym (over-put_same m (under g) (space t (children_of c)) cs)),
+          (space t (children_of c), rw (e, at) (find-put_same m (space t (children_of c)) cs), refl),
+        )
+    go (inr ne) =
+        let ne' : m ≢ n = λ e. ne (sym e) in (
+          ap (λ o. put_child m (space t (below o)) (over n (under g) cs)) (find-over_other m n (under g) cs ne') ∙ sym (over-put_other n m (under g) (space t (below (find m cs))) cs ne),
+          (c, find-put_other n m (space t (below (find m cs))) cs ne ∙ is, refl),
+        )
+
+edit_below : (e : Edit) (as' : List Await) (n : ℕ) (g : Children → Children) (cs : Children) (c : Space) → is_awaited_whole n as' ≡ false → is_within as' e ≡ true → find n cs ≡ Some c → PassBelow (e ∷ []) n g cs c
+edit_below (change m t) as' n g cs c un within is = change_below n m t g cs c is
+edit_below (place m s) as' n g cs c un within is = let ne = differs n m as' is_awaited_whole un within in (sym (over-put_other n m (under g) s cs ne), (c, find-put_other n m s cs ne ∙ is, refl))
+edit_below (take_away m) as' n g cs c un within is = let ne = differs n m as' is_awaited_whole un within in (sym (over-remove_other n m (under g) cs ne), (c, find-remove_other n m cs ne ∙ is, refl))
+
+edits_below : (es : List Edit) (as' : List Await) (n : ℕ) (g : Children → Children) (cs : Children) (c : Space) → is_awaited_whole n as' ≡ false → are_within as' es ≡ true → find n cs ≡ Some c → PassBelow es n g cs c
+edits_below [] as' n g cs c un all is = (refl, (c, is, refl))
+edits_below (e ∷ es) as' n g cs c un all is =
+    let a = edit_below e as' n g cs c un (and_parts _ _ all).0 is in
+    let b = edits_below es as' n g (edit e cs) a.1.0 un (and_parts _ _ all).1 a.1.1 in
+    (ap (edit_all es) a.0 ∙ b.0, (b.1.0, b.1.1, b.1.2 ∙ a.1.2))
+
+-- a call passes a change below a child that it does not await whole, and leaves what is below that child
+pub meet_below : (levels : ℕ) (k : Call) (t : Top) (n : ℕ) (g : Children → Children) (cs : Children) (c : Space) → is_awaited_whole n (awaits k) ≡ false → find n cs ≡ Some c
+    → (meet levels k t (over n (under g) cs) ≡ under (over n (under g)) (meet levels k t cs)) × KeepsBelow n c (children_of (meet levels k t cs))
+meet_below levels k t n g cs c un is =
+    let seen = seen_of (awaits k) cs in
+    let m = meeting levels k t seen in
+    let b = edits_below m.edits (awaits k) n g cs c un (meeting_within levels k t seen) is in
+    (ap (λ ss. space (meeting levels k t ss).caller (edit_all (meeting levels k t ss).edits (over n (under g) cs))) (seen_below (awaits k) n g cs un) ∙ ap (space m.caller) b.0, b.1)

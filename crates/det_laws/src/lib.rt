@@ -1,0 +1,7 @@
+//! The laws of every schedule, each as the contract of a public function that does nothing. Which event comes next is the schedule's choice;
+//! neither how a run ends nor how many events it has depends on it.
+#![tactic(auto)]
+
+mod laws;
+
+pub use laws::commutation;
