@@ -1,2 +1,4 @@
 pub mod Frames
 pub mod Commutes
+pub mod Leading
+pub mod Reaching

@@ -1,9 +1,11 @@
 -- What the laws speak of, each of a whole tree: from its root on, with all levels of children left below it.
 -- Our choice: names alone; what they stand for is defined for a space at any depth.
-use Rattle.std.specs.Prelude.{◌≡◌, ℕ, true, List}
+use Rattle.std.specs.Prelude.{◌≡◌, ℕ, true, List, [], ◌∷◌}
 use Rattle.call_model.specs.Limits.{greatest_depth}
 use Rattle.space_model.specs.Space.{Space}
 use Rattle.run_model.specs.Schedule.{is_enabled, step}
+use Rattle.run_model.specs.Replay.{replay}
+use Rattle.run_model.specs.Demand.{work}
 
 -- the event at a path may happen
 abbrev pub MayHappen : List ℕ → Space → Type 0
@@ -12,3 +14,16 @@ MayHappen p s = is_enabled p greatest_depth s ≡ true
 -- the tree after the event at a path
 abbrev pub after : List ℕ → Space → Space
 after p s = step p greatest_depth s
+
+-- the events at these paths may happen, each in its turn
+abbrev pub MayAllHappen : List (List ℕ) → Space → Type 0
+MayAllHappen [] s = Unit {0}
+MayAllHappen (p ∷ ps) s = MayHappen p s × MayAllHappen ps (after p s)
+
+-- the tree after a schedule, in which a path at which no event may happen changes nothing
+abbrev pub after_all : List (List ℕ) → Space → Space
+after_all ps s = replay ps greatest_depth s
+
+-- how many events there are until no space in the tree runs
+abbrev pub events_left : Space → ℕ
+events_left s = work greatest_depth s

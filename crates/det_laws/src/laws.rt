@@ -1,9 +1,30 @@
-ghost use Rattle.std.specs.Prelude.{◌≡◌, ◌≢◌, ℕ, List};
-ghost use Rattle.space_model.specs.Space.{Space};
-ghost use Rattle.det_laws.specs.Tree.{MayHappen, after};
+ghost use Rattle.std.specs.Prelude.{◌≡◌, ◌≢◌, ℕ, suc, List, length, true, false};
+ghost use Rattle.space_model.specs.Space.{Space, is_settled};
+ghost use Rattle.space_model.specs.Sound.{IsSound};
+ghost use Rattle.run_model.specs.Demand.{settle_tree};
+ghost use Rattle.det_laws.specs.Tree.{MayHappen, MayAllHappen, after, after_all, events_left};
 
 /// Of two different events that may happen in a tree, each may still happen after the other, and both orders lead to one tree.
 pub fn commutation()
     ensures stays_enabled { (s : Space) (p q : List ℕ) → p ≢ q → MayHappen p s → MayHappen q s → MayHappen p (after q s) }
     ensures one_tree { (s : Space) (p q : List ℕ) → p ≢ q → MayHappen p s → MayHappen q s → after p (after q s) ≡ after q (after p s) }
+{}
+
+/// What a sound tree settles to after any schedule is what it settles to before.
+pub fn confluence()
+    ensures { (s : Space) (ps : List (List ℕ)) → IsSound s → settle_tree (after_all ps s) ≡ settle_tree s }
+{}
+
+/// In a sound tree that is not settled some event may happen, and in a settled one none may.
+pub fn never_stuck()
+    ensures goes_on { (s : Space) → IsSound s → is_settled s ≡ false → (p : List ℕ) × MayHappen p s }
+    ensures rests { (s : Space) (p : List ℕ) → is_settled s ≡ true → MayHappen p s → ⊥ }
+{}
+
+/// Each event that may happen in a sound tree is one of those that are left: after it there is one fewer. So all schedules of events that
+/// may happen, each in its turn, until the tree is settled, are as long as one another, and lead to one tree.
+pub fn one_length()
+    ensures one_fewer { (s : Space) (p : List ℕ) → IsSound s → MayHappen p s → events_left s ≡ suc (events_left (after p s)) }
+    ensures as_long { (s : Space) (ps : List (List ℕ)) → IsSound s → MayAllHappen ps s → is_settled (after_all ps s) ≡ true → length ps ≡ events_left s }
+    ensures one_end { (s : Space) (ps : List (List ℕ)) → IsSound s → MayAllHappen ps s → is_settled (after_all ps s) ≡ true → after_all ps s ≡ settle_tree s }
 {}

@@ -4,4 +4,4 @@
 
 mod laws;
 
-pub use laws::commutation;
+pub use laws::{commutation, confluence, never_stuck, one_length};

@@ -14,6 +14,7 @@ use Rattle.space_model.proofs.Next.{next_meets, next_sound}
 use Rattle.run_model.specs.Boot.{boot}
 use Rattle.run_model.specs.Demand.{Meaning, wait_for, wait_for_child, go_on, run_for, everyone, no_events, meaning, run, settle}
 use Rattle.run_model.specs.Schedule.{is_enabled, event, step, try_step}
+use Rattle.run_model.specs.Replay.{replay}
 
 -- what becomes of children keeps them sound
 abbrev pub KeepsSound : Meaning → ℕ → ℕ → Type 0
@@ -88,6 +89,14 @@ try_step_sound p levels root fuel s ok = go (is_enabled p levels s)
     go true = step_sound p levels root fuel s ok
     go false = ok
 
+-- the events at many paths, each where it may happen
+pub replay_sound : (ps : List (List ℕ)) (levels : ℕ) (root : Bool) (fuel : ℕ) (s : Space) → IsSoundAt levels root fuel s → IsSoundAt levels root fuel (replay ps levels s)
+replay_sound [] levels root fuel s ok = ok
+replay_sound (p ∷ ps) levels root fuel s ok = replay_sound ps levels root fuel (try_step p levels s) (try_step_sound p levels root fuel s ok)
+
 -- the same of a whole tree
 pub try_step_whole : (p : List ℕ) (s : Space) → IsSound s → IsSound (try_step p 8 s)
 try_step_whole p s ok = (ok.0, (ok.1.0, ok.1.1, try_step_sound p 8 true ok.0 s ok.1.2))
+
+pub replay_whole : (ps : List (List ℕ)) (s : Space) → IsSound s → IsSound (replay ps 8 s)
+replay_whole ps s ok = (ok.0, (ok.1.0, ok.1.1, replay_sound ps 8 true ok.0 s ok.1.2))

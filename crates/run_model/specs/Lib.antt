@@ -1,3 +1,4 @@
 pub mod Boot
 pub mod Demand
 pub mod Schedule
+pub mod Replay
