@@ -2,3 +2,4 @@ pub mod Frames
 pub mod Commutes
 pub mod Leading
 pub mod Reaching
+pub mod Console

@@ -1,6 +1,6 @@
 -- What the laws speak of, each of a whole tree: from its root on, with all levels of children left below it.
 -- Our choice: names alone; what they stand for is defined for a space at any depth.
-use Rattle.std.specs.Prelude.{◌≡◌, ℕ, true, List, [], ◌∷◌}
+use Rattle.std.specs.Prelude.{◌≡◌, ℕ, true, List, [], ◌∷◌, ◌++◌}
 use Rattle.call_model.specs.Limits.{greatest_depth}
 use Rattle.space_model.specs.Space.{Space}
 use Rattle.run_model.specs.Schedule.{is_enabled, step}
@@ -27,3 +27,7 @@ after_all ps s = replay ps greatest_depth s
 -- how many events there are until no space in the tree runs
 abbrev pub events_left : Space → ℕ
 events_left s = work greatest_depth s
+
+-- the second list begins with the first
+abbrev pub IsPrefix : List ℕ → List ℕ → Type 0
+IsPrefix xs ys = (rest : List ℕ) × (ys ≡ xs ++ rest)

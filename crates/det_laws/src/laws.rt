@@ -2,7 +2,8 @@ ghost use Rattle.std.specs.Prelude.{◌≡◌, ◌≢◌, ℕ, suc, List, length
 ghost use Rattle.space_model.specs.Space.{Space, is_settled};
 ghost use Rattle.space_model.specs.Sound.{IsSound};
 ghost use Rattle.run_model.specs.Demand.{settle_tree};
-ghost use Rattle.det_laws.specs.Tree.{MayHappen, MayAllHappen, after, after_all, events_left};
+ghost use Rattle.report_model.specs.Report.{console_of};
+ghost use Rattle.det_laws.specs.Tree.{MayHappen, MayAllHappen, after, after_all, events_left, IsPrefix};
 
 /// Of two different events that may happen in a tree, each may still happen after the other, and both orders lead to one tree.
 pub fn commutation()
@@ -27,4 +28,9 @@ pub fn one_length()
     ensures one_fewer { (s : Space) (p : List ℕ) → IsSound s → MayHappen p s → events_left s ≡ suc (events_left (after p s)) }
     ensures as_long { (s : Space) (ps : List (List ℕ)) → IsSound s → MayAllHappen ps s → is_settled (after_all ps s) ≡ true → length ps ≡ events_left s }
     ensures one_end { (s : Space) (ps : List (List ℕ)) → IsSound s → MayAllHappen ps s → is_settled (after_all ps s) ≡ true → after_all ps s ≡ settle_tree s }
+{}
+
+/// What the root of a sound tree has written to its console after any schedule is the beginning of what it has written when the tree is settled.
+pub fn console_prefix()
+    ensures { (s : Space) (ps : List (List ℕ)) → IsSound s → IsPrefix (console_of (after_all ps s)) (console_of (settle_tree s)) }
 {}
