@@ -61,21 +61,25 @@ ready_settled Whole c w h = h
 ready_settled Itself c w h = absurd (true≢false (sym w))
 
 -- a child that is awaited is ready
-ready_child : (a : Await) (others : List Await) (n : ℕ) (cs : Children) (c : Space) → are_ready (a ∷ others) cs ≡ true → find n cs ≡ Some c → n ≡ a.number → is_ready a.reach (Some c) ≡ true
+ready_child : (a : Await) (others : List Await) (n : ℕ) (cs : Children) (c : Space) → are_ready (a ∷ others) cs ≡ true → find n cs ≡ Some c
+    → n ≡ a.number → is_ready a.reach (Some c) ≡ true
 ready_child a others n cs c r is e =
     let at : find a.number cs ≡ Some c = ap (λ i. find i cs) (sym e) ∙ is in
     ap (is_ready a.reach) (sym at) ∙ (and_parts _ _ r).0
 
-awaited_settled : (as' : List Await) (n : ℕ) (cs : Children) (c : Space) → is_awaited_whole n as' ≡ true → are_ready as' cs ≡ true → find n cs ≡ Some c → is_settled c ≡ true
+awaited_settled : (as' : List Await) (n : ℕ) (cs : Children) (c : Space) → is_awaited_whole n as' ≡ true → are_ready as' cs ≡ true
+    → find n cs ≡ Some c → is_settled c ≡ true
 awaited_settled [] n cs c w r is = absurd (true≢false (sym w))
 awaited_settled (a ∷ others) n cs c w r is = go (λ h. awaited_settled others n cs c h (and_parts _ _ r).1 is) (cases_eq n a.number) (is_whole a.reach) refl
   where
-    go : (is_awaited_whole n others ≡ true → is_settled c ≡ true) → (n ≡ a.number) ⊎ (n ≡ a.number → ⊥) → (b : Bool) → is_whole a.reach ≡ b → is_settled c ≡ true
+    go : (is_awaited_whole n others ≡ true → is_settled c ≡ true) → (n ≡ a.number) ⊎ (n ≡ a.number → ⊥) → (b : Bool) → is_whole a.reach ≡ b
+        → is_settled c ≡ true
     go rec (inl e) true wh = ready_settled a.reach c wh (ready_child a others n cs c r is e)
     go rec (inl e) false wh = rec (grind (arith, nat_tests))
     go rec (inr ne) b wh = rec (grind (arith, nat_tests))
 
-awaited_stopped : (as' : List Await) (n : ℕ) (cs : Children) (c : Space) → is_awaited n as' ≡ true → are_ready as' cs ≡ true → find n cs ≡ Some c → is_stopped (top_of c).status ≡ true
+awaited_stopped : (as' : List Await) (n : ℕ) (cs : Children) (c : Space) → is_awaited n as' ≡ true → are_ready as' cs ≡ true → find n cs ≡ Some c
+    → is_stopped (top_of c).status ≡ true
 awaited_stopped [] n cs c w r is = absurd (true≢false (sym w))
 awaited_stopped (a ∷ others) n cs c w r is = go (λ h. awaited_stopped others n cs c h (and_parts _ _ r).1 is) (cases_eq n a.number)
   where
@@ -96,11 +100,13 @@ ready_under Itself g None un = refl
 ready_under Itself g (Some (space t cs)) un = refl
 
 -- nor by what is below a child that is awaited itself
-ready_below : (as' : List Await) (n : ℕ) (g : Children → Children) (cs : Children) → is_awaited_whole n as' ≡ false → are_ready as' (over n (under g) cs) ≡ are_ready as' cs
+ready_below : (as' : List Await) (n : ℕ) (g : Children → Children) (cs : Children) → is_awaited_whole n as' ≡ false
+    → are_ready as' (over n (under g) cs) ≡ are_ready as' cs
 ready_below [] n g cs un = refl
 ready_below (a ∷ others) n g cs un = go (ready_below others n g cs (grind (arith, nat_tests))) (cases_eq n a.number)
   where
-    go : are_ready others (over n (under g) cs) ≡ are_ready others cs → (n ≡ a.number) ⊎ (n ≡ a.number → ⊥) → are_ready (a ∷ others) (over n (under g) cs) ≡ are_ready (a ∷ others) cs
+    go : are_ready others (over n (under g) cs) ≡ are_ready others cs → (n ≡ a.number) ⊎ (n ≡ a.number → ⊥)
+        → are_ready (a ∷ others) (over n (under g) cs) ≡ are_ready (a ∷ others) cs
     go rec (inl e) = let w : is_whole a.reach ≡ false = grind (arith, nat_tests) in rw (rec, e, find-over_same a.number (under g) cs, ready_under a.reach g (find a.number cs) w) refl
     go rec (inr ne) = let ne' : a.number ≢ n = λ x. ne (sym x) in rw (rec, find-over_other a.number n (under g) cs ne') refl
 
@@ -120,7 +126,8 @@ passes_other k u t n q levels cs c un r is may = (
 )
 
 -- an event of the child itself: the call does not await it, since it runs
-call_passes_itself : (k : Call) (u t : Top) (n : ℕ) (levels : ℕ) (cs : Children) (c : Space) → are_ready (awaits k) cs ≡ true → find n cs ≡ Some c → is_enabled [] (pred levels) c ≡ true → PassesChild (meets k u) n [] levels t cs
+call_passes_itself : (k : Call) (u t : Top) (n : ℕ) (levels : ℕ) (cs : Children) (c : Space) → are_ready (awaits k) cs ≡ true → find n cs ≡ Some c
+    → is_enabled [] (pred levels) c ≡ true → PassesChild (meets k u) n [] levels t cs
 call_passes_itself k u t n levels cs (space v ds) r is may = go (is_awaited n (awaits k)) refl
   where
     go : (b : Bool) → is_awaited n (awaits k) ≡ b → PassesChild (meets k u) n [] levels t cs
@@ -128,7 +135,8 @@ call_passes_itself k u t n levels cs (space v ds) r is may = go (is_awaited n (a
     go true named = absurd (stopped_waits (pred levels) v ds (awaited_stopped (awaits k) n cs (space v ds) named r is) may)
 
 -- one below the child: the call does not await it whole, since it is not settled
-call_passes_below : (k : Call) (u t : Top) (n m : ℕ) (q : List ℕ) (levels : ℕ) (cs : Children) (c : Space) → are_ready (awaits k) cs ≡ true → find n cs ≡ Some c → is_enabled (m ∷ q) (pred levels) c ≡ true
+call_passes_below : (k : Call) (u t : Top) (n m : ℕ) (q : List ℕ) (levels : ℕ) (cs : Children) (c : Space) → are_ready (awaits k) cs ≡ true
+    → find n cs ≡ Some c → is_enabled (m ∷ q) (pred levels) c ≡ true
     → PassesChild (meets k u) n (m ∷ q) levels t cs
 call_passes_below k u t n m q levels cs c r is may = go (is_awaited_whole n (awaits k)) refl
   where
@@ -142,7 +150,8 @@ call_passes_below k u t n m q levels cs c r is may = go (is_awaited_whole n (awa
           b.0,
         )
 
-event_passes : (x : NextEvent) (t : Top) (n : ℕ) (q : List ℕ) (levels : ℕ) (cs : Children) (c : Space) → may_happen x cs ≡ true → find n cs ≡ Some c → is_enabled q (pred levels) c ≡ true → PassesChild x n q levels t cs
+event_passes : (x : NextEvent) (t : Top) (n : ℕ) (q : List ℕ) (levels : ℕ) (cs : Children) (c : Space) → may_happen x cs ≡ true → find n cs ≡ Some c
+    → is_enabled q (pred levels) c ≡ true → PassesChild x n q levels t cs
 event_passes rests t n q levels cs c r is may = absurd (true≢false (sym r))
 event_passes (moves u) t n q levels cs c r is may = (refl, ap (on_child (is_enabled q (pred levels))) is ∙ may, refl)
 event_passes (meets k u) t n [] levels cs c r is may = call_passes_itself k u t n levels cs c r is may
@@ -156,7 +165,8 @@ PassOneAnother p q levels s =
     × (step p levels (step q levels s) ≡ step q levels (step p levels s))
 
 -- at paths below different children
-apart : (n : ℕ) (p : List ℕ) (m : ℕ) (q : List ℕ) (levels : ℕ) (t : Top) (cs : Children) → n ≢ m → is_enabled (n ∷ p) levels (space t cs) ≡ true → is_enabled (m ∷ q) levels (space t cs) ≡ true → PassOneAnother (n ∷ p) (m ∷ q) levels (space t cs)
+apart : (n : ℕ) (p : List ℕ) (m : ℕ) (q : List ℕ) (levels : ℕ) (t : Top) (cs : Children) → n ≢ m → is_enabled (n ∷ p) levels (space t cs) ≡ true
+    → is_enabled (m ∷ q) levels (space t cs) ≡ true → PassOneAnother (n ∷ p) (m ∷ q) levels (space t cs)
 apart n p m q levels t cs ne a b =
     let ne' : m ≢ n = λ e. ne (sym e) in (
       ap (on_child (is_enabled p (pred levels))) (find-over_other n m (step q (pred levels)) cs ne) ∙ a,
@@ -165,7 +175,8 @@ apart n p m q levels t cs ne a b =
     )
 
 -- at paths below one child
-together : (n : ℕ) (p q : List ℕ) (levels : ℕ) (t : Top) (cs : Children) (c : Space) → find n cs ≡ Some c → PassOneAnother p q (pred levels) c → PassOneAnother (n ∷ p) (n ∷ q) levels (space t cs)
+together : (n : ℕ) (p q : List ℕ) (levels : ℕ) (t : Top) (cs : Children) (c : Space) → find n cs ≡ Some c → PassOneAnother p q (pred levels) c
+    → PassOneAnother (n ∷ p) (n ∷ q) levels (space t cs)
 together n p q levels t cs c is d = (
   ap (on_child (is_enabled p (pred levels))) (find-over_same n (step q (pred levels)) cs ∙ ap (option_map (step q (pred levels))) is) ∙ d.0,
   ap (on_child (is_enabled q (pred levels))) (find-over_same n (step p (pred levels)) cs ∙ ap (option_map (step p (pred levels))) is) ∙ d.1,
@@ -174,7 +185,8 @@ together n p q levels t cs c is d = (
       ∙ sym (over-over_same n (step q (pred levels)) (step p (pred levels)) cs)),
 )
 
-pub pass_one_another : (p q : List ℕ) (levels : ℕ) (s : Space) → p ≢ q → is_enabled p levels s ≡ true → is_enabled q levels s ≡ true → PassOneAnother p q levels s
+pub pass_one_another : (p q : List ℕ) (levels : ℕ) (s : Space) → p ≢ q → is_enabled p levels s ≡ true → is_enabled q levels s ≡ true
+    → PassOneAnother p q levels s
 pass_one_another [] [] levels s ne a b = absurd (ne refl)
 pass_one_another [] (n ∷ q) levels (space t cs) ne a b =
     let c = child_there (is_enabled q (pred levels)) (find n cs) b in

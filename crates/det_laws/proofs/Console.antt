@@ -48,7 +48,8 @@ abbrev Writes : Top → Effect → Type 0
 Writes t (becomes u) = HasWritten t u
 Writes t (asks k) = Unit {0}
 
-device_writes : (t : Top) (o : Option Devices) (f : Devices → Effect) → t.devices ≡ o → ((d : Devices) → t.devices ≡ Some d → Writes t (f d)) → Writes t (with_devices t o f)
+device_writes : (t : Top) (o : Option Devices) (f : Devices → Effect) → t.devices ≡ o → ((d : Devices) → t.devices ≡ Some d → Writes t (f d))
+    → Writes t (with_devices t o f)
 device_writes t None f is each = same_devices t t refl
 device_writes t (Some d) f is each = each d is
 
@@ -135,7 +136,8 @@ leads_writes levels (p ∷ ps) s t a =
     (step_writes p levels s) (leads_writes levels ps (step p levels s) t a.1)
 
 -- and so does all that is still to come after a schedule
-pub replay_writes : (ps : List (List ℕ)) (levels : ℕ) (root : Bool) (fuel : ℕ) (s : Space) → IsSoundAt levels root fuel s → IsPrefix (console_of (replay ps levels s)) (console_of (settle levels s))
+pub replay_writes : (ps : List (List ℕ)) (levels : ℕ) (root : Bool) (fuel : ℕ) (s : Space) → IsSoundAt levels root fuel s
+    → IsPrefix (console_of (replay ps levels s)) (console_of (settle levels s))
 replay_writes ps levels root fuel s ok =
     let r = replay ps levels s in
     let a = meaning_reached levels Whole root fuel r (replay_sound ps levels root fuel s ok) in

@@ -52,7 +52,8 @@ action_within : (k : Call) (t : Top) (seen : List Seen) → are_within (awaits k
 action_within (GetTree child from to) t seen = copy_within to (find from (below (first_space seen))) (awaits (GetTree child from to)) (second_whole child to)
 action_within k t seen = grind (arith, nat_tests)
 
-unless_within : (o : Option Refusal) (t : Top) (m : Meeting) (as' : List Await) → are_within as' m.edits ≡ true → are_within as' (unless_refused o t m).edits ≡ true
+unless_within : (o : Option Refusal) (t : Top) (m : Meeting) (as' : List Await) → are_within as' m.edits ≡ true
+    → are_within as' (unless_refused o t m).edits ≡ true
 unless_within None t m as' h = h
 unless_within (Some r) t m as' h = refl
 
@@ -73,14 +74,16 @@ seen_other (a ∷ others) n f cs un =
     let ne : a.number ≢ n = grind (arith, nat_tests) in
     ap₂ (λ o r. see a.reach o ∷ r) (find-over_other a.number n f cs ne) (seen_other others n f cs (grind (arith, nat_tests)))
 
-edit_other : (e : Edit) (as' : List Await) (n : ℕ) (f : Space → Space) (cs : Children) → is_awaited n as' ≡ false → is_within as' e ≡ true → edit e (over n f cs) ≡ over n f (edit e cs)
+edit_other : (e : Edit) (as' : List Await) (n : ℕ) (f : Space → Space) (cs : Children) → is_awaited n as' ≡ false → is_within as' e ≡ true
+    → edit e (over n f cs) ≡ over n f (edit e cs)
 edit_other (change m t) as' n f cs un within =
     let ne = differs n m as' is_awaited un within in
     ap (λ o. put_child m (space t (below o)) (over n f cs)) (find-over_other m n f cs (λ e. ne (sym e))) ∙ sym (over-put_other n m f (space t (below (find m cs))) cs ne)
 edit_other (place m s) as' n f cs un within = sym (over-put_other n m f s cs (differs n m as' is_awaited_whole (awaited_whole n as' un) within))
 edit_other (take_away m) as' n f cs un within = sym (over-remove_other n m f cs (differs n m as' is_awaited_whole (awaited_whole n as' un) within))
 
-edits_other : (es : List Edit) (as' : List Await) (n : ℕ) (f : Space → Space) (cs : Children) → is_awaited n as' ≡ false → are_within as' es ≡ true → edit_all es (over n f cs) ≡ over n f (edit_all es cs)
+edits_other : (es : List Edit) (as' : List Await) (n : ℕ) (f : Space → Space) (cs : Children) → is_awaited n as' ≡ false → are_within as' es ≡ true
+    → edit_all es (over n f cs) ≡ over n f (edit_all es cs)
 edits_other [] as' n f cs un all = refl
 edits_other (e ∷ es) as' n f cs un all =
     ap (edit_all es) (edit_other e as' n f cs un (and_parts _ _ all).0) ∙ edits_other es as' n f (edit e cs) un (and_parts _ _ all).1
@@ -90,18 +93,21 @@ find-edit_other (change m t) as' n cs un within = find-put_other n m (space t (b
 find-edit_other (place m s) as' n cs un within = find-put_other n m s cs (differs n m as' is_awaited_whole (awaited_whole n as' un) within)
 find-edit_other (take_away m) as' n cs un within = find-remove_other n m cs (differs n m as' is_awaited_whole (awaited_whole n as' un) within)
 
-find-edits_other : (es : List Edit) (as' : List Await) (n : ℕ) (cs : Children) → is_awaited n as' ≡ false → are_within as' es ≡ true → find n (edit_all es cs) ≡ find n cs
+find-edits_other : (es : List Edit) (as' : List Await) (n : ℕ) (cs : Children) → is_awaited n as' ≡ false → are_within as' es ≡ true
+    → find n (edit_all es cs) ≡ find n cs
 find-edits_other [] as' n cs un all = refl
 find-edits_other (e ∷ es) as' n cs un all = find-edits_other es as' n (edit e cs) un (and_parts _ _ all).1 ∙ find-edit_other e as' n cs un (and_parts _ _ all).0
 
 -- a call passes a change of a child that it does not await, and leaves that child
-pub meet_other : (levels : ℕ) (k : Call) (t : Top) (n : ℕ) (f : Space → Space) (cs : Children) → is_awaited n (awaits k) ≡ false → meet levels k t (over n f cs) ≡ under (over n f) (meet levels k t cs)
+pub meet_other : (levels : ℕ) (k : Call) (t : Top) (n : ℕ) (f : Space → Space) (cs : Children) → is_awaited n (awaits k) ≡ false
+    → meet levels k t (over n f cs) ≡ under (over n f) (meet levels k t cs)
 meet_other levels k t n f cs un =
     let m = meeting levels k t (seen_of (awaits k) cs) in
     ap (λ ss. space (meeting levels k t ss).caller (edit_all (meeting levels k t ss).edits (over n f cs))) (seen_other (awaits k) n f cs un)
     ∙ ap (space m.caller) (edits_other m.edits (awaits k) n f cs un (meeting_within levels k t (seen_of (awaits k) cs)))
 
-pub find-meet_other : (levels : ℕ) (k : Call) (t : Top) (n : ℕ) (cs : Children) → is_awaited n (awaits k) ≡ false → find n (children_of (meet levels k t cs)) ≡ find n cs
+pub find-meet_other : (levels : ℕ) (k : Call) (t : Top) (n : ℕ) (cs : Children) → is_awaited n (awaits k) ≡ false
+    → find n (children_of (meet levels k t cs)) ≡ find n cs
 find-meet_other levels k t n cs un =
     let seen = seen_of (awaits k) cs in
     find-edits_other (meeting levels k t seen).edits (awaits k) n cs un (meeting_within levels k t seen)
@@ -115,7 +121,8 @@ see_itself Itself g o un = see_below g o
 see_itself Whole g o un = absurd (true≢false un)
 
 -- nor by what is below a child that is awaited itself
-seen_below : (as' : List Await) (n : ℕ) (g : Children → Children) (cs : Children) → is_awaited_whole n as' ≡ false → seen_of as' (over n (under g) cs) ≡ seen_of as' cs
+seen_below : (as' : List Await) (n : ℕ) (g : Children → Children) (cs : Children) → is_awaited_whole n as' ≡ false
+    → seen_of as' (over n (under g) cs) ≡ seen_of as' cs
 seen_below [] n g cs un = refl
 seen_below (a ∷ others) n g cs un = ap₂ (λ o r. o ∷ r) (go (cases_eq a.number n)) (seen_below others n g cs (grind (arith, nat_tests)))
   where
@@ -149,12 +156,14 @@ change_below n m t g cs c is = go (cases_eq n m)
           (c, find-put_other n m (space t (below (find m cs))) cs ne ∙ is, refl),
         )
 
-edit_below : (e : Edit) (as' : List Await) (n : ℕ) (g : Children → Children) (cs : Children) (c : Space) → is_awaited_whole n as' ≡ false → is_within as' e ≡ true → find n cs ≡ Some c → PassBelow (e ∷ []) n g cs c
+edit_below : (e : Edit) (as' : List Await) (n : ℕ) (g : Children → Children) (cs : Children) (c : Space) → is_awaited_whole n as' ≡ false
+    → is_within as' e ≡ true → find n cs ≡ Some c → PassBelow (e ∷ []) n g cs c
 edit_below (change m t) as' n g cs c un within is = change_below n m t g cs c is
 edit_below (place m s) as' n g cs c un within is = let ne = differs n m as' is_awaited_whole un within in (sym (over-put_other n m (under g) s cs ne), (c, find-put_other n m s cs ne ∙ is, refl))
 edit_below (take_away m) as' n g cs c un within is = let ne = differs n m as' is_awaited_whole un within in (sym (over-remove_other n m (under g) cs ne), (c, find-remove_other n m cs ne ∙ is, refl))
 
-edits_below : (es : List Edit) (as' : List Await) (n : ℕ) (g : Children → Children) (cs : Children) (c : Space) → is_awaited_whole n as' ≡ false → are_within as' es ≡ true → find n cs ≡ Some c → PassBelow es n g cs c
+edits_below : (es : List Edit) (as' : List Await) (n : ℕ) (g : Children → Children) (cs : Children) (c : Space) → is_awaited_whole n as' ≡ false
+    → are_within as' es ≡ true → find n cs ≡ Some c → PassBelow es n g cs c
 edits_below [] as' n g cs c un all is = (refl, (c, is, refl))
 edits_below (e ∷ es) as' n g cs c un all is =
     let a = edit_below e as' n g cs c un (and_parts _ _ all).0 is in
@@ -162,7 +171,8 @@ edits_below (e ∷ es) as' n g cs c un all is =
     (ap (edit_all es) a.0 ∙ b.0, (b.1.0, b.1.1, b.1.2 ∙ a.1.2))
 
 -- a call passes a change below a child that it does not await whole, and leaves what is below that child
-pub meet_below : (levels : ℕ) (k : Call) (t : Top) (n : ℕ) (g : Children → Children) (cs : Children) (c : Space) → is_awaited_whole n (awaits k) ≡ false → find n cs ≡ Some c
+pub meet_below : (levels : ℕ) (k : Call) (t : Top) (n : ℕ) (g : Children → Children) (cs : Children) (c : Space)
+    → is_awaited_whole n (awaits k) ≡ false → find n cs ≡ Some c
     → (meet levels k t (over n (under g) cs) ≡ under (over n (under g)) (meet levels k t cs)) × KeepsBelow n c (children_of (meet levels k t cs))
 meet_below levels k t n g cs c un is =
     let seen = seen_of (awaits k) cs in

@@ -56,7 +56,8 @@ length-map : (k : ℕ) (ps : List (List ℕ)) → length (map (λ p. k ∷ p) ps
 length-map k [] = refl
 length-map k (p ∷ ps) = ap suc (length-map k ps)
 
-pub child_reaches : (levels k : ℕ) (t : Top) (cs : Children) (c d : Space) (n : ℕ) → find k cs ≡ Some c → Reaches (pred levels) c n d → Reaches levels (space t cs) n (space t (over k (λ x. d) cs))
+pub child_reaches : (levels k : ℕ) (t : Top) (cs : Children) (c d : Space) (n : ℕ) → find k cs ≡ Some c → Reaches (pred levels) c n d
+    → Reaches levels (space t cs) n (space t (over k (λ x. d) cs))
 child_reaches levels k t cs c d n is a = (map (λ p. k ∷ p) a.0, length-map k a.0 ∙ a.1, lift levels k a.0 t cs c d is a.2)
 
 -- a settled tree leads to itself alone
@@ -68,18 +69,21 @@ settled_stays levels (p ∷ ps) s t still a = absurd (settled_rests p levels s s
 abbrev BroughtForward : ℕ → List (List ℕ) → List ℕ → Space → Space → Type 0
 BroughtForward levels ps p s t = (qs : List (List ℕ)) × (length ps ≡ suc (length qs)) × Leads levels qs (step p levels s) t
 
-pub bring_forward : (levels : ℕ) (ps : List (List ℕ)) (p : List ℕ) (s t : Space) → Leads levels ps s t → is_settled t ≡ true → is_enabled p levels s ≡ true → BroughtForward levels ps p s t
+pub bring_forward : (levels : ℕ) (ps : List (List ℕ)) (p : List ℕ) (s t : Space) → Leads levels ps s t → is_settled t ≡ true
+    → is_enabled p levels s ≡ true → BroughtForward levels ps p s t
 bring_forward levels [] p s t a still may = absurd (settled_rests p levels t still (subst (λ x. is_enabled p levels x ≡ true) a may))
 bring_forward levels (q ∷ ps) p s t a still may = go (cases_path p q) (λ e. bring_forward levels ps p (step q levels s) t a.1 still e)
   where
-    go : (p ≡ q) ⊎ (p ≡ q → ⊥) → (is_enabled p levels (step q levels s) ≡ true → BroughtForward levels ps p (step q levels s) t) → BroughtForward levels (q ∷ ps) p s t
+    go : (p ≡ q) ⊎ (p ≡ q → ⊥) → (is_enabled p levels (step q levels s) ≡ true → BroughtForward levels ps p (step q levels s) t)
+        → BroughtForward levels (q ∷ ps) p s t
     go (inl e) later = (ps, refl, subst (λ x. Leads levels ps (step x levels s) t) (sym e) a.1)
     go (inr ne) later =
         let d = pass_one_another p q levels s ne may a.0 in
         let r = later d.0 in
         (q ∷ r.0, ap suc r.1, (d.1, subst (λ x. Leads levels r.0 x t) d.2 r.2))
 
-pub one_end : (levels : ℕ) (qs ps : List (List ℕ)) (s t u : Space) → Leads levels ps s t → is_settled t ≡ true → Leads levels qs s u → is_settled u ≡ true → (t ≡ u) × (length ps ≡ length qs)
+pub one_end : (levels : ℕ) (qs ps : List (List ℕ)) (s t u : Space) → Leads levels ps s t → is_settled t ≡ true → Leads levels qs s u
+    → is_settled u ≡ true → (t ≡ u) × (length ps ≡ length qs)
 one_end levels [] [] s t u a st b su = (sym a ∙ b, refl)
 one_end levels [] (p ∷ ps) s t u a st b su = absurd (settled_rests p levels u su (subst (λ x. is_enabled p levels x ≡ true) b a.0))
 one_end levels (q ∷ qs) ps s t u a st b su =

@@ -38,7 +38,8 @@ level_left : (levels fuel n : ℕ) (cs : Children) (c : Space) → AreSound leve
 level_left zero fuel n cs c ok is = let none = no_child fuel 0 n cs ok in cc
 level_left (suc levels) fuel n cs c ok is = omega arith
 
-found_reached : (levels fuel n : ℕ) (f : Meaning) (reach : Reach) (cs : Children) (c : Space) → ReachesAll levels fuel f → AreSound levels fuel 0 cs → find n cs ≡ Some c → IsReached (pred levels) fuel reach c (f reach c)
+found_reached : (levels fuel n : ℕ) (f : Meaning) (reach : Reach) (cs : Children) (c : Space) → ReachesAll levels fuel f → AreSound levels fuel 0 cs
+    → find n cs ≡ Some c → IsReached (pred levels) fuel reach c (f reach c)
 found_reached levels fuel n f reach cs c all ok is = all reach c (level_left levels fuel n cs c ok is) (found_sound levels fuel n cs ok c is)
 
 -- children that have been waited for
@@ -53,7 +54,8 @@ record HasWaited (levels fuel : ℕ) (a : Await) (t : Top) (cs : Children) (w : 
   ready : is_ready a.reach (find a.number w.children) ≡ true
   sound : AreSound levels fuel 0 w.children
 
-child_waited : (levels fuel : ℕ) (f : Meaning) (a : Await) (t : Top) (cs : Children) (o : Option Space) → ReachesAll levels fuel f → AreSound levels fuel 0 cs → find a.number cs ≡ o → HasWaited levels fuel a t cs (wait_for_child f a cs o)
+child_waited : (levels fuel : ℕ) (f : Meaning) (a : Await) (t : Top) (cs : Children) (o : Option Space) → ReachesAll levels fuel f
+    → AreSound levels fuel 0 cs → find a.number cs ≡ o → HasWaited levels fuel a t cs (wait_for_child f a cs o)
 child_waited levels fuel f a t cs None all ok is = record { reached = stays levels (space t cs); ready = ap (is_ready a.reach) is; sound = ok }
 child_waited levels fuel f a t cs (Some c) all ok is =
     let g = found_reached levels fuel a.number f a.reach cs c all ok is in
@@ -65,7 +67,8 @@ child_waited levels fuel f a t cs (Some c) all ok is =
     }
 
 -- a child that was ready before stays so, though it is waited for once more
-ready_again : (levels fuel : ℕ) (v reach : Reach) (c : Space) (r : Ran) → IsReached levels fuel reach c r → is_ready v (Some c) ≡ true → is_ready v (Some r.space) ≡ true
+ready_again : (levels fuel : ℕ) (v reach : Reach) (c : Space) (r : Ran) → IsReached levels fuel reach c r → is_ready v (Some c) ≡ true
+    → is_ready v (Some r.space) ≡ true
 ready_again levels fuel Itself reach c r g h = stopped_now reach r.space g.ready
   where
     stopped_now : (reach : Reach) (d : Space) → is_ready reach (Some d) ≡ true → is_stopped (top_of d).status ≡ true
@@ -73,7 +76,8 @@ ready_again levels fuel Itself reach c r g h = stopped_now reach r.space g.ready
     stopped_now Whole d h = settled_stopped d h
 ready_again levels fuel Whole reach c r g h = ap is_settled (sym (settled_stays levels g.reached.0 c r.space h g.reached.2)) ∙ h
 
-child_keeps : (levels fuel : ℕ) (f : Meaning) (a : Await) (cs : Children) (o : Option Space) → ReachesAll levels fuel f → AreSound levels fuel 0 cs → find a.number cs ≡ o
+child_keeps : (levels fuel : ℕ) (f : Meaning) (a : Await) (cs : Children) (o : Option Space) → ReachesAll levels fuel f → AreSound levels fuel 0 cs
+    → find a.number cs ≡ o
     → (v : Reach) (m : ℕ) → is_ready v (find m cs) ≡ true → is_ready v (find m (wait_for_child f a cs o).children) ≡ true
 child_keeps levels fuel f a cs None all ok is v m r = r
 child_keeps levels fuel f a cs (Some c) all ok is v m r = go (cases_eq m a.number)
@@ -94,7 +98,8 @@ others_keep levels fuel f (a ∷ others) t cs all ok v m r =
     (child_waited levels fuel f a t cs (find a.number cs) all ok refl).sound v m
     (child_keeps levels fuel f a cs (find a.number cs) all ok refl v m r)
 
-have_waited : (levels fuel : ℕ) (f : Meaning) → ReachesAll levels fuel f → (as' : List Await) (t : Top) (cs : Children) → AreSound levels fuel 0 cs → HaveWaited levels fuel as' t cs (wait_for f as' cs)
+have_waited : (levels fuel : ℕ) (f : Meaning) → ReachesAll levels fuel f → (as' : List Await) (t : Top) (cs : Children) → AreSound levels fuel 0 cs
+    → HaveWaited levels fuel as' t cs (wait_for f as' cs)
 have_waited levels fuel f all [] t cs ok = record { reached = stays levels (space t cs); ready = refl; sound = ok }
 have_waited levels fuel f all (a ∷ others) t cs ok =
     let first = wait_for_child f a cs (find a.number cs) in
@@ -107,7 +112,8 @@ have_waited levels fuel f all (a ∷ others) t cs ok =
     }
 
 -- each turn of a run is an event, behind those of the children that it waits for
-turn_reached : (levels : ℕ) (root : Bool) (fuel n : ℕ) (f : Meaning) (x : NextEvent) (t : Top) (cs : Children) → ReachesAll levels fuel f → next levels t ≡ x → IsSoundAt levels root fuel (space t cs)
+turn_reached : (levels : ℕ) (root : Bool) (fuel n : ℕ) (f : Meaning) (x : NextEvent) (t : Top) (cs : Children) → ReachesAll levels fuel f
+    → next levels t ≡ x → IsSoundAt levels root fuel (space t cs)
     → ((s : Space) → IsSoundAt levels root fuel s → Reaches levels s (run_for f levels n s).events (run_for f levels n s).space)
     → Reaches levels (space t cs) (go_on levels x (space t cs) f (run_for f levels n)).events (go_on levels x (space t cs) f (run_for f levels n)).space
 turn_reached levels root fuel n f rests t cs all is ok rec = stays levels (space t cs)
@@ -122,12 +128,14 @@ turn_reached levels root fuel n f (meets k u) t cs all is ok rec =
     let whole = goes_on levels (space t cs) (space t ds) _ (wait_for f (awaits k) cs).events _ w.reached called in
     (whole.0, (let e = whole.1 in omega (arith, e)), whole.2)
 
-run_reached : (levels : ℕ) (root : Bool) (fuel n : ℕ) (f : Meaning) → ReachesAll levels fuel f → (s : Space) → IsSoundAt levels root fuel s → Reaches levels s (run_for f levels n s).events (run_for f levels n s).space
+run_reached : (levels : ℕ) (root : Bool) (fuel n : ℕ) (f : Meaning) → ReachesAll levels fuel f → (s : Space) → IsSoundAt levels root fuel s
+    → Reaches levels s (run_for f levels n s).events (run_for f levels n s).space
 unfolding run_for
 run_reached levels root fuel zero f all s ok = stays levels s
 run_reached levels root fuel (suc n) f all (space t cs) ok = turn_reached levels root fuel n f (next levels t) t cs all refl ok (λ s h. run_reached levels root fuel n f all s h)
 
-children_reached : (levels : ℕ) (root : Bool) (fuel : ℕ) (f : Meaning) (s : Space) (r : Ran) → ReachesAll levels fuel f → Reaches levels s r.events r.space → IsSoundAt levels root fuel r.space
+children_reached : (levels : ℕ) (root : Bool) (fuel : ℕ) (f : Meaning) (s : Space) (r : Ran) → ReachesAll levels fuel f
+    → Reaches levels s r.events r.space → IsSoundAt levels root fuel r.space
     → Reaches levels s (finish Whole f r).events (finish Whole f r).space
 children_reached levels root fuel f s r all here ok = go r.space refl
   where
@@ -136,23 +144,28 @@ children_reached levels root fuel f s r all here ok = go r.space refl
         let w = have_waited levels fuel f all (everyone cs) t cs (subst (IsSoundAt levels root fuel) is ok).1 in
         rw is (goes_on levels s (space t cs) _ r.events _ (subst (λ x. Reaches levels s r.events x) is here) w.reached)
 
-finish_reached : (levels : ℕ) (root : Bool) (fuel : ℕ) (reach : Reach) (f : Meaning) (s : Space) (r : Ran) → ReachesAll levels fuel f → Reaches levels s r.events r.space → IsSoundAt levels root fuel r.space
+finish_reached : (levels : ℕ) (root : Bool) (fuel : ℕ) (reach : Reach) (f : Meaning) (s : Space) (r : Ran) → ReachesAll levels fuel f
+    → Reaches levels s r.events r.space → IsSoundAt levels root fuel r.space
     → Reaches levels s (finish reach f r).events (finish reach f r).space
 finish_reached levels root fuel Itself f s r all here ok = here
 finish_reached levels root fuel Whole f s r all here ok = children_reached levels root fuel f s r all here ok
 
 -- then it is ready
-meaning_ready : (levels : ℕ) (reach : Reach) (root : Bool) (fuel : ℕ) (s : Space) → IsSoundAt levels root fuel s → is_ready reach (Some (meaning levels reach s).space) ≡ true
+meaning_ready : (levels : ℕ) (reach : Reach) (root : Bool) (fuel : ℕ) (s : Space) → IsSoundAt levels root fuel s
+    → is_ready reach (Some (meaning levels reach s).space) ≡ true
 meaning_ready levels Itself root fuel s ok = run-stops levels s
 meaning_ready levels Whole root fuel s ok = settle-settled levels root fuel s ok
 
 none_reached : (fuel : ℕ) (f : Meaning) → ReachesAll zero fuel f
 none_reached fuel f reach c some ok = absurd (omega arith)
 
-each_reached : (levels fuel : ℕ) → ((reach : Reach) (c : Space) → IsSoundAt levels false fuel c → Reaches levels c (meaning levels reach c).events (meaning levels reach c).space) → ReachesAll (suc levels) fuel (meaning levels)
+each_reached : (levels fuel : ℕ)
+    → ((reach : Reach) (c : Space) → IsSoundAt levels false fuel c → Reaches levels c (meaning levels reach c).events (meaning levels reach c).space)
+    → ReachesAll (suc levels) fuel (meaning levels)
 each_reached levels fuel each reach c some ok = record { reached = each reach c ok; ready = meaning_ready levels reach false fuel c ok; sound = meaning_sound levels reach false fuel c ok }
 
-pub meaning_reached : (levels : ℕ) (reach : Reach) (root : Bool) (fuel : ℕ) (s : Space) → IsSoundAt levels root fuel s → Reaches levels s (meaning levels reach s).events (meaning levels reach s).space
+pub meaning_reached : (levels : ℕ) (reach : Reach) (root : Bool) (fuel : ℕ) (s : Space) → IsSoundAt levels root fuel s
+    → Reaches levels s (meaning levels reach s).events (meaning levels reach s).space
 unfolding meaning
 meaning_reached zero reach root fuel s ok =
     let all = none_reached fuel no_events in
@@ -176,7 +189,8 @@ event_counts p levels root fuel s ok may =
     let e = one_end levels b.0 f.0 (step p levels s) (settle levels s) (settle levels (step p levels s)) f.2 still b.2 still' in
     (sym e.0, sym a.1 ∙ f.1 ∙ ap suc (e.1 ∙ b.1))
 
-try_settles : (p : List ℕ) (levels : ℕ) (root : Bool) (fuel : ℕ) (s : Space) → IsSoundAt levels root fuel s → settle levels (try_step p levels s) ≡ settle levels s
+try_settles : (p : List ℕ) (levels : ℕ) (root : Bool) (fuel : ℕ) (s : Space) → IsSoundAt levels root fuel s
+    → settle levels (try_step p levels s) ≡ settle levels s
 try_settles p levels root fuel s ok = go (is_enabled p levels s) refl
   where
     go : (b : Bool) → is_enabled p levels s ≡ b → settle levels (cond b (step p levels s) s) ≡ settle levels s
@@ -184,13 +198,15 @@ try_settles p levels root fuel s ok = go (is_enabled p levels s) refl
     go false may = refl
 
 -- what a tree settles to is the same before and after any schedule
-pub replay_settles : (ps : List (List ℕ)) (levels : ℕ) (root : Bool) (fuel : ℕ) (s : Space) → IsSoundAt levels root fuel s → settle levels (replay ps levels s) ≡ settle levels s
+pub replay_settles : (ps : List (List ℕ)) (levels : ℕ) (root : Bool) (fuel : ℕ) (s : Space) → IsSoundAt levels root fuel s
+    → settle levels (replay ps levels s) ≡ settle levels s
 replay_settles [] levels root fuel s ok = refl
 replay_settles (p ∷ ps) levels root fuel s ok =
     replay_settles ps levels root fuel (try_step p levels s) (try_step_sound p levels root fuel s ok) ∙ try_settles p levels root fuel s ok
 
 -- a tree that is not settled may go on
-pub never_stuck : (levels : ℕ) (root : Bool) (fuel : ℕ) (s : Space) → IsSoundAt levels root fuel s → (is_settled s ≡ true → ⊥) → (p : List ℕ) × (is_enabled p levels s ≡ true)
+pub never_stuck : (levels : ℕ) (root : Bool) (fuel : ℕ) (s : Space) → IsSoundAt levels root fuel s → (is_settled s ≡ true → ⊥)
+    → (p : List ℕ) × (is_enabled p levels s ≡ true)
 never_stuck levels root fuel s ok busy = let a = meaning_reached levels Whole root fuel s ok in go a.0 a.2 (settle-settled levels root fuel s ok)
   where
     go : (ps : List (List ℕ)) → Leads levels ps s (settle levels s) → is_settled (settle levels s) ≡ true → (p : List ℕ) × (is_enabled p levels s ≡ true)
