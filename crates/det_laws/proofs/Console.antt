@@ -5,7 +5,7 @@ use Rattle.std.proofs.lemmas.List.{append-nil}
 use Rattle.memory_model.specs.Memory.{may_read, first_without, bytes_from}
 use Rattle.instruction_model.specs.Outcome.{view_of, Outcome, goes, stores, calls, traps, outcome}
 use Rattle.call_model.specs.declared.Call.{Call}
-use Rattle.call_model.specs.declared.Call.TheVariants.{Get, Ret, ConsoleOut, Wait, Tjoin}
+use Rattle.call_model.specs.declared.Call.TheVariants.{Get, Ret, ConsoleOut, File, Wait, Tjoin}
 use Rattle.call_model.specs.declared.Badcall as refusal
 use Rattle.call_model.specs.Limits.{greatest_depth}
 use Rattle.call_model.specs.Reading.{read}
@@ -15,10 +15,12 @@ use Rattle.space_model.specs.declared.Refusal.{Refusal}
 use Rattle.space_model.specs.Space.{Space, space, Top, Devices, Children, top_of, console_bytes}
 use Rattle.space_model.specs.Sound.{has_devices}
 use Rattle.space_model.specs.Call.{Seen, Meeting, first_top, seen_of}
-use Rattle.space_model.specs.Meeting.{awaits, meet, or_fresh, refusals, first_refusal, action, unless_refused}
-use Rattle.space_model.specs.Event.{Effect, becomes, asks, NextEvent, rests, moves, meets, charge, with_devices, output, console_out, effect_of, by_reading, after_outcome, instruction, by_limit_left, by_fuel_left, by_status, next}
+use Rattle.space_model.specs.Files.{file_call}
+use Rattle.space_model.specs.Refusals.{first_refusal}
+use Rattle.space_model.specs.Meeting.{awaits, meet, or_fresh, refusals, action, unless_refused}
+use Rattle.space_model.specs.Event.{Effect, becomes, asks, NextEvent, rests, moves, meets, charge, with_devices, output, console_out, effect_of, after_file_call, by_reading, after_outcome, instruction, by_limit_left, by_fuel_left, by_status, next}
 use Rattle.space_model.proofs.Parts.{caller_alike, wait_alike, join_alike}
-use Rattle.space_model.proofs.Next.{next_meets}
+use Rattle.space_model.proofs.Next.{next_meets, file_call_keeps}
 use Rattle.space_model.specs.declared.Reach.TheVariants.{Whole}
 use Rattle.space_model.specs.Sound.{IsSoundAt}
 use Rattle.run_model.specs.Schedule.{event, step}
@@ -60,6 +62,7 @@ output_writes t d addr len None is = (bytes_from t.memory addr len, ap (λ o. co
 effect_writes : (t : Top) (c : Call) → Writes t (effect_of t c)
 effect_writes t (Ret value) = same_devices t t refl
 effect_writes t (ConsoleOut addr len) = device_writes t t.devices (console_out t addr len) refl (λ d. output_writes t d addr len (first_without (may_read t.memory) addr len))
+effect_writes t (File call) = same_devices t (after_file_call (file_call call t.memory) t) (file_call_keeps (file_call call t.memory) t)
 effect_writes t c = tt
 
 reading_writes : (t : Top) (r : Result Call refusal.Badcall) → Writes t (by_reading t r)

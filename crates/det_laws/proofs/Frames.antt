@@ -13,7 +13,8 @@ use Rattle.space_model.specs.declared.Refusal.{Refusal}
 use Rattle.space_model.specs.Space.{Space, space, Children, Top, children_of, find, over, put_child}
 use Rattle.space_model.specs.Path.{under}
 use Rattle.space_model.specs.Call.{Seen, Edit, change, place, take_away, Meeting, see, seen_of, first_space, below, copy_to, edit, edit_all}
-use Rattle.space_model.specs.Meeting.{awaits, whole, refusals, first_refusal, action, unless_refused, meeting, meet}
+use Rattle.space_model.specs.Refusals.{first_refusal}
+use Rattle.space_model.specs.Meeting.{awaits, whole, refusals, action, unless_refused, meeting, meet}
 use Rattle.space_model.proofs.Children.{find-over_other, find-over_same, over-put_other, over-put_same, put-over_same, over-remove_other, find-put_other, find-put_same, find-remove_other}
 
 abbrev pub is_whole : Reach → Bool

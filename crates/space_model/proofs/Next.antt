@@ -25,8 +25,8 @@ use Rattle.space_model.specs.Change.{after_payment}
 use Rattle.space_model.specs.Meeting.{MayMeet}
 use Rattle.space_model.specs.declared.FileAnswer.{FileAnswer}
 use Rattle.space_model.specs.declared.FileAnswer.TheVariants.{Done, Refused, Fault}
-use Rattle.space_model.specs.Files.{file_call}
-use Rattle.space_model.specs.Event.{Effect, becomes, asks, NextEvent, rests, moves, meets, charge, with_devices, output, console_out, effect_of, after_answer, by_reading, call, after_outcome, instruction, by_limit_left, by_fuel_left, by_status, next, Follows, IsNotLocal, MayPay}
+use Rattle.space_model.specs.Files.{FileResult, file_call}
+use Rattle.space_model.specs.Event.{Effect, becomes, asks, NextEvent, rests, moves, meets, charge, with_devices, output, console_out, effect_of, after_answer, after_file_call, by_reading, call, after_outcome, instruction, by_limit_left, by_fuel_left, by_status, next, Follows, IsNotLocal, MayPay}
 
 fits : (n : ℕ) → is_no_child n ≡ false → IsChild n
 fits n h = grind (arith, nat_tests)
@@ -165,10 +165,14 @@ answer_keeps (Done (Some n)) t = refl
 answer_keeps (Refused error) t = refl
 answer_keeps (Fault r) t = refl
 
+-- a call on a file leaves the devices as they are
+pub file_call_keeps : (r : FileResult) (t : Top) → (after_file_call r t).devices ≡ t.devices
+file_call_keeps r t = answer_keeps r.answer (record t { memory = r.memory })
+
 effect_keeps : (t : Top) (c : Call) → KeepsDevices t (effect_of t c)
 effect_keeps t (named.Ret value) = refl
 effect_keeps t (named.ConsoleOut addr len) = device_keeps t t.devices (console_out t addr len) refl (λ d. output_keeps t d addr len (first_without (may_read t.memory) addr len))
-effect_keeps t (named.File call) = ap has_devices (answer_keeps (file_call call t.memory).answer (record t { memory = (file_call call t.memory).memory }))
+effect_keeps t (named.File call) = ap has_devices (file_call_keeps (file_call call t.memory) t)
 effect_keeps t c = tt
 
 reading_keeps : (t : Top) (r : Result Call refusal.Badcall) → KeepsDevices t (by_reading t r)

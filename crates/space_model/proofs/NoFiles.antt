@@ -10,7 +10,7 @@ use Rattle.memory_model.proofs.Rows.{value_at-row_before, value_at-row_key, valu
 use Rattle.file_model.specs.File.{File, is_name}
 use Rattle.file_model.specs.Sizes.{first_address, all_slots_size, greatest_length}
 use Rattle.file_model.specs.Slots.{number_at, name_at, is_in_use, file_at, slot_at, slots_from, slot_start, length_offset, length_at_base_offset, flags_offset}
-use Rattle.file_model.specs.Reconcile.{Reconciled, shown_from, shown_files, reconcile_files, with_entries}
+use Rattle.file_model.specs.Reconcile.{Reconciliation, shown_from, shown_files, reconcile_files, with_entries}
 use Rattle.space_model.specs.Files.{file_bytes, with_file_bytes, files_in, with_files_of, files_left_out}
 
 -- ---- bytes that are all 0 have no slot in use
@@ -64,7 +64,7 @@ written_again m = same_memory (with_file_bytes m (file_bytes m)) m (λ a. row_ag
 -- ---- what a parent takes over
 
 -- a parent's files before any of a child's
-abbrev at_first : Memory → Reconciled
+abbrev at_first : Memory → Reconciliation
 at_first m = record { slots = files_in m; edits = []; left_out = 0 }
 
 pub none_taken_over : (m : Memory) → with_files_of no_memory m ≡ m
