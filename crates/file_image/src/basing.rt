@@ -12,7 +12,7 @@ use crate::writing::{read_header, write_header};
 // A slot's file with its base.
 fn write_base<B: FileBytes>(bytes: &mut B, slot: u32)
     requires slot { HasFile (B.bytes bytes.old) slot }
-    requires ready { B.is_ready bytes.old slot ≡ true }
+    requires ready { B.has_header bytes.old slot ≡ true }
     ensures bytes { B.bytes bytes.new ≡ with_slot (B.bytes bytes.old) slot (with_base (file_in (B.bytes bytes.old) slot)) }
     ensures kept { B.keeps bytes.old bytes.new }
 {
@@ -22,9 +22,9 @@ fn write_base<B: FileBytes>(bytes: &mut B, slot: u32)
     write_header(bytes, slot, &header);
 }
 
-/// Gives each file its version and its length as base. The slots in use are ready.
+/// Gives each file its version and its length as base. The headers of the slots in use may be written.
 pub fn mark_base<B: FileBytes>(bytes: &mut B)
-    requires { (k : ℕ) → HasFile (B.bytes bytes.old) k → B.is_ready bytes.old k ≡ true }
+    requires { (k : ℕ) → HasFile (B.bytes bytes.old) k → B.has_header bytes.old k ≡ true }
     ensures bytes { B.bytes bytes.new ≡ with_bases (B.bytes bytes.old) }
     ensures kept { B.keeps bytes.old bytes.new }
 {

@@ -34,7 +34,7 @@ fn pad(name: &[u8]) -> [u8; 32]
 fn write_new<B: FileBytes>(bytes: &mut B, slot: u32, name: &[u8], append: bool)
     requires slot { slot < slot_count }
     requires named { is_name name.now ≡ true }
-    requires ready { B.is_ready bytes.old slot ≡ true }
+    requires ready { B.has_header bytes.old slot ≡ true }
     ensures bytes { B.bytes bytes.new ≡ with_slot (B.bytes bytes.old) slot (files.new_file name.now append) }
     ensures kept { B.keeps bytes.old bytes.new }
 {
@@ -55,7 +55,7 @@ fn write_new<B: FileBytes>(bytes: &mut B, slot: u32, name: &[u8], append: bool)
 // A deleted file is there again.
 fn revive<B: FileBytes>(bytes: &mut B, slot: u32, append: bool)
     requires slot { HasFile (B.bytes bytes.old) slot }
-    requires ready { B.is_ready bytes.old slot ≡ true }
+    requires ready { B.has_header bytes.old slot ≡ true }
     ensures bytes { B.bytes bytes.new ≡ with_slot (B.bytes bytes.old) slot (files.revival (file_in (B.bytes bytes.old) slot) append) }
     ensures kept { B.keeps bytes.old bytes.new }
 {
@@ -68,9 +68,9 @@ fn revive<B: FileBytes>(bytes: &mut B, slot: u32, append: bool)
     write_header(bytes, slot, &header);
 }
 
-/// Makes a file, or a deleted one anew. The slot that it takes is ready.
+/// Makes a file, or a deleted one anew. The header of the slot that it takes may be written.
 pub fn create<B: FileBytes>(bytes: &mut B, name: &[u8], append: bool) -> Result<(), FileError>
-    requires { IfOk (files.create (slots_of (B.bytes bytes.old)) name.now append) (λ e. B.is_ready bytes.old e.slot ≡ true) }
+    requires { IfOk (files.create (slots_of (B.bytes bytes.old)) name.now append) (λ e. B.has_header bytes.old e.slot ≡ true) }
     ensures applied { Applies (files.create (slots_of (B.bytes bytes.old)) name.now append) result (B.bytes bytes.old) (B.bytes bytes.new) }
     ensures kept { B.keeps bytes.old bytes.new }
 {
@@ -98,7 +98,7 @@ pub fn create<B: FileBytes>(bytes: &mut B, name: &[u8], append: bool) -> Result<
 // A file is marked deleted, and has no content.
 fn mark_deleted<B: FileBytes>(bytes: &mut B, slot: u32)
     requires slot { HasFile (B.bytes bytes.old) slot }
-    requires ready { B.is_ready bytes.old slot ≡ true }
+    requires ready { B.has_header bytes.old slot ≡ true }
     ensures bytes { B.bytes bytes.new ≡ with_slot (B.bytes bytes.old) slot (files.deleted_file (file_in (B.bytes bytes.old) slot)) }
     ensures kept { B.keeps bytes.old bytes.new }
 {
@@ -110,9 +110,9 @@ fn mark_deleted<B: FileBytes>(bytes: &mut B, slot: u32)
     write_header(bytes, slot, &header);
 }
 
-/// Deletes a file. Its slot, which is ready, stays in use.
+/// Deletes a file. Its slot, whose header may be written, stays in use.
 pub fn delete<B: FileBytes>(bytes: &mut B, name: &[u8]) -> Result<(), FileError>
-    requires { IfOk (files.delete (slots_of (B.bytes bytes.old)) name.now) (λ e. B.is_ready bytes.old e.slot ≡ true) }
+    requires { IfOk (files.delete (slots_of (B.bytes bytes.old)) name.now) (λ e. B.has_header bytes.old e.slot ≡ true) }
     ensures applied { Applies (files.delete (slots_of (B.bytes bytes.old)) name.now) result (B.bytes bytes.old) (B.bytes bytes.new) }
     ensures kept { B.keeps bytes.old bytes.new }
 {

@@ -1,5 +1,5 @@
-ghost use Rattle.std.specs.Prelude.{◌≡◌, ℕ, ◌<◌, ◌/◌, ◌==◌, Bool, true, if◌then◌else◌};
-ghost use Rattle.file_model.specs.Sizes.{slot_count, slot_size, all_slots_size};
+ghost use Rattle.std.specs.Prelude.{◌≡◌, ℕ, ◌<◌, ◌≤◌, ◌/◌, ◌%◌, ◌==◌, Bool, true, if◌then◌else◌};
+ghost use Rattle.file_model.specs.Sizes.{slot_count, slot_size, all_slots_size, content_offset};
 
 /// What the slots of files are kept in. Offsets count from where slot 0 begins, and are below 4,194,304.
 pub trait FileBytes {
@@ -9,6 +9,9 @@ pub trait FileBytes {
     // whether each slot may be written
     ghost is_ready: { Self → ℕ → Bool };
 
+    // whether the header of each slot may be written
+    ghost has_header: { Self → ℕ → Bool };
+
     // what a write leaves as it is
     ghost keeps: { Self → Self → Type 0 };
 
@@ -17,10 +20,11 @@ pub trait FileBytes {
         requires { offset < all_slots_size }
         ensures { result ≡ bytes self.now offset };
 
-    /// Makes the byte at an offset of a slot that is ready `value`.
+    /// Makes the byte at an offset `value`, of a slot that is ready, or of a header that may be written.
     fn set(&mut self, offset: u32, value: u8)
         requires within { offset < all_slots_size }
-        requires ready { is_ready self.old (offset / slot_size) ≡ true }
+        requires header { has_header self.old (offset / slot_size) ≡ true }
+        requires content { content_offset ≤ offset % slot_size → is_ready self.old (offset / slot_size) ≡ true }
         ensures bytes { (a : ℕ) → bytes self.new a ≡ (if a == offset then value else bytes self.old a) }
         ensures kept { keeps self.old self.new };
 
@@ -35,6 +39,11 @@ pub trait FileBytes {
 
     ghost keeps_on: { (s t u : Self) → keeps s t → keeps t u → keeps s u };
 
-    // no slot is less ready after a write
+    // no slot or header is less ready after a write
     ghost ready_on: { (s t : Self) (k : ℕ) → keeps s t → is_ready s k ≡ true → is_ready t k ≡ true };
+
+    ghost header_on: { (s t : Self) (k : ℕ) → keeps s t → has_header s k ≡ true → has_header t k ≡ true };
+
+    // the header of a slot that is ready may be written
+    ghost header_ready: { (s : Self) (k : ℕ) → is_ready s k ≡ true → has_header s k ≡ true };
 }

@@ -1,6 +1,6 @@
 ghost use Rattle.std.specs.Prelude.{◌≡◌, ◌<◌, ◌≤◌, ◌+◌, true, cond, length};
 ghost use Rattle.std.specs.Int.{w32, to_le_bytes};
-ghost use Rattle.file_model.specs.Sizes.{slot_count, slot_size};
+ghost use Rattle.file_model.specs.Sizes.{slot_count, slot_size, content_offset};
 ghost use Rattle.file_model.specs.File.{File};
 ghost use Rattle.file_model.specs.Slots.{slot_start, with_bytes, header_bytes, with_padding};
 ghost use Rattle.file_image.specs.Lookup.{file_in, HasFile};
@@ -29,9 +29,10 @@ pub(crate) struct Header {
 pub(crate) fn write_bytes<B: FileBytes>(bytes: &mut B, slot: u32, offset: u32, part: &[u8])
     requires slot { slot < slot_count }
     requires within { offset + length part.now ≤ slot_size }
-    requires ready { B.is_ready bytes.old slot ≡ true }
+    requires ready { B.has_header bytes.old slot ≡ true }
+    requires content { content_offset < offset + length part.now → B.is_ready bytes.old slot ≡ true }
     ensures bytes { B.bytes bytes.new ≡ with_bytes (B.bytes bytes.old) (slot_start slot + offset) part.now }
-    ensures ready { B.is_ready bytes.new slot ≡ true }
+    ensures ready { B.has_header bytes.new slot ≡ true }
     ensures kept { B.keeps bytes.old bytes.new }
 {
     let start = SLOT_SIZE * slot + offset;
@@ -43,10 +44,10 @@ pub(crate) fn write_bytes<B: FileBytes>(bytes: &mut B, slot: u32, offset: u32, p
 // Writes a number of four bytes at an offset of a slot, the least first.
 fn write_number<B: FileBytes>(bytes: &mut B, slot: u32, offset: u32, value: u32)
     requires slot { slot < slot_count }
-    requires within { offset + 4 ≤ slot_size }
-    requires ready { B.is_ready bytes.old slot ≡ true }
+    requires within { offset + 4 ≤ content_offset }
+    requires ready { B.has_header bytes.old slot ≡ true }
     ensures bytes { B.bytes bytes.new ≡ with_bytes (B.bytes bytes.old) (slot_start slot + offset) (to_le_bytes w32 value) }
-    ensures ready { B.is_ready bytes.new slot ≡ true }
+    ensures ready { B.has_header bytes.new slot ≡ true }
     ensures kept { B.keeps bytes.old bytes.new }
 {
     write_bytes(bytes, slot, offset, &value.to_le_bytes());
@@ -62,9 +63,9 @@ fn flags(header: &Header) -> u32
 // Writes the mark and the first three numbers of a header.
 fn write_versions<B: FileBytes>(bytes: &mut B, slot: u32, header: &Header)
     requires slot { slot < slot_count }
-    requires ready { B.is_ready bytes.old slot ≡ true }
+    requires ready { B.has_header bytes.old slot ≡ true }
     ensures bytes { B.bytes bytes.new ≡ with_bytes (B.bytes bytes.old) (slot_start slot) (first_half header.now) }
-    ensures ready { B.is_ready bytes.new slot ≡ true }
+    ensures ready { B.has_header bytes.new slot ≡ true }
     ensures kept { B.keeps bytes.old bytes.new }
 {
     write_bytes(bytes, slot, 0, b"DTF1");
@@ -76,9 +77,9 @@ fn write_versions<B: FileBytes>(bytes: &mut B, slot: u32, header: &Header)
 // Writes the other numbers of a header, and its name.
 fn write_name<B: FileBytes>(bytes: &mut B, slot: u32, header: &Header)
     requires slot { slot < slot_count }
-    requires ready { B.is_ready bytes.old slot ≡ true }
+    requires ready { B.has_header bytes.old slot ≡ true }
     ensures bytes { B.bytes bytes.new ≡ with_bytes (B.bytes bytes.old) (slot_start slot + 16) (second_half header.now) }
-    ensures ready { B.is_ready bytes.new slot ≡ true }
+    ensures ready { B.has_header bytes.new slot ≡ true }
     ensures kept { B.keeps bytes.old bytes.new }
 {
     write_number(bytes, slot, 16, header.length_at_base);
@@ -90,9 +91,9 @@ fn write_name<B: FileBytes>(bytes: &mut B, slot: u32, header: &Header)
 // Writes a header.
 pub(crate) fn write_header<B: FileBytes>(bytes: &mut B, slot: u32, header: &Header)
     requires slot { slot < slot_count }
-    requires ready { B.is_ready bytes.old slot ≡ true }
+    requires ready { B.has_header bytes.old slot ≡ true }
     ensures bytes { (f : File) → Describes header.now f → B.bytes bytes.new ≡ with_bytes (B.bytes bytes.old) (slot_start slot) (header_bytes f) }
-    ensures ready { B.is_ready bytes.new slot ≡ true }
+    ensures ready { B.has_header bytes.new slot ≡ true }
     ensures kept { B.keeps bytes.old bytes.new }
 {
     write_versions(bytes, slot, header);

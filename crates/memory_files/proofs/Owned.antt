@@ -14,8 +14,11 @@ no_slot (suc n) zero = refl
 no_slot (suc n) (suc k) = no_slot n k
 
 -- to begin with, none is owned
-pub none_owned : (h : Held) → OwnsSlots h (replicate 64 false)
-none_owned h k e = absurd (false≢true (sym (no_slot 64 k) ∙ e))
+pub none_owned : (h : Held) (n : ℕ) → OwnsSlots h n (replicate 64 false)
+none_owned h n k e = absurd (false≢true (sym (no_slot 64 k) ∙ e))
+
+pub none_within : (slots : List Bool) (k : ℕ) → has_slot (replicate 64 false) k ≡ true → has_slot slots k ≡ true
+none_within slots k e = absurd (false≢true (sym (no_slot 64 k) ∙ e))
 
 pub one_owned : (old new : List Bool) (o : Option ℕ) (j k : ℕ) → j < length old → new ≡ set old j true → o ≡ Some j → o ≡ Some k → has_slot new k ≡ true
 one_owned old new o j k within is first second =

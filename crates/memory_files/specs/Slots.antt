@@ -1,5 +1,5 @@
 -- The slots of files in a memory: which of them may be written without taking memory, and what a write to them leaves as it is.
--- Our choice: that a slot is ready where the memory owns each of its pages.
+-- Our choice: that a slot is ready where the memory owns each of its pages, and that its header may be written where the first page is owned.
 use Rattle.std.specs.Prelude.{◌≡◌, ℕ, ◌+◌, ◌*◌, ◌/◌, ◌%◌, ◌^◌, ◌<◌, ◌≤◌, ◌⊎◌, Bool, true, false, List, get_or}
 use Rattle.memory_model.specs.Memory.{Memory, byte_at}
 use Rattle.file_model.specs.Sizes.{first_address, slot_count, all_slots_size}
@@ -9,16 +9,16 @@ use Rattle.space_mem.specs.Held.{Held, Owns, Marks}
 abbrev pub slot_page : ℕ → ℕ
 slot_page k = 786432 + 16 * k
 
--- the memory owns each page of slot k
-abbrev pub OwnsSlot : Held → ℕ → Type 0
-OwnsSlot h k = (page : ℕ) → slot_page k ≤ page → page < slot_page k + 16 → Owns h page
+-- the memory owns n pages from the start of slot k on
+abbrev pub OwnsSlot : Held → ℕ → ℕ → Type 0
+OwnsSlot h n k = (page : ℕ) → slot_page k ≤ page → page < slot_page k + n → Owns h page
 
 abbrev pub has_slot : List Bool → ℕ → Bool
 has_slot slots k = get_or slots k false
 
--- the memory owns each of these slots
-abbrev pub OwnsSlots : Held → List Bool → Type 0
-OwnsSlots h slots = (k : ℕ) → has_slot slots k ≡ true → OwnsSlot h k
+-- the memory owns n pages from the start of each of these slots on
+abbrev pub OwnsSlots : Held → ℕ → List Bool → Type 0
+OwnsSlots h n slots = (k : ℕ) → has_slot slots k ≡ true → OwnsSlot h n k
 
 -- each number that a memory keeps is a byte
 abbrev pub HasBytes : Memory → Type 0

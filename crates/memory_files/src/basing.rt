@@ -5,7 +5,7 @@ ghost use Rattle.space_model.specs.Files.{file_bytes, with_file_bases};
 ghost use Rattle.memory_files.specs.Slots.{OwnsSlots, has_slot};
 
 use crate::files::Files;
-use crate::owning::{FIRST_PAGE, own_slots};
+use crate::owning::{FIRST_PAGE, HEADER_PAGES, own_slots};
 use crate::slots::Slots;
 use file_image::used;
 use space_mem::Mem;
@@ -21,28 +21,28 @@ pub(crate) fn are_kept(memory: &Mem) -> bool
     }
 }
 
-// Gives each file its base, in a memory that owns the slots in use.
+// Gives each file its base, in a memory that owns the headers of the slots in use.
 #[tactic(auto, unfolding(space_model::specs::Files::with_file_bases))]
 fn mark_owned(memory: &mut Mem, slots: [bool; 64])
-    requires owned { OwnsSlots memory.old slots }
+    requires owned { OwnsSlots memory.old 1 slots }
     requires used { (k : ℕ) → HasFile (file_bytes memory.old.memory) k → has_slot slots k ≡ true }
     ensures memory { memory.new.memory ≡ with_file_bases memory.old.memory }
     ensures marks { Marks memory.old memory.new }
 {
-    let mut files = Slots::take(memory, slots);
+    let mut files = Slots::take_headers(memory, slots);
     file_image::mark_base(&mut files);
     files.put_back(memory);
 }
 
-// Owns the slots in use, and answers which are owned. The one error is want of memory.
+// Owns the headers of the slots in use, and answers which are owned. The one error is want of memory.
 fn own_used(memory: &mut Mem) -> Result<[bool; 64], AllocError>
     ensures same { memory.new.memory ≡ memory.old.memory }
-    ensures owned { IfOk result (λ slots. OwnsSlots memory.new slots) }
+    ensures owned { IfOk result (λ slots. OwnsSlots memory.new 1 slots) }
     ensures used { IfOk result (λ slots. (k : ℕ) → HasFile (file_bytes memory.old.memory) k → has_slot slots k ≡ true) }
     ensures marks { Marks memory.old memory.new }
 {
     let bits = used(&Files::new(memory));
-    own_slots(memory, bits)
+    own_slots(memory, bits, HEADER_PAGES)
 }
 
 /// Gives each file in a memory its base: its version and length as they are, which a later change differs from. The one error is want of memory: no byte

@@ -7,7 +7,7 @@ ghost use Rattle.memory_files.specs.Slots.{OwnsSlots, has_slot};
 ghost use Rattle.memory_files.specs.Answers.{HasResult, IsResult, change_answer};
 
 use crate::files::Files;
-use crate::owning::own_slot;
+use crate::owning::{HEADER_PAGES, SLOT_PAGES, own_slot};
 use crate::slots::Slots;
 use file_image::{FileError, create, delete, find, lowest_free, put};
 use space_mem::Mem;
@@ -45,13 +45,13 @@ fn slot_of(memory: &Mem, name: &[u8]) -> Option<u32>
     find(&Files::new(memory), name)
 }
 
-// Makes a file in a memory that owns its slot.
+// Makes a file in a memory that owns the header of its slot.
 fn create_owned(memory: &mut Mem, slots: [bool; 64], name: &[u8], append: bool) -> FileAnswer
-    requires owned { OwnsSlots memory.old slots }
+    requires owned { OwnsSlots memory.old 1 slots }
     requires slot { IfOk (operations.create (files_in memory.old.memory) name.now append) (λ e. has_slot slots e.slot ≡ true) }
     ensures { IsResult (change_result memory.old.memory (operations.create (files_in memory.old.memory) name.now append)) result memory.old memory.new }
 {
-    let mut files = Slots::take(memory, slots);
+    let mut files = Slots::take_headers(memory, slots);
     let made = create(&mut files, name, append);
     files.put_back(memory);
     change_answer(made)
@@ -59,7 +59,7 @@ fn create_owned(memory: &mut Mem, slots: [bool; 64], name: &[u8], append: bool) 
 
 // Writes a file's content in a memory that owns its slot.
 fn put_owned(memory: &mut Mem, slots: [bool; 64], name: &[u8], part: &[u8], add: bool) -> FileAnswer
-    requires owned { OwnsSlots memory.old slots }
+    requires owned { OwnsSlots memory.old 16 slots }
     requires slot { IfOk (operations.put (files_in memory.old.memory) name.now part.now add) (λ e. has_slot slots e.slot ≡ true) }
     ensures { IsResult (change_result memory.old.memory (operations.put (files_in memory.old.memory) name.now part.now add)) result memory.old memory.new }
 {
@@ -69,13 +69,13 @@ fn put_owned(memory: &mut Mem, slots: [bool; 64], name: &[u8], part: &[u8], add:
     change_answer(written)
 }
 
-// Deletes a file in a memory that owns its slot.
+// Deletes a file in a memory that owns the header of its slot.
 fn delete_owned(memory: &mut Mem, slots: [bool; 64], name: &[u8]) -> FileAnswer
-    requires owned { OwnsSlots memory.old slots }
+    requires owned { OwnsSlots memory.old 1 slots }
     requires slot { IfOk (operations.delete (files_in memory.old.memory) name.now) (λ e. has_slot slots e.slot ≡ true) }
     ensures { IsResult (change_result memory.old.memory (operations.delete (files_in memory.old.memory) name.now)) result memory.old memory.new }
 {
-    let mut files = Slots::take(memory, slots);
+    let mut files = Slots::take_headers(memory, slots);
     let deleted = delete(&mut files, name);
     files.put_back(memory);
     change_answer(deleted)
@@ -90,7 +90,7 @@ pub(crate) fn create_file(
     ensures { HasResult (change_result memory.old.memory (operations.create (files_in memory.old.memory) name.now append)) result memory.old memory.new }
 {
     let slot = slot_to_make(memory, name);
-    let slots = own_slot(memory, slot)?;
+    let slots = own_slot(memory, slot, HEADER_PAGES)?;
     Ok(create_owned(memory, slots, name, append))
 }
 
@@ -104,7 +104,7 @@ pub(crate) fn put_file(
     ensures { HasResult (change_result memory.old.memory (operations.put (files_in memory.old.memory) name.now part.now add)) result memory.old memory.new }
 {
     let slot = slot_of(memory, name);
-    let slots = own_slot(memory, slot)?;
+    let slots = own_slot(memory, slot, SLOT_PAGES)?;
     Ok(put_owned(memory, slots, name, part, add))
 }
 
@@ -113,6 +113,6 @@ pub(crate) fn delete_file(memory: &mut Mem, name: &[u8]) -> Result<FileAnswer, A
     ensures { HasResult (change_result memory.old.memory (operations.delete (files_in memory.old.memory) name.now)) result memory.old memory.new }
 {
     let slot = slot_of(memory, name);
-    let slots = own_slot(memory, slot)?;
+    let slots = own_slot(memory, slot, HEADER_PAGES)?;
     Ok(delete_owned(memory, slots, name))
 }

@@ -31,6 +31,8 @@ impl FileBytes for Files<'_> {
     // none may be written
     ghost is_ready = { λ s k. false };
 
+    ghost has_header = { λ s k. false };
+
     ghost keeps = { λ s t. t.memory.now ≡ s.memory.now };
 
     fn byte(&self, offset: u32) -> u8 {
@@ -50,4 +52,8 @@ impl FileBytes for Files<'_> {
     ghost keeps_on = { λ s t u first second. second ∙ first };
 
     ghost ready_on = { λ s t k kept ready. ready };
+
+    ghost header_on = { λ s t k kept header. header };
+
+    ghost header_ready = { λ s k ready. ready };
 }

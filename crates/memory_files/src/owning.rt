@@ -6,71 +6,82 @@ ghost use Rattle.memory_files.specs.Slots.{OwnsSlot, OwnsSlots, has_slot, HasBit
 use space_mem::{Mem, Pages};
 use std::alloc::AllocError;
 
-// The page that slot 0 begins with, and how many pages a slot has.
+// The page that slot 0 begins with, and how many pages a header and a slot have.
 pub(crate) const FIRST_PAGE: u32 = 0xC0000;
 
-const SLOT_PAGES: u32 = 16;
+pub(crate) const HEADER_PAGES: u32 = 1;
 
-// Owns each page of a slot. The one error is want of memory.
-fn own_pages(memory: &mut Mem, slot: u32) -> Result<(), AllocError>
-    requires { slot < slot_count }
+pub(crate) const SLOT_PAGES: u32 = 16;
+
+// Owns some pages from the start of a slot on. The one error is want of memory.
+fn own_pages(memory: &mut Mem, slot: u32, count: u32) -> Result<(), AllocError>
+    requires slot { slot < slot_count }
+    requires count { count ≤ 16 }
     ensures same { memory.new.memory ≡ memory.old.memory }
-    ensures owned { OnOk result (OwnsSlot memory.new slot) }
+    ensures owned { OnOk result (OwnsSlot memory.new count slot) }
     ensures stays { (page : ℕ) → Owns memory.old page → Owns memory.new page }
     ensures marks { Marks memory.old memory.new }
 {
     memory.own(Pages {
         first: FIRST_PAGE + SLOT_PAGES * slot,
-        count: SLOT_PAGES,
+        count,
     })
 }
 
-// Owns a slot, where it is wanted, beside others that are owned. The one error is want of memory.
+// Owns some pages of a slot, where it is wanted, beside those of others that are owned. The one error is want of memory.
 fn own_if(
     memory: &mut Mem,
     slots: &mut [bool; 64],
     slot: u32,
+    count: u32,
     is_wanted: bool,
 ) -> Result<(), AllocError>
-    requires { slot < slot_count }
+    requires slot { slot < slot_count }
+    requires count { count ≤ 16 }
     ensures same { memory.new.memory ≡ memory.old.memory }
-    ensures owned { OnOk result (OwnsSlots memory.old slots.old → OwnsSlots memory.new slots.new) }
+    ensures owned { OnOk result (OwnsSlots memory.old count slots.old → OwnsSlots memory.new count slots.new) }
     ensures slots { OnOk result (slots.new ≡ slice_set slots.old slot is_wanted) }
     ensures marks { Marks memory.old memory.new }
 {
     if is_wanted {
-        own_pages(memory, slot)?;
+        own_pages(memory, slot, count)?;
     }
     slots[slot as usize] = is_wanted;
     Ok(())
 }
 
-// Owns a slot, if there is one, and answers which are owned. The one error is want of memory.
-pub(crate) fn own_slot(memory: &mut Mem, slot: Option<u32>) -> Result<[bool; 64], AllocError>
-    requires { (k : ℕ) → slot ≡ Some k → k < slot_count }
+// Owns some pages of a slot, if there is one, and answers of which slots they are owned. The one error is want of memory.
+pub(crate) fn own_slot(
+    memory: &mut Mem,
+    slot: Option<u32>,
+    count: u32,
+) -> Result<[bool; 64], AllocError>
+    requires slot { (k : ℕ) → slot ≡ Some k → k < slot_count }
+    requires count { count ≤ 16 }
     ensures same { memory.new.memory ≡ memory.old.memory }
-    ensures owned { IfOk result (λ slots. OwnsSlots memory.new slots) }
+    ensures owned { IfOk result (λ slots. OwnsSlots memory.new count slots) }
     ensures slots { IfOk result (λ slots. (k : ℕ) → slot ≡ Some k → has_slot slots k ≡ true) }
     ensures marks { Marks memory.old memory.new }
 {
     let mut slots = [false; 64];
     if let Some(k) = slot {
-        own_if(memory, &mut slots, k, true)?;
+        own_if(memory, &mut slots, k, count, true)?;
     }
     Ok(slots)
 }
 
-// Owns the slots that bits tell, the lowest for slot 0, and answers which are owned. The one error is want of memory.
-pub(crate) fn own_slots(memory: &mut Mem, bits: u64) -> Result<[bool; 64], AllocError>
+// Owns some pages of each slot that bits tell, the lowest for slot 0, and answers of which slots they are owned. The one error is want of memory.
+pub(crate) fn own_slots(memory: &mut Mem, bits: u64, count: u32) -> Result<[bool; 64], AllocError>
+    requires { count ≤ 16 }
     ensures same { memory.new.memory ≡ memory.old.memory }
-    ensures owned { IfOk result (λ slots. OwnsSlots memory.new slots) }
+    ensures owned { IfOk result (λ slots. OwnsSlots memory.new count slots) }
     ensures slots { IfOk result (λ slots. HasBits bits slots) }
     ensures marks { Marks memory.old memory.new }
 {
     let mut slots = [false; 64];
     let mut rest = bits;
     for slot in 0..64 {
-        own_if(memory, &mut slots, slot, rest % 2 == 1)?;
+        own_if(memory, &mut slots, slot, count, rest % 2 == 1)?;
         rest /= 2;
     }
     Ok(slots)

@@ -7,7 +7,7 @@ ghost use Rattle.memory_files.specs.Slots.{OwnsSlots, has_slot};
 
 use crate::basing::are_kept;
 use crate::files::Files;
-use crate::owning::own_slots;
+use crate::owning::{SLOT_PAGES, own_slots};
 use crate::slots::Slots;
 use file_image::touched;
 use space_mem::Mem;
@@ -16,18 +16,18 @@ use std::alloc::AllocError;
 // Owns the parent's slots that reconciling writes, and answers which are owned. The one error is want of memory.
 fn own_touched(parent: &mut Mem, child: &Mem) -> Result<[bool; 64], AllocError>
     ensures same { parent.new.memory ≡ parent.old.memory }
-    ensures owned { IfOk result (λ slots. OwnsSlots parent.new slots) }
+    ensures owned { IfOk result (λ slots. OwnsSlots parent.new 16 slots) }
     ensures ready { IfOk result (λ slots. AreReady (has_slot slots) (reconciling.reconcile (files_in parent.old.memory) (files_in child.now.memory))) }
     ensures marks { Marks parent.old parent.new }
 {
     let bits = touched(&Files::new(parent), &Files::new(child));
-    own_slots(parent, bits)
+    own_slots(parent, bits, SLOT_PAGES)
 }
 
 // Takes over what a child changed, in a parent that owns the slots that are written, and counts the files that are left out.
 #[tactic(auto, unfolding(space_model::specs::Files::with_files_of, space_model::specs::Files::files_left_out))]
 fn reconcile_owned(parent: &mut Mem, slots: [bool; 64], child: &Mem) -> u32
-    requires owned { OwnsSlots parent.old slots }
+    requires owned { OwnsSlots parent.old 16 slots }
     requires ready { AreReady (has_slot slots) (reconciling.reconcile (files_in parent.old.memory) (files_in child.now.memory)) }
     ensures memory { parent.new.memory ≡ with_files_of child.now.memory parent.old.memory }
     ensures count { result ≡ files_left_out child.now.memory parent.old.memory }

@@ -1,5 +1,5 @@
-ghost use Rattle.std.specs.Prelude.{◌≡◌, ◌+◌, ◌/◌, ◌<◌, true};
-ghost use Rattle.file_model.specs.Sizes.{first_address, slot_size, slot_count, all_slots_size};
+ghost use Rattle.std.specs.Prelude.{◌≡◌, ℕ, ◌+◌, ◌/◌, ◌%◌, ◌<◌, ◌≤◌, true};
+ghost use Rattle.file_model.specs.Sizes.{first_address, slot_size, slot_count, all_slots_size, content_offset};
 ghost use Rattle.space_model.specs.Files.{file_bytes};
 ghost use Rattle.memory_model.specs.Sizes.{page_size};
 ghost use Rattle.space_mem.specs.Held.{Marks, Owns, with_written};
@@ -12,27 +12,46 @@ use std::mem;
 // Where slot 0 begins in a memory.
 pub(crate) const FIRST_ADDRESS: u32 = 0xC000_0000;
 
-// The files of a memory, and which slots it owns: they may be written without taking memory.
+// The files of a memory, which slots it owns, and of which it owns the page of the header: they may be written without taking memory.
 #[derive(Drop)]
 pub(crate) struct Slots {
     pub(crate) memory: Mem,
     pub(crate) ready: [bool; 64],
-    pub(crate) ghost owned: { OwnsSlots memory ready },
+    pub(crate) headers: [bool; 64],
+    pub(crate) ghost owned: { OwnsSlots memory 16 ready },
+    pub(crate) ghost headed: { OwnsSlots memory 1 headers },
+    pub(crate) ghost within: { (k : ℕ) → has_slot ready k ≡ true → has_slot headers k ≡ true },
     pub(crate) ghost small: { HasBytes memory.memory },
 }
 
 impl Slots {
     // Takes a memory that owns these slots out of its place.
-    pub(crate) fn take(memory: &mut Mem, ready: [bool; 64]) -> Slots
-        requires { OwnsSlots memory.old ready }
+    pub(crate) fn take(memory: &mut Mem, slots: [bool; 64]) -> Slots
+        requires { OwnsSlots memory.old 16 slots }
         ensures memory { result.memory ≡ memory.old }
-        ensures ready { result.ready ≡ ready }
+        ensures ready { result.ready ≡ slots }
     {
         memory.bounds();
         let none = Mem::new(memory.allocator());
         Slots {
             memory: mem::replace(memory, none),
-            ready,
+            ready: slots,
+            headers: slots,
+        }
+    }
+
+    // Takes a memory that owns the headers of these slots out of its place.
+    pub(crate) fn take_headers(memory: &mut Mem, slots: [bool; 64]) -> Slots
+        requires { OwnsSlots memory.old 1 slots }
+        ensures memory { result.memory ≡ memory.old }
+        ensures headers { result.headers ≡ slots }
+    {
+        memory.bounds();
+        let none = Mem::new(memory.allocator());
+        Slots {
+            memory: mem::replace(memory, none),
+            ready: [false; 64],
+            headers: slots,
         }
     }
 
@@ -44,12 +63,14 @@ impl Slots {
         *memory = own;
     }
 
-    // Writes a byte of a slot that is ready.
+    // Writes a byte of a slot that is ready, or of a header that may be written.
     fn write(&mut self, offset: u32, value: u8)
         requires within { offset < all_slots_size }
-        requires ready { has_slot self.old.ready (offset / slot_size) ≡ true }
+        requires header { has_slot self.old.headers (offset / slot_size) ≡ true }
+        requires content { content_offset ≤ offset % slot_size → has_slot self.old.ready (offset / slot_size) ≡ true }
         ensures memory { self.new.memory ≡ with_written self.old.memory (first_address + offset) value }
         ensures ready { self.new.ready ≡ self.old.ready }
+        ensures headers { self.new.headers ≡ self.old.headers }
         ensures kept { KeepsRest self.old.memory self.new.memory }
     {
         write_owned(&mut self.memory, FIRST_ADDRESS + offset, value);
@@ -79,7 +100,9 @@ impl FileBytes for Slots {
 
     ghost is_ready = { λ s. has_slot s.ready };
 
-    ghost keeps = { λ s t. KeepsRest s.memory t.memory × (t.ready ≡ s.ready) };
+    ghost has_header = { λ s. has_slot s.headers };
+
+    ghost keeps = { λ s t. KeepsRest s.memory t.memory × ((t.ready ≡ s.ready) × (t.headers ≡ s.headers)) };
 
     fn byte(&self, offset: u32) -> u8 {
         self.memory.byte(FIRST_ADDRESS + offset)
@@ -95,9 +118,13 @@ impl FileBytes for Slots {
 
     ghost small = { λ s a. s.small (first_address + a) };
 
-    ghost keeps_itself = { λ s. (laws.keeps_itself s.memory, refl) };
+    ghost keeps_itself = { λ s. (laws.keeps_itself s.memory, (refl, refl)) };
 
-    ghost keeps_on = { λ s t u first second. (laws.keeps_on s.memory t.memory u.memory first.0 second.0, second.1 ∙ first.1) };
+    ghost keeps_on = { λ s t u first second. (laws.keeps_on s.memory t.memory u.memory first.0 second.0, (second.1.0 ∙ first.1.0, second.1.1 ∙ first.1.1)) };
 
-    ghost ready_on = { λ s t k kept ready. ap (λ r. has_slot r k) kept.1 ∙ ready };
+    ghost ready_on = { λ s t k kept ready. ap (λ r. has_slot r k) kept.1.0 ∙ ready };
+
+    ghost header_on = { λ s t k kept header. ap (λ r. has_slot r k) kept.1.1 ∙ header };
+
+    ghost header_ready = { λ s k ready. s.within k ready };
 }

@@ -26,7 +26,7 @@ loop-slot-preserved g c =
     let h = has_file b c.loop-slot.slot (omega arith) (sym c.if-is_free.ensures) in
     record {
       bytes = sym (bases_mark b d c.loop-slot.slot 64 small (omega arith) h c.write_base.ensures.bytes) ∙ c.loop-slot.invariant.bytes;
-      ready = λ k l f. g.met.B.FileBytes.ready_on c.loop-slot.bytes c.write_base.new.bytes k c.write_base.ensures.kept
+      ready = λ k l f. g.met.B.FileBytes.header_on c.loop-slot.bytes c.write_base.new.bytes k c.write_base.ensures.kept
           (c.loop-slot.invariant.ready k (omega arith) (still_used b d c.loop-slot.slot k small h c.write_base.ensures.bytes (omega arith) f));
       kept = g.met.B.FileBytes.keeps_on c.args.bytes.now c.loop-slot.bytes c.write_base.new.bytes c.loop-slot.invariant.kept c.write_base.ensures.kept;
     }

@@ -9,6 +9,6 @@ invariant-loop-slot g l =
     let b = g.B.FileBytes.bytes l.bytes in
     record {
       bytes : with_entries b (base_entries l.slot (slots_from b l.slot (64 - l.slot))) ≡ with_bases (g.B.FileBytes.bytes l.fn.bytes);
-      ready : (k : ℕ) → l.slot ≤ k → HasFile b k → g.B.FileBytes.is_ready l.bytes k ≡ true;
+      ready : (k : ℕ) → l.slot ≤ k → HasFile b k → g.B.FileBytes.has_header l.bytes k ≡ true;
       kept : g.B.FileBytes.keeps l.fn.bytes l.bytes;
     }

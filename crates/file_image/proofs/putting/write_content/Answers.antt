@@ -23,3 +23,9 @@ returns-clause-bytes g c =
       deleted = r.deleted;
     }))
     c.write_bytes.ensures.bytes
+
+pub write_header-requires-clause-ready : goal.write_header-requires-clause-ready
+write_header-requires-clause-ready g c = g.met.B.FileBytes.header_ready c.args.bytes.now c.args.slot c.requires.ready
+
+pub write_bytes-requires-clause-content : goal.write_bytes-requires-clause-content
+write_bytes-requires-clause-content g c = λ more. g.met.B.FileBytes.ready_on c.args.bytes.now c.write_header.new.bytes c.args.slot c.write_header.ensures.kept c.requires.ready

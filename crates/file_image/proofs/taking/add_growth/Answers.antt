@@ -25,7 +25,7 @@ copy_bytes-requires g c =
       slot = c.requires.to.within;
       within = omega (arith, e, n, c.length_at_base-from.ensures, c.length.ensures);
       from = omega (arith, s, h, c.length_at_base-from.ensures, c.length.ensures, c.requires.slot.within);
-      ready = c.write_header.ensures.ready;
+      ready = g.met.P.FileBytes.ready_on c.args.parent.now c.write_header.new.bytes c.args.to c.write_header.ensures.kept c.requires.ready;
     }
 
 pub returns-clause-bytes : goal.returns-clause-bytes
@@ -51,3 +51,6 @@ returns-clause-bytes g c =
       deleted = r.deleted;
     }))
     c.copy_bytes.ensures.bytes
+
+pub write_header-requires-clause-ready : goal.write_header-requires-clause-ready
+write_header-requires-clause-ready g c = g.met.P.FileBytes.header_ready c.args.parent.now c.args.to c.requires.ready

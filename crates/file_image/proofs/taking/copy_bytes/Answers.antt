@@ -12,10 +12,13 @@ loop-i-init g c = record {
 }
 
 pub set-requires : goal.set-requires
-set-requires g c = record {
-  within = omega (arith, c.requires.slot, c.requires.within);
-  ready = let e : (65536 * c.args.slot + c.args.offset + c.loop-i.i) / 65536 ≡ c.args.slot = omega (arith, c.requires.within) in ap (g.P.FileBytes.is_ready c.loop-i.parent) e ∙ c.loop-i.invariant.ready;
-}
+set-requires g c =
+    let e : (65536 * c.args.slot + c.args.offset + c.loop-i.i) / 65536 ≡ c.args.slot = omega (arith, c.requires.within) in
+    record {
+      within = omega (arith, c.requires.slot, c.requires.within);
+      header = ap (g.P.FileBytes.has_header c.loop-i.parent) e ∙ g.met.P.FileBytes.header_ready c.loop-i.parent c.args.slot c.loop-i.invariant.ready;
+      content = λ low. ap (g.P.FileBytes.is_ready c.loop-i.parent) e ∙ c.loop-i.invariant.ready;
+    }
 
 pub loop-i-preserved : goal.loop-i-preserved
 loop-i-preserved g c =

@@ -22,3 +22,6 @@ returns-clause-bytes g c =
       deleted = refl;
     })
     ∙ same_written b c.args.to f (own_name b c.args.to c.requires.to) (own_content b c.args.to)
+
+pub write_header-requires-clause-ready : goal.write_header-requires-clause-ready
+write_header-requires-clause-ready g c = g.met.P.FileBytes.header_ready c.args.parent.now c.args.to c.requires.ready

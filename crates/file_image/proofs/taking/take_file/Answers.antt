@@ -9,7 +9,7 @@ pub copy_bytes-requires : goal.copy_bytes-requires
 copy_bytes-requires g c =
     let s = short_file (g.C.FileBytes.bytes c.args.child.now) c.args.slot c.requires.slot in
     let n = c.read_header-header.ensures.length in
-    record { slot = c.requires.to; within = omega (arith, s, n); from = omega (arith, s, n, c.requires.slot.within); ready = c.write_header.ensures.ready }
+    record { slot = c.requires.to; within = omega (arith, s, n); from = omega (arith, s, n, c.requires.slot.within); ready = g.met.P.FileBytes.ready_on c.args.parent.now c.write_header.new.bytes c.args.to c.write_header.ensures.kept c.requires.ready }
 
 pub returns-clause-bytes : goal.returns-clause-bytes
 unfolding with_slot
@@ -35,3 +35,6 @@ returns-clause-bytes g c =
       conflicted = r.conflicted;
       deleted = r.deleted;
     }))
+
+pub write_header-requires-clause-ready : goal.write_header-requires-clause-ready
+write_header-requires-clause-ready g c = g.met.P.FileBytes.header_ready c.args.parent.now c.args.to c.requires.ready

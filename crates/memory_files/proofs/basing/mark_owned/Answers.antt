@@ -2,4 +2,4 @@ use Rattle.memory_files.proofs.Bases.{based}
 use Rattle.memory_files.proofs.basing.mark_owned.Goals as goal
 
 pub returns-clause-memory : goal.returns-clause-memory
-returns-clause-memory c = based c.args.memory.now c.take-files.result.memory c.mark_base.new.bytes.memory c.put_back.new.memory c.take-files.ensures.memory c.put_back.ensures c.mark_base.ensures.bytes c.mark_base.ensures.kept.0
+returns-clause-memory c = based c.args.memory.now c.take_headers-files.result.memory c.mark_base.new.bytes.memory c.put_back.new.memory c.take_headers-files.ensures.memory c.put_back.ensures c.mark_base.ensures.bytes c.mark_base.ensures.kept.0

@@ -6,7 +6,7 @@ use Rattle.memory_files.proofs.owning.own_slots.Goals as goal
 pub loop-slot-init : goal.loop-slot-init
 loop-slot-init c = record {
   same = refl;
-  owned = none_owned c.args.memory.now;
+  owned = none_owned c.args.memory.now c.args.count;
   long = refl;
   rest = omega arith;
   slots = λ k below bit. absurd (omega arith);

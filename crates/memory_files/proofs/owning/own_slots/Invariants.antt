@@ -6,7 +6,7 @@ use Rattle.memory_files.proofs.owning.own_slots.Given as goal
 abbrev pub invariant-loop-slot : goal.invariant-loop-slot
 invariant-loop-slot l = record {
   same : l.memory.memory ≡ l.fn.memory.memory;
-  owned : OwnsSlots l.memory l.slots;
+  owned : OwnsSlots l.memory l.count l.slots;
   long : length l.slots ≡ 64;
   rest : l.rest ≡ l.fn.bits / 2 ^ l.slot;
   slots : (k : ℕ) → k < l.slot → l.fn.bits / 2 ^ k % 2 ≡ 1 → has_slot l.slots k ≡ true;

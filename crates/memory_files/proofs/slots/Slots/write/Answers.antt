@@ -4,11 +4,14 @@ use Rattle.memory_files.proofs.Writes.{slot_owner, owned_after, rest_kept}
 use Rattle.memory_files.proofs.slots.Slots.write.Goals as goal
 
 pub write_owned-requires : goal.write_owned-requires
-write_owned-requires c = slot_owner c.args.self.now.memory c.args.self.now.ready c.args.offset c.args.self.now.owned c.requires.ready
+write_owned-requires c =
+    slot_owner c.args.self.now.memory c.args.self.now.ready c.args.self.now.headers c.args.offset c.args.self.now.owned c.args.self.now.headed c.requires.header c.requires.content
 
 pub invariant_of-self : goal.invariant_of-self
 invariant_of-self c = record {
-  owned = owned_after c.args.self.now.memory c.write_owned.new.memory (first_address + c.args.offset) c.args.value c.args.self.now.ready c.write_owned.ensures.written c.args.self.now.owned;
+  owned = owned_after c.args.self.now.memory c.write_owned.new.memory (first_address + c.args.offset) c.args.value 16 c.args.self.now.ready c.write_owned.ensures.written c.args.self.now.owned;
+  headed = owned_after c.args.self.now.memory c.write_owned.new.memory (first_address + c.args.offset) c.args.value 1 c.args.self.now.headers c.write_owned.ensures.written c.args.self.now.headed;
+  within = c.args.self.now.within;
   small = c.write_owned.ensures.small;
 }
 
