@@ -1,4 +1,4 @@
-use call_model::{Badcall, Block, Call, Transfer};
+use call_model::{Badcall, Block, Call, FileCall, Transfer};
 use space_model::Cause;
 use std::process::Abort;
 use std::test::Fail;
@@ -42,6 +42,8 @@ fn numbers_and_options(rt: HostRuntime) -> Result<(), Fail> {
     first_failing(&rt, [0, 0, 0, 0, 0, 0, 0, 5], [1, 1, 1]);
     first_failing(&rt, [8, 65_536, 0, 0, 0, 0, 0, 15], [1, 1, 1]);
     first_failing(&rt, [8, 65_536, 0, 0, 0, 0, 0, 20], [1, 1, 1]);
+    first_failing(&rt, [0, 0, 0, 2, 0, 2, 0, 23], [1, 1, 1]);
+    first_failing(&rt, [0, 0, 0, 2, 0, 2, 0, 29], [1, 1, 1]);
     // options that are not known
     first_failing(&rt, [512, 0, 0, 0, 0, 0, 0, 2], [2, 2, 2]);
     first_failing(&rt, [0x8000_0000, 0, 0, 0, 0, 0, 0, 1], [2, 2, 2]);
@@ -120,6 +122,89 @@ fn console_depth_and_blocks(rt: HostRuntime) -> Result<(), Fail> {
     Ok(())
 }
 
+// The same of a call on a file, where the depth does not matter: registers a1 to a5, and a7.
+fn file_fails(rt: &impl Abort, a: [u32; 5], call: u32, want: u8) {
+    let registers = [9, a[0], a[1], a[2], a[3], a[4], 9, call];
+    first_failing(rt, registers, [want, want, want]);
+}
+
+#[test]
+fn choices_of_file_calls(rt: HostRuntime) -> Result<(), Fail> {
+    // whether content is only added to
+    file_fails(&rt, [0, 0, 0, 9, 9], 24, 0);
+    file_fails(&rt, [0, 0, 1, 9, 9], 24, 0);
+    file_fails(&rt, [0, 0, 2, 9, 9], 24, 2);
+    file_fails(&rt, [0, 0, 0x8000_0000, 9, 9], 24, 2);
+    file_fails(&rt, [0xFFFF_FFFF, 2, 1, 9, 9], 24, 4);
+    file_fails(&rt, [0xFFFF_FFFF, 2, 2, 9, 9], 24, 2);
+    // whether data is added
+    file_fails(&rt, [0, 0, 9, 9, 0], 25, 0);
+    file_fails(&rt, [0, 0, 9, 9, 1], 25, 0);
+    file_fails(&rt, [0, 0, 9, 9, 2], 25, 2);
+    file_fails(&rt, [0, 0, 9, 9, 0x8000_0000], 25, 2);
+    file_fails(&rt, [0, 0, 0xFFFF_FFFF, 2, 1], 25, 4);
+    file_fails(&rt, [0, 0, 0xFFFF_FFFF, 2, 2], 25, 2);
+    // no other file call has a choice
+    file_fails(&rt, [0, 0, 2, 2, 2], 26, 0);
+    file_fails(&rt, [0, 0, 2, 2, 2], 27, 0);
+    file_fails(&rt, [0, 0, 2, 2, 2], 28, 0);
+    Ok(())
+}
+
+#[test]
+fn ranges_of_file_calls(rt: HostRuntime) -> Result<(), Fail> {
+    // a name that ends where memory does, and one byte past it
+    file_fails(&rt, [0xFFFF_FFFE, 2, 0, 9, 9], 24, 0);
+    file_fails(&rt, [0xFFFF_FFFE, 3, 0, 9, 9], 24, 4);
+    file_fails(&rt, [0xFFFF_FFFE, 2, 9, 9, 0], 25, 0);
+    file_fails(&rt, [0xFFFF_FFFE, 3, 9, 9, 0], 25, 4);
+    file_fails(&rt, [0xFFFF_FFFE, 2, 9, 9, 9], 26, 0);
+    file_fails(&rt, [0xFFFF_FFFE, 3, 9, 9, 9], 26, 4);
+    file_fails(&rt, [0xFFFF_FFFE, 2, 9, 9, 9], 27, 0);
+    file_fails(&rt, [0xFFFF_FFFE, 3, 9, 9, 9], 27, 4);
+    file_fails(&rt, [0xFFFF_FFFE, 2, 9, 9, 9], 28, 0);
+    file_fails(&rt, [0xFFFF_FFFE, 3, 9, 9, 9], 28, 4);
+    // the same of data and of a buffer
+    file_fails(&rt, [0, 9, 0xFFFF_FFFE, 2, 0], 25, 0);
+    file_fails(&rt, [0, 9, 0xFFFF_FFFE, 3, 0], 25, 4);
+    file_fails(&rt, [0, 9, 0xFFFF_FFFE, 2, 9], 26, 0);
+    file_fails(&rt, [0, 9, 0xFFFF_FFFE, 3, 9], 26, 4);
+    // the others have none
+    file_fails(&rt, [0, 9, 1, 0xFFFF_FFFF, 9], 24, 0);
+    file_fails(&rt, [0, 9, 0xFFFF_FFFE, 3, 9], 27, 0);
+    file_fails(&rt, [0, 9, 0xFFFF_FFFE, 3, 9], 28, 0);
+    Ok(())
+}
+
+#[test]
+fn lengths_of_file_calls(rt: HostRuntime) -> Result<(), Fail> {
+    // of a name
+    file_fails(&rt, [0xFFFF_0000, 65_536, 0, 9, 9], 24, 0);
+    file_fails(&rt, [0, 65_537, 0, 9, 9], 24, 7);
+    file_fails(&rt, [0xFFFF_0000, 65_536, 9, 9, 0], 25, 0);
+    file_fails(&rt, [0, 65_537, 9, 9, 0], 25, 7);
+    file_fails(&rt, [0xFFFF_0000, 65_536, 9, 9, 9], 26, 0);
+    file_fails(&rt, [0, 65_537, 9, 9, 9], 26, 7);
+    file_fails(&rt, [0xFFFF_0000, 65_536, 9, 9, 9], 27, 0);
+    file_fails(&rt, [0, 65_537, 9, 9, 9], 27, 7);
+    file_fails(&rt, [0xFFFF_0000, 65_536, 9, 9, 9], 28, 0);
+    file_fails(&rt, [0, 65_537, 9, 9, 9], 28, 7);
+    // of data and of a buffer; the others have none
+    file_fails(&rt, [0, 9, 0xFFFF_0000, 65_536, 0], 25, 0);
+    file_fails(&rt, [0, 9, 0, 65_537, 0], 25, 7);
+    file_fails(&rt, [0, 9, 0xFFFF_0000, 65_536, 9], 26, 0);
+    file_fails(&rt, [0, 9, 0, 65_537, 9], 26, 7);
+    file_fails(&rt, [0, 9, 0, 65_537, 9], 24, 0);
+    file_fails(&rt, [0, 9, 0, 65_537, 9], 27, 0);
+    file_fails(&rt, [0, 9, 0, 65_537, 9], 28, 0);
+    // too long, and past the end of memory: of name or data, or of one each
+    file_fails(&rt, [0xFFFF_0000, 65_537, 0, 9, 9], 24, 4);
+    file_fails(&rt, [0, 9, 0xFFFF_0000, 65_537, 0], 25, 4);
+    file_fails(&rt, [0, 65_537, 0xFFFF_FFFE, 3, 0], 25, 4);
+    file_fails(&rt, [0xFFFF_FFFE, 3, 0, 65_537, 9], 26, 4);
+    Ok(())
+}
+
 fn reads(rt: &impl Abort, a: [u32; 8], want: Result<Call, Badcall>) {
     assert_eq!(rt; read(a, true, 7), want, "at {a:?}");
 }
@@ -166,6 +251,48 @@ fn calls_of_trees_and_runtime(rt: HostRuntime) -> Result<(), Fail> {
     reads(&rt, [7, 1, 0, 3, 4, 0, 0, 17], Ok(Call::Wait { child }));
     reads(&rt, [7, 1, 0, 3, 4, 0, 0, 18], Ok(Call::Tfork { child }));
     reads(&rt, [7, 1, 0, 3, 4, 0, 0, 19], Ok(Call::Tjoin { child }));
+    Ok(())
+}
+
+// Registers a1 to a5 and a7 of a call on a file, which fail no test.
+fn reads_file_call(rt: &impl Abort, a: [u32; 5], call: u32, want: FileCall) {
+    let registers = [9, a[0], a[1], a[2], a[3], a[4], 9, call];
+    reads(rt, registers, Ok(Call::File(want)));
+}
+
+#[test]
+fn file_calls(rt: HostRuntime) -> Result<(), Fail> {
+    let (name, name_len) = (1, 2);
+    let (addr, len) = (3, 4);
+    for choice in 0..2 {
+        let append = choice == 1;
+        let new = FileCall::New {
+            name,
+            name_len,
+            append,
+        };
+        reads_file_call(&rt, [1, 2, choice, 4, 5], 24, new);
+        let put = FileCall::Put {
+            name,
+            name_len,
+            addr,
+            len,
+            add: append,
+        };
+        reads_file_call(&rt, [1, 2, 3, 4, choice], 25, put);
+    }
+    let get = FileCall::Get {
+        name,
+        name_len,
+        addr,
+        len,
+        offset: 5,
+    };
+    reads_file_call(&rt, [1, 2, 3, 4, 5], 26, get);
+    let length = FileCall::Length { name, name_len };
+    reads_file_call(&rt, [1, 2, 3, 4, 5], 27, length);
+    let delete = FileCall::Delete { name, name_len };
+    reads_file_call(&rt, [1, 2, 3, 4, 5], 28, delete);
     Ok(())
 }
 
