@@ -1,11 +1,13 @@
-//! Tests of spaces: of trees of them, of Put and Get, of processes and threads, of local events and stretches of them, of booting, of runs and of
-//! reports, through what the crates below show.
+//! Tests of spaces: of trees of them, of Put and Get, of processes and threads, of local events, file calls among them, and stretches of them, of
+//! booting, of runs and of reports, through what the crates below show.
 #![tactic(auto)]
 
 #[cfg(test)]
 mod copied_trees;
 #[cfg(test)]
 mod events;
+#[cfg(test)]
+mod file_calls;
 #[cfg(test)]
 mod joins;
 #[cfg(test)]
