@@ -1,5 +1,5 @@
-//! Tests of one machine: instruction words, the processor, pages, memories and their merge, and how a call is read from
-//! registers.
+//! Tests of one machine: instruction words, the processor, pages, memories and their merge, files, and how a call is read
+//! from registers.
 #![tactic(auto)]
 
 #[cfg(test)]
@@ -8,6 +8,8 @@ mod calls;
 mod decoding;
 #[cfg(test)]
 mod dirty_pages;
+#[cfg(test)]
+mod files;
 #[cfg(test)]
 mod instructions;
 #[cfg(test)]
