@@ -6,7 +6,7 @@ use Rattle.image_model.specs.declared.ImageError.{ImageError}
 use Rattle.image_model.specs.Image.{Image, image_bytes}
 use Rattle.image_model.specs.Reading.{image_of}
 use Rattle.source_model.specs.declared.error.AsmError.{AsmError}
-use Rattle.source_model.specs.Source.{source_of}
+use Rattle.source_model.specs.Reading.{source_of}
 use Rattle.space_model.specs.Space.{Space, top_of}
 use Rattle.space_model.specs.Stop.{has_returned}
 use Rattle.run_model.specs.Boot.{boot}

@@ -1,5 +1,5 @@
 ghost use Rattle.std.specs.Prelude.{◌≡◌, ◌≤◌, Some, IfOk};
-ghost use Rattle.source_model.specs.Source.{source_of};
+ghost use Rattle.source_model.specs.Reading.{source_of};
 ghost use Rattle.command_line.specs.Line.{asm};
 ghost use Rattle.det_cli.specs.Commands.{bad_source, expectation_of_bytes, expectation_of_source, steps_of, whole_of};
 ghost use Rattle.det_cli.specs.Files.{input_of};

@@ -3,7 +3,8 @@ use Rattle.std.proofs.Common.{◌≡◌, ℕ, zero, suc, ◌<◌, ◌≤◌, Boo
 use Rattle.std.specs.Prelude.{◌==◌}
 use Rattle.source_model.specs.declared.statement.Class.{Class}
 use Rattle.source_model.specs.declared.statement.Class.TheVariants.{LineFeed}
-use Rattle.source_model.specs.Text.{contains, before, from, lines_of, add_first}
+use Rattle.source_model.specs.Text.{contains, before, from}
+use Rattle.source_model.specs.Bytes.{lines_of, add_first}
 
 abbrev pub NoneBelow : Class → List ℕ → ℕ → Type 0
 NoneBelow class text i = (k : ℕ) → k < i → contains class (get_or text k 0) ≡ false

@@ -15,10 +15,12 @@ use Rattle.source_model.specs.declared.error.AsmErrorKind.TheVariants as kinds
 use Rattle.source_model.specs.declared.statement.Statement.{Statement}
 use Rattle.source_model.specs.declared.statement.Statement.TheVariants.{Nothing, Plain, Branch, Jump, LoadImmediate, Segment, Entry, Stack, Word, Byte, Zero}
 use Rattle.source_model.specs.declared.statement.Layout.{Layout}
-use Rattle.source_model.specs.Layout.{size_of, bytes_misplaced, segment_misplaced, is_misplaced, further, address_in}
-use Rattle.source_model.specs.Source.{Draft, Labels, limit, bytes_of, blank, closed, size_with, applied, checked, completed, is_too_far, is_defined_before, in_line, with_line, with_lines, resolved, operand_of, finished}
+use Rattle.source_model.specs.Layout.{size_of, bytes_out_of_place, segment_out_of_place, is_out_of_place, further, address_in}
+use Rattle.source_model.specs.Reading.{Draft, Labels, limit, bytes_of, blank, all_segments, size_with, draft_with, check_line, with_value, is_too_far, is_defined_before, in_line, with_line, with_lines, worth_of, operand_of, draft_image}
+use Rattle.source_model.proofs.Sizes.{size-bytes, IsSized, apply-size, file-size}
 use Rattle.source_model.specs.Line.{label_of, statement_in}
-use Rattle.source_model.specs.Text.{◌>>=◌, is_empty}
+use Rattle.source_model.specs.Bytes.{is_empty}
+use Rattle.source_model.specs.Text.{◌>>=◌}
 use Rattle.source_model.specs.Statement.{Read}
 
 -- what stands in the segment that began last, and how many are closed
@@ -54,7 +56,7 @@ count-of : (r : Option ℕ) (base len count begun : ℕ) → Reaches r base len 
 count-of None base len count begun h = (h.1, λ lt. absurd (omega (arith, lt, h.0)))
 count-of (Some a) base len count begun h = (omega (arith, h.1), λ lt. h.1)
 
-close-at : (here : Layout) (base permission size : ℕ) (content : List ℕ) (ss : List model.Segment) → IsSoundAt here base permission (length content) size ss → IsClosed here.used here.begun (closed base permission content ss)
+close-at : (here : Layout) (base permission size : ℕ) (content : List ℕ) (ss : List model.Segment) → IsSoundAt here base permission (length content) size ss → IsClosed here.used here.begun (all_segments base permission content ss)
 close-at here base permission size [] ss h = record { segments = h.segments; pages = h.pages; count = (count-of here.reached base 0 (length ss) here.begun h.reached).0 }
 close-at here base permission size (b ∷ bs) ss h =
     let s : model.Segment = record { address = base; permission = permission; content = b ∷ bs } in
@@ -70,33 +72,20 @@ close-at here base permission size (b ∷ bs) ss h =
       count = omega (arith, length-append ss (s ∷ []), count);
     }
 
-pub is-closed : (d : Draft) → IsSound d → IsClosed d.layout.used d.layout.begun (closed d.base d.permission d.content d.segments)
+pub is-closed : (d : Draft) → IsSound d → IsClosed d.layout.used d.layout.begun (all_segments d.base d.permission d.content d.segments)
 is-closed d h = close-at d.layout d.base d.permission d.size d.content d.segments h
 
-pub count-closed : (d : Draft) → IsSound d → length (closed d.base d.permission d.content d.segments) ≤ 64
+pub count-closed : (d : Draft) → IsSound d → length (all_segments d.base d.permission d.content d.segments) ≤ 64
 count-closed d h = omega (arith, (is-closed d h).count, h.few)
 
 -- ---- bytes
-
-size-bytes : (here : ℕ) (s : Statement) (v : ℕ) → length (bytes_of here s v) ≡ size_of s
-size-bytes here Nothing v = refl
-size-bytes here (Plain i) v = refl
-size-bytes here (Branch c a b t) v = refl
-size-bytes here (Jump r t) v = refl
-size-bytes here (LoadImmediate r t) v = refl
-size-bytes here (Segment a p) v = refl
-size-bytes here (Entry t) v = refl
-size-bytes here (Stack t) v = refl
-size-bytes here (Word t) v = refl
-size-bytes here (Byte n) v = refl
-size-bytes here (Zero n) v = length-replicate n 0
 
 and-second : (x y : Bool) → (x && y) ≡ false → x ≡ true → y ≡ false
 and-second true y h t = h
 and-second false y h t = cc
 
 some-step : (a used begun base permission len size size2 n : ℕ) (ss : List model.Segment) (t : Bool) → (n == 0) ≡ t → IsSoundAt (record { reached = Some a; used = used; begun = begun }) base permission len size ss
-    → bytes_misplaced (Some a) n ≡ false → len + n ≤ size2 → size2 ≤ 16777216 → IsSoundAt (further (Some a) (record { reached = Some a; used = used; begun = begun }) n) base permission (len + n) size2 ss
+    → bytes_out_of_place (Some a) n ≡ false → len + n ≤ size2 → size2 ≤ 16777216 → IsSoundAt (further (Some a) (record { reached = Some a; used = used; begun = begun }) n) base permission (len + n) size2 ss
 some-step a used begun base permission len size size2 n ss true e h fits short room =
     let none : n ≡ 0 = eqb-true n 0 e in
     let same : len + n ≡ len = omega arith in
@@ -121,7 +110,7 @@ some-step a used begun base permission len size size2 n ss false e h fits short 
     }
 
 extend-at : (r : Option ℕ) (used begun base permission len size size2 n : ℕ) (ss : List model.Segment) → IsSoundAt (record { reached = r; used = used; begun = begun }) base permission len size ss
-    → bytes_misplaced r n ≡ false → len + n ≤ size2 → size2 ≤ 16777216 → IsSoundAt (further r (record { reached = r; used = used; begun = begun }) n) base permission (len + n) size2 ss
+    → bytes_out_of_place r n ≡ false → len + n ≤ size2 → size2 ≤ 16777216 → IsSoundAt (further r (record { reached = r; used = used; begun = begun }) n) base permission (len + n) size2 ss
 extend-at None used begun base permission len size size2 n ss h fits short room =
     let none : n ≤ 0 = ltb-false 0 n fits in
     let same : len + n ≡ len = omega arith in
@@ -135,7 +124,7 @@ grows size len n extra true e h =
     omega arith
 grows size len n extra false e h = omega arith
 
-extend : (d : Draft) (bytes : List ℕ) (n : ℕ) → IsSound d → length bytes ≡ n → bytes_misplaced d.layout.reached n ≡ false → nat_lt limit (size_with d n) ≡ false
+extend : (d : Draft) (bytes : List ℕ) (n : ℕ) → IsSound d → length bytes ≡ n → bytes_out_of_place d.layout.reached n ≡ false → nat_lt limit (size_with d n) ≡ false
     → IsSoundAt (further d.layout.reached d.layout n) d.base d.permission (length (d.content ++ bytes)) (size_with d n) d.segments
 extend d bytes n h counted fits room =
     let len : length (d.content ++ bytes) ≡ length d.content + n = length-append d.content bytes ∙ ap (λ (k : ℕ). length d.content + k) counted in
@@ -150,15 +139,15 @@ or-three false true z h = cc
 or-three false false true h = cc
 or-three false false false h = (refl, refl, refl)
 
-begin : (d : Draft) (a p v : ℕ) → IsSound d → segment_misplaced d.layout a p ≡ false → IsSound (applied d (Segment a p) v)
+begin : (d : Draft) (a p v : ℕ) → IsSound d → segment_out_of_place d.layout a p ≡ false → IsSound (draft_with d (Segment a p) v)
 begin d a p v h fits =
     let parts = or-three (nat_lt 3 p) (nat_lt (a / 4096 * 4096) d.layout.used) (nat_le 64 d.layout.begun) fits in
     let permitted : p ≤ 3 = ltb-false 3 p parts.0 in
     let above : d.layout.used ≤ a / 4096 * 4096 = ltb-false (a / 4096 * 4096) d.layout.used parts.1 in
     let few : d.layout.begun < 64 = leb-false 64 d.layout.begun parts.2 in
     let old = is-closed d h in
-    let pages : page_after 0 (closed d.base d.permission d.content d.segments) * 4096 ≤ d.layout.used + 4095 = old.pages in
-    let count : length (closed d.base d.permission d.content d.segments) ≤ d.layout.begun = old.count in
+    let pages : page_after 0 (all_segments d.base d.permission d.content d.segments) * 4096 ≤ d.layout.used + 4095 = old.pages in
+    let count : length (all_segments d.base d.permission d.content d.segments) ≤ d.layout.begun = old.count in
     let room : d.size ≤ 16777216 = h.room in
     record {
       segments = old.segments;
@@ -172,7 +161,7 @@ begin d a p v h fits =
       room = room;
     }
 
-apply : (d : Draft) (s : Statement) (v : ℕ) → IsSound d → is_misplaced d.layout s ≡ false → nat_lt limit (size_with d (size_of s)) ≡ false → IsSound (applied d s v)
+apply : (d : Draft) (s : Statement) (v : ℕ) → IsSound d → is_out_of_place d.layout s ≡ false → nat_lt limit (size_with d (size_of s)) ≡ false → IsSound (draft_with d s v)
 apply d Nothing v h fits room = extend d [] 0 h refl fits room
 apply d (Plain i) v h fits room = extend d (bytes_of (address_in d.layout.reached) (Plain i) v) 4 h (size-bytes (address_in d.layout.reached) (Plain i) v) fits room
 apply d (Branch c a b t) v h fits room = extend d (bytes_of (address_in d.layout.reached) (Branch c a b t) v) 4 h (size-bytes (address_in d.layout.reached) (Branch c a b t) v) fits room
@@ -185,58 +174,7 @@ apply d (Word t) v h fits room = extend d (bytes_of (address_in d.layout.reached
 apply d (Byte n) v h fits room = extend d (bytes_of (address_in d.layout.reached) (Byte n) v) 1 h (size-bytes (address_in d.layout.reached) (Byte n) v) fits room
 apply d (Zero n) v h fits room = extend d (bytes_of (address_in d.layout.reached) (Zero n) v) n h (size-bytes (address_in d.layout.reached) (Zero n) v) fits room
 
--- ---- the size of the file
-
--- what a segment with these bytes takes in the file
-abbrev pub cost : List ℕ → ℕ
-cost [] = 0
-cost (b ∷ bs) = 9 + length (b ∷ bs)
-
-segment-cost : (s : model.Segment) → length (flat_map segment_bytes (s ∷ [])) ≡ 9 + length s.content
-segment-cost s = ap length (flat_map-cons segment_bytes s []) ∙ (ap length (append-nil (segment_bytes s)) ∙ omega arith)
-
-closed-cost : (base permission : ℕ) (content : List ℕ) (ss : List model.Segment) → length (flat_map segment_bytes (closed base permission content ss)) ≡ length (flat_map segment_bytes ss) + cost content
-closed-cost base permission [] ss = omega arith
-closed-cost base permission (b ∷ bs) ss =
-    let s : model.Segment = record { address = base; permission = permission; content = b ∷ bs } in
-    let one : flat_map segment_bytes (ss ++ s ∷ []) ≡ flat_map segment_bytes ss ++ flat_map segment_bytes (s ∷ []) = flat_map-append segment_bytes ss (s ∷ []) in
-    let two : length (flat_map segment_bytes (s ∷ [])) ≡ 9 + length (b ∷ bs) = segment-cost s in
-    rw (one, length-append) (omega arith)
-
-add-cost : (content bytes : List ℕ) (size : ℕ) (t : Bool) → (length bytes == 0) ≡ t → (cond t size (size + length bytes + cond (is_empty content) 9 0)) + cost content ≡ size + cost (content ++ bytes)
-add-cost content [] size true e = rw append-nil refl
-add-cost content (x ∷ xs) size true e = absurd (omega (arith, eqb-true (length (x ∷ xs)) 0 e))
-add-cost content [] size false e = absurd (eqb-false 0 0 e refl)
-add-cost [] (x ∷ xs) size false e = omega arith
-add-cost (c ∷ cs) (x ∷ xs) size false e = omega (arith, length-append cs (x ∷ xs))
-
--- the size is that of the file with every segment
-abbrev pub IsSized : Draft → Type 0
-IsSized d = d.size ≡ 14 + length (flat_map segment_bytes (closed d.base d.permission d.content d.segments))
-
-extend-size : (d : Draft) (bytes : List ℕ) (n : ℕ) → IsSized d → length bytes ≡ n → size_with d n ≡ 14 + length (flat_map segment_bytes (closed d.base d.permission (d.content ++ bytes) d.segments))
-extend-size d bytes n h counted =
-    let old : d.size ≡ 14 + (length (flat_map segment_bytes d.segments) + cost d.content) = h ∙ ap (λ (k : ℕ). 14 + k) (closed-cost d.base d.permission d.content d.segments) in
-    let new : size_with d (length bytes) + cost d.content ≡ d.size + cost (d.content ++ bytes) = add-cost d.content bytes d.size (length bytes == 0) refl in
-    let total : length (flat_map segment_bytes (closed d.base d.permission (d.content ++ bytes) d.segments)) ≡ length (flat_map segment_bytes d.segments) + cost (d.content ++ bytes) = closed-cost d.base d.permission (d.content ++ bytes) d.segments in
-    let grown : size_with d (length bytes) ≡ 14 + length (flat_map segment_bytes (closed d.base d.permission (d.content ++ bytes) d.segments)) = omega arith in
-    subst (λ (k : ℕ). size_with d k ≡ 14 + length (flat_map segment_bytes (closed d.base d.permission (d.content ++ bytes) d.segments))) counted grown
-
-apply-size : (d : Draft) (s : Statement) (v : ℕ) → IsSized d → IsSized (applied d s v)
-apply-size d Nothing v h = extend-size d [] 0 h refl
-apply-size d (Plain i) v h = extend-size d (bytes_of (address_in d.layout.reached) (Plain i) v) 4 h (size-bytes (address_in d.layout.reached) (Plain i) v)
-apply-size d (Branch c a b t) v h = extend-size d (bytes_of (address_in d.layout.reached) (Branch c a b t) v) 4 h (size-bytes (address_in d.layout.reached) (Branch c a b t) v)
-apply-size d (Jump r t) v h = extend-size d (bytes_of (address_in d.layout.reached) (Jump r t) v) 4 h (size-bytes (address_in d.layout.reached) (Jump r t) v)
-apply-size d (LoadImmediate r t) v h = extend-size d (bytes_of (address_in d.layout.reached) (LoadImmediate r t) v) 8 h (size-bytes (address_in d.layout.reached) (LoadImmediate r t) v)
-apply-size d (Word t) v h = extend-size d (bytes_of (address_in d.layout.reached) (Word t) v) 4 h (size-bytes (address_in d.layout.reached) (Word t) v)
-apply-size d (Byte n) v h = extend-size d (bytes_of (address_in d.layout.reached) (Byte n) v) 1 h (size-bytes (address_in d.layout.reached) (Byte n) v)
-apply-size d (Zero n) v h = extend-size d (bytes_of (address_in d.layout.reached) (Zero n) v) n h (size-bytes (address_in d.layout.reached) (Zero n) v)
-apply-size d (Segment a p) v h = h
-apply-size d (Entry t) v h = h
-apply-size d (Stack t) v h = h
-
-pub file-size : (d : Draft) → IsSized d → length (image_bytes (finished d)) ≡ d.size
-file-size d h = omega (arith, h)
+-- ---- the whole draft
 
 abbrev pub IsWhole : Draft → Type 0
 IsWhole d = IsSound d × IsSized d
@@ -250,23 +188,23 @@ guard-ok : (b : Bool) (k : AsmErrorKind) (r : Result Draft AsmErrorKind) (e : Dr
 guard-ok true k r e h = cc
 guard-ok false k r e h = (refl, h)
 
-complete : (d e : Draft) (s : Statement) (value : Option ℕ) → IsWhole d → is_misplaced d.layout s ≡ false → nat_lt limit (size_with d (size_of s)) ≡ false → completed d s value ≡ Ok e → IsWhole e
+complete : (d e : Draft) (s : Statement) (value : Option ℕ) → IsWhole d → is_out_of_place d.layout s ≡ false → nat_lt limit (size_with d (size_of s)) ≡ false → with_value d s value ≡ Ok e → IsWhole e
 complete d e s None h fits room is = cc
 complete d e s (Some v) h fits room is =
-    let same : applied d s v ≡ e = cc in
+    let same : draft_with d s v ≡ e = cc in
     subst IsWhole same (apply d s v h.0 fits room, apply-size d s v h.1)
 
-check : (labels : Labels) (number : ℕ) (d e : Draft) (label : Option (List ℕ)) (s : Statement) (value : Option ℕ) → IsWhole d → checked labels number d label s value ≡ Ok e → IsWhole e
-unfolding checked
+check : (labels : Labels) (number : ℕ) (d e : Draft) (label : Option (List ℕ)) (s : Statement) (value : Option ℕ) → IsWhole d → check_line labels number d label s value ≡ Ok e → IsWhole e
+unfolding check_line
 check labels number d e label s value h is =
     let far = guard-ok (is_too_far (address_in d.layout.reached) s value) kinds.Number _ e is in
     let twice = guard-ok (is_defined_before labels number label) kinds.Twice _ e far.1 in
-    let place = guard-ok (is_misplaced d.layout s) kinds.Place _ e twice.1 in
-    let big = guard-ok (nat_lt limit (size_with d (size_of s))) kinds.TooBig (completed d s value) e place.1 in
+    let place = guard-ok (is_out_of_place d.layout s) kinds.Place _ e twice.1 in
+    let big = guard-ok (nat_lt limit (size_with d (size_of s))) kinds.TooBig (with_value d s value) e place.1 in
     complete d e s value h place.0 big.0 big.1
 
-read : (labels : Labels) (number : ℕ) (d e : Draft) (label : Option (List ℕ)) (r : Read) → IsWhole d → (r >>= λ s. checked labels number d label s.0 (resolved labels s.1 (operand_of s.0))) ≡ Ok e → IsWhole e
-read labels number d e label (Ok s) h is = check labels number d e label s.0 (resolved labels s.1 (operand_of s.0)) h is
+read : (labels : Labels) (number : ℕ) (d e : Draft) (label : Option (List ℕ)) (r : Read) → IsWhole d → (r >>= λ s. check_line labels number d label s.0 (worth_of labels s.1 (operand_of s.0))) ≡ Ok e → IsWhole e
+read labels number d e label (Ok s) h is = check labels number d e label s.0 (worth_of labels s.1 (operand_of s.0)) h is
 read labels number d e label (Err k) h is = cc
 
 line : (labels : Labels) (number : ℕ) (d e : Draft) (text : List ℕ) → IsWhole d → with_line labels number d text ≡ Ok e → IsWhole e
@@ -285,8 +223,8 @@ are-sound labels number d e [] h is =
 are-sound labels number d e (l ∷ ls) h is =
     then number (with_line labels number d l) (λ x. with_lines labels (number + 1) x ls) e (λ x at. line labels number d x l h at) (λ x sound at. are-sound labels (number + 1) x e ls sound at) is
 
-pub is-small : (d : Draft) (i : model.Image) → IsWhole d → i ≡ finished d → length (image_bytes i) ≤ 16777216
+pub is-small : (d : Draft) (i : model.Image) → IsWhole d → i ≡ draft_image d → length (image_bytes i) ≤ 16777216
 is-small d i h is =
-    let size : length (image_bytes (finished d)) ≡ d.size = file-size d h.1 in
+    let size : length (image_bytes (draft_image d)) ≡ d.size = file-size d h.1 in
     let room : d.size ≤ 16777216 = h.0.room in
     subst (λ (j : model.Image). length (image_bytes j) ≤ 16777216) (sym is) (omega (arith, size, room))

@@ -3,3 +3,4 @@ pub mod Digits
 pub mod Names
 pub mod Lines
 pub mod Drafts
+pub mod Answers

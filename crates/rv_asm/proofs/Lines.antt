@@ -2,8 +2,8 @@
 use Rattle.std.proofs.Common.{◌≡◌, ℕ, ◌+◌, List, [], ◌∷◌, length, Result, Ok, Err, sym, ◌∙◌, ap, arith}
 use Rattle.source_model.specs.declared.error.AsmError.{AsmError}
 use Rattle.source_model.specs.declared.error.AsmErrorKind.{AsmErrorKind}
-use Rattle.source_model.specs.Source.{Draft, Labels, in_line, with_line, with_lines}
-use Rattle.source_model.specs.Text.{lines_of}
+use Rattle.source_model.specs.Reading.{Draft, Labels, in_line, with_line, with_lines}
+use Rattle.source_model.specs.Bytes.{lines_of}
 use Rattle.rv_asm.specs.declared.fault.AsmFault.{AsmFault}
 use Rattle.rv_asm.specs.declared.fault.AsmFault.TheVariants as faults
 use Rattle.rv_asm.specs.View.{Fails}

@@ -12,8 +12,8 @@ use Rattle.source_model.specs.declared.statement.Layout.{Layout}
 use Rattle.source_model.specs.Layout.{start, address_in, definition_in, definitions, next}
 use Rattle.source_model.specs.Line.{defines}
 use Rattle.source_model.specs.Mnemonic.{or_else}
-use Rattle.source_model.specs.Source.{Labels}
-use Rattle.source_model.specs.Text.{lines_of, same_text}
+use Rattle.source_model.specs.Reading.{Labels}
+use Rattle.source_model.specs.Bytes.{lines_of, same_text}
 
 or-none : (o : Option Definition) → o ≡ or_else o None
 or-none None = refl

@@ -2,17 +2,17 @@
 -- Our choice: a restatement for proofs.
 use Rattle.std.specs.Prelude.{◌≡◌, ℕ, min, ◌^◌, Result, Ok, Err}
 use Rattle.source_model.specs.declared.error.AsmErrorKind.{AsmErrorKind}
-use Rattle.source_model.specs.declared.statement.Number.{Number}
-use Rattle.source_model.specs.declared.statement.Number.TheVariants.{Plus, Minus}
+use Rattle.source_model.specs.declared.mnemonic.Number.{Number}
+use Rattle.source_model.specs.declared.mnemonic.Number.TheVariants.{Plus, Minus}
 
 abbrev pub Gives : {X Y : Type 0} → (X → Y) → Result X AsmErrorKind → Result Y AsmErrorKind → Type 0
 Gives view (Ok x) read = read ≡ Ok (view x)
 Gives view (Err e) read = read ≡ Err e
 
 -- numbers from 2 ^ 40 on are no field's and are not told apart
-abbrev pub capped : ℕ → ℕ
-capped n = min n (2 ^ 40)
+abbrev pub clamp : ℕ → ℕ
+clamp n = min n (2 ^ 40)
 
-abbrev pub capped_number : Number → Number
-capped_number (Plus n) = Plus (capped n)
-capped_number (Minus n) = Minus (capped n)
+abbrev pub clamp_number : Number → Number
+clamp_number (Plus n) = Plus (clamp n)
+clamp_number (Minus n) = Minus (clamp n)

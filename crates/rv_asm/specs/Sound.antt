@@ -5,8 +5,8 @@ use Rattle.instruction_model.specs.Form.{HasFields, IsRegister}
 use Rattle.instruction_model.specs.declared.Operation.{Operation}
 use Rattle.instruction_model.specs.declared.Operation.TheVariants.{Add, Sub, Sll, Slt, Sltu, Xor, Srl, Sra, Or, And}
 use Rattle.source_model.specs.declared.statement.Layout.{Layout}
-use Rattle.source_model.specs.declared.statement.Mnemonic.{Mnemonic}
-use Rattle.source_model.specs.declared.statement.Mnemonic.TheVariants as words
+use Rattle.source_model.specs.declared.mnemonic.Mnemonic.{Mnemonic}
+use Rattle.source_model.specs.declared.mnemonic.Mnemonic.TheVariants as words
 use Rattle.source_model.specs.declared.statement.Statement.{Statement}
 use Rattle.source_model.specs.declared.statement.Statement.TheVariants.{Nothing, Plain, Branch, Jump, LoadImmediate, Segment, Entry, Stack, Word, Byte, Zero}
 

@@ -9,8 +9,9 @@ use denote.Ref.{Bor}
 use Rattle.image_file.specs.View.{segment_views}
 use Rattle.source_model.specs.declared.error.AsmError.{AsmError}
 use Rattle.source_model.specs.declared.statement.Definition.{Definition}
-use Rattle.source_model.specs.Source as model
-use Rattle.source_model.specs.Source.{Labels}
+use Rattle.source_model.specs.Source.{IsRefused}
+use Rattle.source_model.specs.Reading as model
+use Rattle.source_model.specs.Reading.{Labels}
 use Rattle.rv_asm.specs.declared.draft.Draft.{Draft}
 use Rattle.rv_asm.specs.declared.fault.AsmFault.{AsmFault}
 use Rattle.rv_asm.specs.declared.fault.AsmFault.TheVariants as faults
@@ -30,3 +31,8 @@ Fails (faults.Source e) read = read ≡ Err e
 abbrev pub Assembles : {X Y : Type 0} → (X → Y) → Result X AsmFault → Result Y AsmError → Type 0
 Assembles view (Ok x) read = read ≡ Ok (view x)
 Assembles view (Err e) read = Fails e read
+
+-- the text is refused with this fault, or memory ran out
+abbrev pub Refuses : AsmFault → List ℕ → Type 0
+Refuses faults.Memory text = Unit {0}
+Refuses (faults.Source e) text = IsRefused text e

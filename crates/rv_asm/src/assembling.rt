@@ -2,16 +2,18 @@ ghost use Rattle.std.specs.Prelude.{◌≡◌, ◌≤◌, ◌^◌, Some, Ok, Err
 ghost use Rattle.image_model.specs.Image as model;
 ghost use Rattle.image_model.specs.Image.{image_bytes};
 ghost use Rattle.rv_asm.specs.Sound.{IsStatement, IsNear};
-ghost use Rattle.rv_asm.specs.View.{Assembles, draft_view, labels_in};
-ghost use Rattle.source_model.specs.Layout.{is_misplaced as cannot_stand, address_in as address, size_of as statement_size};
-ghost use Rattle.source_model.specs.Source as sources;
-ghost use Rattle.source_model.specs.Source.{SourceOf, source_of};
-ghost use Rattle.source_model.specs.Text.{lines_of};
+ghost use Rattle.rv_asm.specs.View.{Assembles, Refuses, draft_view, labels_in};
+ghost use Rattle.source_model.specs.Layout.{is_out_of_place as cannot_stand, address_in as address, size_of as statement_size};
+ghost use Rattle.source_model.specs.Reading as sources;
+ghost use Rattle.source_model.specs.Reading.{source_of};
+ghost use Rattle.source_model.specs.Source.{SourceOf, IsRefused};
+ghost use Rattle.source_model.specs.declared.error.AsmError.{AsmError as ErrorData};
+ghost use Rattle.source_model.specs.Bytes.{lines_of};
 
-use crate::draft::{Draft, applied, blank, finished, is_too_far, operand_of, size_with};
+use crate::draft::{Draft, blank, draft_image, draft_with, is_too_far, operand_of, size_with};
 use crate::fault::AsmFault;
-use crate::labels::{Labels, is_defined_before, labels_of, resolved};
-use crate::layout::{address_in, is_misplaced, size_of};
+use crate::labels::{Labels, is_defined_before, labels_of, worth_of};
+use crate::layout::{address_in, is_out_of_place, size_of};
 use crate::line::{label_of, statement_in};
 use crate::text::first_line;
 use image_file::Image;
@@ -22,8 +24,8 @@ use std::alloc::Global;
 const LIMIT: u64 = 16_777_216;
 
 /// The value of a statement that can stand behind the draft, or the first kind of fault.
-#[tactic(auto, unfolding(source_model::specs::Source::checked))]
-fn checked(
+#[tactic(auto, unfolding(source_model::specs::Reading::check_line))]
+fn check_line(
     labels: &Labels<'_>,
     number: u64,
     draft: &Draft,
@@ -34,10 +36,10 @@ fn checked(
     requires near { IsNear draft.now.layout }
     requires room { draft.now.size ≤ 16777216 }
     requires sound { IsStatement statement }
-    ensures fault { IfErr result (λ k. sources.checked (labels_in labels.now) number (draft_view draft.now) (option_map (λ n. n.now) label.entry) statement value ≡ Err k) }
-    ensures value { IfOk result (λ v. sources.checked (labels_in labels.now) number (draft_view draft.now) (option_map (λ n. n.now) label.entry) statement value ≡ Ok (sources.applied (draft_view draft.now) statement v)) }
+    ensures fault { IfErr result (λ k. sources.check_line (labels_in labels.now) number (draft_view draft.now) (option_map (λ n. n.now) label.entry) statement value ≡ Err k) }
+    ensures value { IfOk result (λ v. sources.check_line (labels_in labels.now) number (draft_view draft.now) (option_map (λ n. n.now) label.entry) statement value ≡ Ok (sources.draft_with (draft_view draft.now) statement v)) }
     ensures reach { IfOk result (λ v. sources.is_too_far (address draft.now.layout.reached) statement (Some v) ≡ false) }
-    ensures placed { IfOk result (λ v. cannot_stand draft.now.layout statement ≡ false) }
+    ensures place { IfOk result (λ v. cannot_stand draft.now.layout statement ≡ false) }
     ensures small { IfOk result (λ v. sources.size_with (draft_view draft.now) (statement_size statement) ≤ 16777216) }
 {
     if is_too_far(address_in(draft.layout.reached), statement, value) {
@@ -46,7 +48,7 @@ fn checked(
     if is_defined_before(labels, number, label) {
         return Err(AsmErrorKind::Twice);
     }
-    if is_misplaced(draft.layout, statement) {
+    if is_out_of_place(draft.layout, statement) {
         return Err(AsmErrorKind::Place);
     }
     if size_with(draft, size_of(statement)) > LIMIT {
@@ -56,7 +58,7 @@ fn checked(
 }
 
 /// The draft with a line.
-#[tactic(auto, unfolding(source_model::specs::Source::with_line))]
+#[tactic(auto, unfolding(source_model::specs::Reading::with_line))]
 fn with_line(
     alloc: Global,
     labels: &Labels<'_>,
@@ -74,9 +76,9 @@ fn with_line(
         Ok(found) => found,
         Err(kind) => return Err(AsmFault::source(number, kind)),
     };
-    let value = resolved(labels, name, operand_of(statement));
-    match checked(labels, number, &draft, label_of(line), statement, value) {
-        Ok(value) => Ok(applied(alloc, draft, statement, value)?),
+    let value = worth_of(labels, name, operand_of(statement));
+    match check_line(labels, number, &draft, label_of(line), statement, value) {
+        Ok(value) => Ok(draft_with(alloc, draft, statement, value)?),
         Err(kind) => Err(AsmFault::source(number, kind)),
     }
 }
@@ -97,14 +99,14 @@ fn with_lines(alloc: Global, labels: &Labels<'_>, source: &[u8]) -> Result<Draft
     Ok(draft)
 }
 
-#[tactic(auto, unfolding(source_model::specs::Source::source_of))]
+#[tactic(auto, unfolding(source_model::specs::Reading::source_of))]
 fn whole(alloc: Global, source: &[u8]) -> Result<Image, AsmFault>
     ensures exact { Assembles (λ i. i) result (source_of source.now) }
     ensures small { IfOk result (λ i. length (image_bytes i) ≤ 16777216) }
 {
     let labels = labels_of(alloc, source)?;
     let draft = with_lines(alloc, &labels, source)?;
-    Ok(finished(draft)?)
+    Ok(draft_image(draft)?)
 }
 
 /// The image that a source stands for: ASCII text in lines, each an optional label with a colon, an optional statement
@@ -118,7 +120,11 @@ pub fn assemble(alloc: Global, source: &[u8]) -> Result<Image, AsmFault>
     ensures only { (i : model.Image) → SourceOf source.now i → Assembles (λ x. x) result (Ok i) }
     // Its file is no larger than the limit.
     ensures small { IfOk result (λ i. length (image_bytes i) ≤ 16777216) }
-    // Which fault it is.
+    // What is refused is refused with that fault.
+    ensures fault { IfErr result (λ f. Refuses f source.now) }
+    // A text that is refused with a fault is refused, unless memory runs out.
+    ensures rest { (e : ErrorData) → IsRefused source.now e → Assembles (λ x. x) result (Err e) }
+    // What reading from left to right gives.
     ensures exact { Assembles (λ i. i) result (source_of source.now) }
 {
     whole(alloc, source)

@@ -4,8 +4,8 @@ ghost use Rattle.image_model.specs.Image.{AreSegments};
 ghost use Rattle.instruction_model.specs.Form.{HasFields, IsSigned};
 ghost use Rattle.rv_asm.specs.Sound.{IsStatement, IsNear};
 ghost use Rattle.rv_asm.specs.View.{draft_view};
-ghost use Rattle.source_model.specs.Layout.{is_misplaced as cannot_stand, address_in as address};
-ghost use Rattle.source_model.specs.Source as sources;
+ghost use Rattle.source_model.specs.Layout.{is_out_of_place as cannot_stand, address_in as address};
+ghost use Rattle.source_model.specs.Reading as sources;
 
 use crate::labels::START;
 use crate::layout::{address_in, after, size_of};
@@ -164,13 +164,13 @@ fn put(content: &mut Vec<u8>, here: u32, statement: Statement, value: u32) -> Re
 }
 
 /// The segments and, where it has bytes, the one that began last.
-fn closed(
+fn all_segments(
     base: u32,
     permission: u8,
     content: Vec<u8>,
     segments: Vec<Segment>,
 ) -> Result<Vec<Segment>, AllocError>
-    ensures { IfOk result (λ v. segment_views v.items ≡ sources.closed base permission content.items (segment_views segments.items)) }
+    ensures { IfOk result (λ v. segment_views v.items ≡ sources.all_segments base permission content.items (segment_views segments.items)) }
 {
     let mut segments = segments;
     if !content.is_empty() {
@@ -199,13 +199,13 @@ pub(crate) fn size_with(draft: &Draft, count: u64) -> u64
 }
 
 /// The draft with a statement that has bytes, or neither bytes nor another effect.
-fn extended(draft: Draft, statement: Statement, value: u32) -> Result<Draft, AllocError>
+fn with_bytes(draft: Draft, statement: Statement, value: u32) -> Result<Draft, AllocError>
     requires near { IsNear draft.layout }
     requires room { draft.size ≤ 16777216 }
     requires sound { IsStatement statement }
     requires reach { sources.is_too_far (address draft.layout.reached) statement (Some value) ≡ false }
-    requires placed { cannot_stand draft.layout statement ≡ false }
-    ensures value { IfOk result (λ d. draft_view d ≡ sources.extended (draft_view draft) statement value) }
+    requires place { cannot_stand draft.layout statement ≡ false }
+    ensures value { IfOk result (λ d. draft_view d ≡ sources.with_bytes (draft_view draft) statement value) }
     ensures near { IfOk result (λ d. IsNear d.layout) }
 {
     let mut draft = draft;
@@ -218,10 +218,10 @@ fn extended(draft: Draft, statement: Statement, value: u32) -> Result<Draft, All
 }
 
 /// The draft with a segment that begins.
-fn begun(alloc: Global, draft: Draft, address: u32, permission: u8) -> Result<Draft, AllocError>
+fn begin(alloc: Global, draft: Draft, address: u32, permission: u8) -> Result<Draft, AllocError>
     requires near { IsNear draft.layout }
-    requires placed { cannot_stand draft.layout (Statement.Segment address permission) ≡ false }
-    ensures value { IfOk result (λ d. draft_view d ≡ sources.applied (draft_view draft) (Statement.Segment address permission) 0) }
+    requires place { cannot_stand draft.layout (Statement.Segment address permission) ≡ false }
+    ensures value { IfOk result (λ d. draft_view d ≡ sources.draft_with (draft_view draft) (Statement.Segment address permission) 0) }
     ensures near { IfOk result (λ d. IsNear d.layout) }
 {
     let layout = after(
@@ -250,7 +250,7 @@ fn begun(alloc: Global, draft: Draft, address: u32, permission: u8) -> Result<Dr
         base: address,
         permission,
         content: Vec::new(alloc),
-        segments: closed(base, before, content, segments)?,
+        segments: all_segments(base, before, content, segments)?,
         first: Some(first),
         entry,
         stack,
@@ -259,7 +259,7 @@ fn begun(alloc: Global, draft: Draft, address: u32, permission: u8) -> Result<Dr
 }
 
 /// The draft with a statement of this value.
-pub(crate) fn applied(
+pub(crate) fn draft_with(
     alloc: Global,
     draft: Draft,
     statement: Statement,
@@ -269,8 +269,8 @@ pub(crate) fn applied(
     requires room { draft.size ≤ 16777216 }
     requires sound { IsStatement statement }
     requires reach { sources.is_too_far (address draft.layout.reached) statement (Some value) ≡ false }
-    requires placed { cannot_stand draft.layout statement ≡ false }
-    ensures value { IfOk result (λ d. draft_view d ≡ sources.applied (draft_view draft) statement value) }
+    requires place { cannot_stand draft.layout statement ≡ false }
+    ensures value { IfOk result (λ d. draft_view d ≡ sources.draft_with (draft_view draft) statement value) }
     ensures near { IfOk result (λ d. IsNear d.layout) }
 {
     let mut draft = draft;
@@ -278,7 +278,7 @@ pub(crate) fn applied(
         Statement::Segment {
             address,
             permission,
-        } => begun(alloc, draft, address, permission),
+        } => begin(alloc, draft, address, permission),
         Statement::Entry(_) => {
             draft.entry = Some(value);
             Ok(draft)
@@ -287,7 +287,7 @@ pub(crate) fn applied(
             draft.stack = value;
             Ok(draft)
         }
-        _ => extended(draft, statement, value),
+        _ => with_bytes(draft, statement, value),
     }
 }
 
@@ -309,10 +309,10 @@ pub(crate) fn blank(alloc: Global) -> Draft
 }
 
 /// The image of a draft with every line.
-pub(crate) fn finished(draft: Draft) -> Result<Image, AllocError>
-    requires count { length (sources.closed draft.base draft.permission draft.content.items (segment_views draft.segments.items)) ≤ 64 }
-    requires sound { AreSegments 0 (sources.closed draft.base draft.permission draft.content.items (segment_views draft.segments.items)) }
-    ensures { IfOk result (λ i. i ≡ sources.finished (draft_view draft)) }
+pub(crate) fn draft_image(draft: Draft) -> Result<Image, AllocError>
+    requires count { length (sources.all_segments draft.base draft.permission draft.content.items (segment_views draft.segments.items)) ≤ 64 }
+    requires sound { AreSegments 0 (sources.all_segments draft.base draft.permission draft.content.items (segment_views draft.segments.items)) }
+    ensures { IfOk result (λ i. i ≡ sources.draft_image (draft_view draft)) }
 {
     let Draft {
         base,
@@ -324,7 +324,7 @@ pub(crate) fn finished(draft: Draft) -> Result<Image, AllocError>
         stack,
         ..
     } = draft;
-    let segments = closed(base, permission, content, segments)?;
+    let segments = all_segments(base, permission, content, segments)?;
     let start = match (entry, first) {
         (Some(entry), _) => entry,
         (None, Some(first)) => first,

@@ -4,7 +4,7 @@ ghost use Rattle.rv_asm.specs.View.{labels_in};
 ghost use Rattle.source_model.specs.Layout as layouts;
 ghost use Rattle.source_model.specs.Line as lines;
 ghost use Rattle.source_model.specs.Mnemonic.{or_else};
-ghost use Rattle.source_model.specs.Source as sources;
+ghost use Rattle.source_model.specs.Reading as sources;
 
 use crate::layout::{address_in, next};
 use crate::line::label_of;
@@ -83,8 +83,8 @@ pub(crate) fn labels_of<'a>(alloc: Global, source: &'a [u8]) -> Result<Labels<'a
 
 /// What a value is worth, None where its label is not defined.
 #[tactic(auto, unfolding(crate::specs::View::labels_in))]
-pub(crate) fn resolved(labels: &Labels<'_>, name: &[u8], value: Value) -> Option<u32>
-    ensures { result ≡ sources.resolved (labels_in labels.now) name.now value }
+pub(crate) fn worth_of(labels: &Labels<'_>, name: &[u8], value: Value) -> Option<u32>
+    ensures { result ≡ sources.worth_of (labels_in labels.now) name.now value }
 {
     match value {
         Value::Number(number) => Some(number),

@@ -37,10 +37,10 @@ pub(crate) fn address_in(reached: Option<u64>) -> u32
     }
 }
 
-fn bytes_misplaced(here: Layout, count: u64) -> bool
+fn bytes_out_of_place(here: Layout, count: u64) -> bool
     requires near { IsNear here }
     requires small { count ≤ 2 ^ 32 + 1 }
-    ensures { result ≡ layouts.bytes_misplaced here.reached count }
+    ensures { result ≡ layouts.bytes_out_of_place here.reached count }
 {
     match here.reached {
         None => count > 0,
@@ -48,8 +48,8 @@ fn bytes_misplaced(here: Layout, count: u64) -> bool
     }
 }
 
-fn segment_misplaced(here: Layout, address: u32, permission: u8) -> bool
-    ensures { result ≡ layouts.segment_misplaced here address permission }
+fn segment_out_of_place(here: Layout, address: u32, permission: u8) -> bool
+    ensures { result ≡ layouts.segment_out_of_place here address permission }
 {
     permission > GREATEST_PERMISSION
         || u64::from(address / PAGE_SIZE * PAGE_SIZE) < here.used
@@ -57,17 +57,17 @@ fn segment_misplaced(here: Layout, address: u32, permission: u8) -> bool
 }
 
 /// Whether a statement's bytes or its segment cannot stand here.
-pub(crate) fn is_misplaced(here: Layout, statement: Statement) -> bool
+pub(crate) fn is_out_of_place(here: Layout, statement: Statement) -> bool
     requires near { IsNear here }
     requires sound { IsStatement statement }
-    ensures { result ≡ layouts.is_misplaced here statement }
+    ensures { result ≡ layouts.is_out_of_place here statement }
 {
     match statement {
         Statement::Segment {
             address,
             permission,
-        } => segment_misplaced(here, address, permission),
-        _ => bytes_misplaced(here, size_of(statement)),
+        } => segment_out_of_place(here, address, permission),
+        _ => bytes_out_of_place(here, size_of(statement)),
     }
 }
 
@@ -91,7 +91,7 @@ fn further(here: Layout, count: u64) -> Layout
 pub(crate) fn after(here: Layout, statement: Statement) -> Layout
     requires near { IsNear here }
     requires sound { IsStatement statement }
-    requires placed { layouts.is_misplaced here statement ≡ false }
+    requires place { layouts.is_out_of_place here statement ≡ false }
     ensures value { result ≡ layouts.after here statement }
     ensures near { IsNear result }
 {
@@ -114,7 +114,7 @@ pub(crate) fn next(here: Layout, line: &[u8]) -> Layout
 {
     match statement_in(line) {
         Err(_) => here,
-        Ok((statement, _)) if is_misplaced(here, statement) => here,
+        Ok((statement, _)) if is_out_of_place(here, statement) => here,
         Ok((statement, _)) => after(here, statement),
     }
 }

@@ -1,6 +1,7 @@
 ghost use Rattle.std.specs.Prelude.{◌≡◌, ◌<◌, ◌+◌, ◌≤◌, ◌^◌, ◌⊎◌, option_map, IfOk, IfSome};
 ghost use Rattle.instruction_model.specs.Form.{IsSigned};
-ghost use Rattle.rv_asm.specs.Gives.{Gives, capped, capped_number};
+ghost use Rattle.rv_asm.specs.Gives.{Gives, clamp, clamp_number};
+ghost use Rattle.source_model.specs.Field as fields;
 ghost use Rattle.source_model.specs.Number as numbers;
 
 use crate::text::{begins, is_label};
@@ -34,7 +35,7 @@ fn times(base: Base, number: u64) -> u64
 
 /// The value of digits, no more than `CAP`.
 fn value_of_digits(base: Base, text: &[u8]) -> Option<u64>
-    ensures value { result ≡ option_map capped (numbers.value_from base 0 text.now) }
+    ensures value { result ≡ option_map clamp (numbers.value_from base 0 text.now) }
     ensures small { IfSome result (λ n. n ≤ CAP) }
 {
     let mut value = 0;
@@ -47,7 +48,7 @@ fn value_of_digits(base: Base, text: &[u8]) -> Option<u64>
 
 #[tactic(auto, unfolding(source_model::specs::Number::decimal))]
 fn decimal(text: &[u8]) -> Option<u64>
-    ensures value { result ≡ option_map capped (numbers.decimal text.now) }
+    ensures value { result ≡ option_map clamp (numbers.decimal text.now) }
     ensures small { IfSome result (λ n. n ≤ CAP) }
 {
     if text.is_empty() || (begins(b'0', text) && text.len() > 1) {
@@ -58,7 +59,7 @@ fn decimal(text: &[u8]) -> Option<u64>
 
 #[tactic(auto, unfolding(source_model::specs::Number::hexadecimal))]
 fn hexadecimal(text: &[u8]) -> Option<u64>
-    ensures value { result ≡ option_map capped (numbers.hexadecimal text.now) }
+    ensures value { result ≡ option_map clamp (numbers.hexadecimal text.now) }
     ensures small { IfSome result (λ n. n ≤ CAP) }
 {
     if text.is_empty() {
@@ -69,7 +70,7 @@ fn hexadecimal(text: &[u8]) -> Option<u64>
 
 #[tactic(auto, unfolding(source_model::specs::Number::number_of))]
 fn number_of(word: &[u8]) -> Option<Number>
-    ensures { result ≡ option_map capped_number (numbers.number_of word.now) }
+    ensures { result ≡ option_map clamp_number (numbers.number_of word.now) }
 {
     match word {
         [b'0', b'x', digits @ ..] => Some(Number::Plus(hexadecimal(digits)?)),
@@ -79,11 +80,11 @@ fn number_of(word: &[u8]) -> Option<Number>
 }
 
 /// A number from `-below` to `above`, modulo 2^32.
-#[tactic(auto, unfolding(source_model::specs::Number::field))]
+#[tactic(auto, unfolding(source_model::specs::Field::field))]
 pub(crate) fn field(below: u64, above: u64, word: &[u8]) -> Result<u32, AsmErrorKind>
     requires below { below < 2 ^ 32 }
     requires above { above < 2 ^ 32 }
-    ensures value { Gives (λ n. n) result (numbers.field below above word.now) }
+    ensures value { Gives (λ n. n) result (fields.field below above word.now) }
     ensures range { IfOk result (λ n. (n ≤ above) ⊎ (2 ^ 32 ≤ n + below)) }
 {
     match number_of(word) {
@@ -94,10 +95,10 @@ pub(crate) fn field(below: u64, above: u64, word: &[u8]) -> Result<u32, AsmError
 }
 
 /// A number from 0 on; what is above the bound counts as one more than it.
-#[tactic(auto, unfolding(source_model::specs::Number::count))]
+#[tactic(auto, unfolding(source_model::specs::Field::count))]
 pub(crate) fn count(bound: u64, word: &[u8]) -> Result<u64, AsmErrorKind>
     requires { bound ≤ 2 ^ 32 }
-    ensures value { Gives (λ n. n) result (numbers.count bound word.now) }
+    ensures value { Gives (λ n. n) result (fields.count bound word.now) }
     ensures bound { IfOk result (λ n. n ≤ bound + 1) }
 {
     match number_of(word) {
@@ -108,9 +109,9 @@ pub(crate) fn count(bound: u64, word: &[u8]) -> Result<u64, AsmErrorKind>
 }
 
 /// A label, or a number from -2^31 to 2^32 - 1.
-#[tactic(auto, unfolding(source_model::specs::Number::value_of))]
+#[tactic(auto, unfolding(source_model::specs::Field::value_of))]
 pub(crate) fn value_of(word: &[u8]) -> Result<Value, AsmErrorKind>
-    ensures { Gives (λ v. v) result (numbers.value_of word.now) }
+    ensures { Gives (λ v. v) result (fields.value_of word.now) }
 {
     if is_label(word) {
         return Ok(Value::Label);
@@ -120,7 +121,7 @@ pub(crate) fn value_of(word: &[u8]) -> Result<Value, AsmErrorKind>
 
 /// A number from -2,048 to 2,047, as the immediates of most instructions are.
 pub(crate) fn immediate(word: &[u8]) -> Result<u32, AsmErrorKind>
-    ensures value { Gives (λ n. n) result (numbers.field 2048 2047 word.now) }
+    ensures value { Gives (λ n. n) result (fields.field 2048 2047 word.now) }
     ensures signed { IfOk result (λ n. IsSigned 12 n) }
 {
     field(2048, 2047, word)
@@ -128,7 +129,7 @@ pub(crate) fn immediate(word: &[u8]) -> Result<u32, AsmErrorKind>
 
 /// A number from 0 on, no more than `most`.
 pub(crate) fn unsigned(most: u32, word: &[u8]) -> Result<u32, AsmErrorKind>
-    ensures value { Gives (λ n. n) result (numbers.field 0 most word.now) }
+    ensures value { Gives (λ n. n) result (fields.field 0 most word.now) }
     ensures small { IfOk result (λ n. n ≤ most) }
 {
     field(0, u64::from(most), word)

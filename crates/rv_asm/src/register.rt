@@ -1,5 +1,6 @@
 ghost use Rattle.std.specs.Prelude.{◌≡◌, ◌<◌, IfOk, IfSome};
 ghost use Rattle.rv_asm.specs.Gives.{Gives};
+ghost use Rattle.source_model.specs.Field as fields;
 ghost use Rattle.source_model.specs.Register as registers;
 
 use crate::number::digit_of;
@@ -18,8 +19,8 @@ fn index_of(text: &[u8]) -> Option<u8>
     }
 }
 
-fn numbered(letter: u8, number: u8) -> Option<u8>
-    ensures value { result ≡ registers.numbered letter number }
+fn letter_register(letter: u8, number: u8) -> Option<u8>
+    ensures value { result ≡ registers.letter_register letter number }
     ensures small { IfSome result (λ r. r < 32) }
 {
     match (letter, number) {
@@ -33,8 +34,8 @@ fn numbered(letter: u8, number: u8) -> Option<u8>
     }
 }
 
-fn named(word: &[u8]) -> Option<u8>
-    ensures value { result ≡ registers.named word.now }
+fn register_in(word: &[u8]) -> Option<u8>
+    ensures value { result ≡ registers.register_in word.now }
     ensures small { IfSome result (λ r. r < 32) }
 {
     if is_text(word, "zero") {
@@ -54,15 +55,15 @@ fn named(word: &[u8]) -> Option<u8>
     }
     match word {
         [] => None,
-        [letter, rest @ ..] => numbered(*letter, index_of(rest)?),
+        [letter, rest @ ..] => letter_register(*letter, index_of(rest)?),
     }
 }
 
 /// The number of a register.
-#[tactic(auto, unfolding(source_model::specs::Register::register_of))]
+#[tactic(auto, unfolding(source_model::specs::Field::register_of))]
 pub(crate) fn register_of(word: &[u8]) -> Result<u8, AsmErrorKind>
-    ensures value { Gives (λ r. r) result (registers.register_of word.now) }
+    ensures value { Gives (λ r. r) result (fields.register_of word.now) }
     ensures small { IfOk result (λ r. r < 32) }
 {
-    named(word).ok_or(AsmErrorKind::Register)
+    register_in(word).ok_or(AsmErrorKind::Register)
 }

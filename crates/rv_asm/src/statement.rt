@@ -7,7 +7,7 @@ ghost use Rattle.source_model.specs.Statement as statements;
 use crate::mnemonic::mnemonic_of;
 use crate::number::{count, immediate, unsigned, value_of};
 use crate::register::register_of;
-use crate::text::{cut, one_word, three_words, trimmed, two_apart, two_words, word_and_address};
+use crate::text::{cut, one_word, three_words, trim, two_apart, two_words, word_and_address};
 use source_model::{
     AsmErrorKind, Class, Comparison, Instruction, LoadKind, Mnemonic, Operation, Statement, Width,
 };
@@ -196,7 +196,7 @@ fn alone<'a>(instruction: Instruction, text: &'a [u8]) -> Read<'a>
     ensures value { Gives (λ x. (x.0, x.1.now)) result (statements.alone instruction text.now) }
     ensures sound { IfOk result (λ x. IsStatement x.0) }
 {
-    if !trimmed(text).is_empty() {
+    if !trim(text).is_empty() {
         return Err(AsmErrorKind::Operand);
     }
     plain(instruction)
@@ -309,7 +309,7 @@ pub(crate) fn statement_of(text: &[u8]) -> Read<'_>
     ensures value { Gives (λ x. (x.0, x.1.now)) result (statements.statement_of text.now) }
     ensures sound { IfOk result (λ x. IsStatement x.0) }
 {
-    let start = trimmed(text);
+    let start = trim(text);
     if start.is_empty() {
         return Ok((Statement::Nothing, &[]));
     }

@@ -1,17 +1,18 @@
 ghost use Rattle.std.specs.Prelude.{◌≡◌, ◌<◌, ◌∷◌, length, option_map};
 ghost use Rattle.rv_asm.specs.Gives.{Gives};
+ghost use Rattle.source_model.specs.Bytes as bytes;
 ghost use Rattle.source_model.specs.Text as text_model;
 
 use source_model::{AsmErrorKind, Class};
 
 fn is_blank(byte: u8) -> bool
-    ensures { result ≡ text_model.is_blank byte }
+    ensures { result ≡ bytes.is_blank byte }
 {
     byte == b' ' || byte == b'\t'
 }
 
 fn is_letter(byte: u8) -> bool
-    ensures { result ≡ text_model.is_letter byte }
+    ensures { result ≡ bytes.is_letter byte }
 {
     byte.is_ascii_uppercase() || byte.is_ascii_lowercase() || byte == b'_'
 }
@@ -44,14 +45,14 @@ pub(crate) fn cut(class: Class, text: &[u8]) -> (&[u8], &[u8])
 }
 
 /// The text from its first byte that is no blank on.
-pub(crate) fn trimmed(text: &[u8]) -> &[u8]
+pub(crate) fn trim(text: &[u8]) -> &[u8]
     ensures { result.now ≡ text_model.from Class.Solid text.now }
 {
     cut(Class::Solid, text).1
 }
 
 pub(crate) fn begins(mark: u8, text: &[u8]) -> bool
-    ensures { result ≡ text_model.begins mark text.now }
+    ensures { result ≡ bytes.begins mark text.now }
 {
     match text {
         [] => false,
@@ -59,9 +60,9 @@ pub(crate) fn begins(mark: u8, text: &[u8]) -> bool
     }
 }
 
-#[tactic(auto, unfolding(source_model::specs::Text::same_text))]
+#[tactic(auto, unfolding(source_model::specs::Bytes::same_text))]
 pub(crate) fn is_text(word: &[u8], wanted: &str) -> bool
-    ensures { result ≡ text_model.same_text word.now wanted.now }
+    ensures { result ≡ bytes.same_text word.now wanted.now }
 {
     word == wanted.as_bytes()
 }
@@ -69,7 +70,7 @@ pub(crate) fn is_text(word: &[u8], wanted: &str) -> bool
 /// The line at the front of a text that is not empty, and what follows its line feed.
 pub(crate) fn first_line(text: &[u8]) -> (&[u8], &[u8])
     requires { 0 < length text.now }
-    ensures lines { text_model.lines_of text.now ≡ result.0.now ∷ text_model.lines_of result.1.now }
+    ensures lines { bytes.lines_of text.now ≡ result.0.now ∷ bytes.lines_of result.1.now }
     ensures shorter { length result.1.now < length text.now }
 {
     let (line, rest) = cut(Class::LineFeed, text);
@@ -87,9 +88,9 @@ pub(crate) fn code_of(line: &[u8]) -> &[u8]
     cut(Class::Comment, without_return(line)).0
 }
 
-#[tactic(auto, unfolding(source_model::specs::Text::without_return))]
+#[tactic(auto, unfolding(source_model::specs::Bytes::without_return))]
 fn without_return(line: &[u8]) -> &[u8]
-    ensures { result.now ≡ text_model.without_return line.now }
+    ensures { result.now ≡ bytes.without_return line.now }
 {
     let count = line.len();
     if count > 0 && line[count - 1] == b'\r' {
@@ -121,8 +122,8 @@ pub(crate) fn is_label(word: &[u8]) -> bool
 pub(crate) fn label_at(text: &[u8]) -> Option<(&[u8], &[u8])>
     ensures { option_map (λ x. (x.0.now, x.1.now)) result ≡ text_model.label_at text.now }
 {
-    let (name, rest) = cut(Class::Outside, trimmed(text));
-    match trimmed(rest) {
+    let (name, rest) = cut(Class::Outside, trim(text));
+    match trim(rest) {
         [b':', after @ ..] if has_first_letter(name) => Some((name, after)),
         _ => None,
     }
@@ -132,11 +133,11 @@ pub(crate) fn label_at(text: &[u8]) -> Option<(&[u8], &[u8])>
 fn word_at(text: &[u8]) -> Result<(&[u8], &[u8]), AsmErrorKind>
     ensures { Gives (λ x. (x.0.now, x.1.now)) result (text_model.word_at text.now) }
 {
-    let (word, rest) = cut(Class::WordEnd, trimmed(text));
+    let (word, rest) = cut(Class::WordEnd, trim(text));
     if word.is_empty() {
         return Err(AsmErrorKind::Operand);
     }
-    Ok((word, trimmed(rest)))
+    Ok((word, trim(rest)))
 }
 
 #[tactic(auto, unfolding(source_model::specs::Text::mark_at))]
@@ -200,7 +201,7 @@ fn in_parentheses(text: &[u8]) -> Result<&[u8], AsmErrorKind>
     let rest = mark_at(b'(', text)?;
     let (word, rest) = word_at(rest)?;
     let rest = mark_at(b')', rest)?;
-    if !trimmed(rest).is_empty() {
+    if !trim(rest).is_empty() {
         return Err(AsmErrorKind::Operand);
     }
     Ok(word)

@@ -5,7 +5,7 @@ use Rattle.source_model.specs.declared.statement.Definition.{Definition}
 use Rattle.source_model.specs.declared.statement.Layout.{Layout}
 use Rattle.source_model.specs.Line.{defines}
 use Rattle.source_model.specs.Layout.{address_in, next, definition_in}
-use Rattle.source_model.specs.Meaning.{reached_by, NoneDefines, IsFirstDefinition}
+use Rattle.source_model.specs.Definitions.{layout_after, NoneDefines, IsFirstDefinition}
 
 first-step : (number : ℕ) (here : Layout) (l : List ℕ) (ls : List (List ℕ)) (name : List ℕ) (d : Definition) (t : Bool) → defines name l ≡ t
     → (definition_in (number + 1) (next here l) ls name ≡ Some d → IsFirstDefinition (number + 1) (next here l) ls name d)
@@ -28,7 +28,7 @@ is-first number here (l ∷ ls) name d h = first-step number here l ls name d (d
 same-definition : (d : Definition) (n v : ℕ) → d.line ≡ n → d.value ≡ v → Some (record { line = n; value = v }) ≡ Some d
 same-definition d n v e f = rw (← e, ← f) refl
 
-found-at : (number : ℕ) (here : Layout) (before : List (List ℕ)) (line : List ℕ) (others : List (List ℕ)) (name : List ℕ) (d : Definition) → NoneDefines name before → defines name line ≡ true → d.line ≡ number + length before → d.value ≡ address_in (reached_by here before).reached
+found-at : (number : ℕ) (here : Layout) (before : List (List ℕ)) (line : List ℕ) (others : List (List ℕ)) (name : List ℕ) (d : Definition) → NoneDefines name before → defines name line ≡ true → d.line ≡ number + length before → d.value ≡ address_in (layout_after here before).reached
     → definition_in number here (before ++ line ∷ others) name ≡ Some d
 unfolding definition_in
 found-at number here [] line others name d none defined place value =

@@ -1,1 +1,16 @@
 pub mod Definitions
+pub mod View
+pub mod Segments
+pub mod Sizes
+pub mod Drafts
+pub mod Faults
+pub mod Labels
+pub mod Whole
+pub mod Cuts
+pub mod Words
+pub mod Shapes
+pub mod Statements
+pub mod Lines
+pub mod Caps
+pub mod Answers
+pub mod Examples

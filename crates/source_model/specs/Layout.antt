@@ -1,11 +1,11 @@
 -- Where the bytes of lines stand, and what labels are worth.
--- Our choice: what labels are worth.
+-- Our choice: a restatement for proofs: how far lines come.
 use Rattle.std.specs.Prelude.{ℕ, ◌+◌, ◌*◌, ◌/◌, ◌%◌, ◌^◌, Bool, ◌&&◌, ◌||◌, nat_lt, nat_le, ◌==◌, List, [], ◌∷◌, Option, Some, None, Ok, Err, if◌then◌else◌}
 use Rattle.source_model.specs.declared.statement.Statement.{Statement}
 use Rattle.source_model.specs.declared.statement.Statement.TheVariants.{Nothing, Plain, Branch, Jump, LoadImmediate, Segment, Entry, Stack, Word, Byte, Zero}
 use Rattle.source_model.specs.declared.statement.Layout.{Layout}
 use Rattle.source_model.specs.declared.statement.Definition.{Definition}
-use Rattle.source_model.specs.Text.{lines_of}
+use Rattle.source_model.specs.Bytes.{lines_of}
 use Rattle.source_model.specs.Statement.{Read}
 use Rattle.source_model.specs.Line.{statement_in, defines}
 
@@ -32,17 +32,17 @@ address_in None = 0
 address_in (Some a) = a % 2 ^ 32
 
 -- bytes before any segment or past the last address
-abbrev pub bytes_misplaced : Option ℕ → ℕ → Bool
-bytes_misplaced None n = nat_lt 0 n
-bytes_misplaced (Some a) n = nat_lt 0 n && nat_lt (2 ^ 32) (a + n)
+abbrev pub bytes_out_of_place : Option ℕ → ℕ → Bool
+bytes_out_of_place None n = nat_lt 0 n
+bytes_out_of_place (Some a) n = nat_lt 0 n && nat_lt (2 ^ 32) (a + n)
 
 -- a permission above 3, a first page that is not above the last page with bytes, a segment after 64 others
-abbrev pub segment_misplaced : Layout → ℕ → ℕ → Bool
-segment_misplaced here a p = nat_lt 3 p || nat_lt (a / 4096 * 4096) here.used || nat_le 64 here.begun
+abbrev pub segment_out_of_place : Layout → ℕ → ℕ → Bool
+segment_out_of_place here a p = nat_lt 3 p || nat_lt (a / 4096 * 4096) here.used || nat_le 64 here.begun
 
-abbrev pub is_misplaced : Layout → Statement → Bool
-is_misplaced here (Segment a p) = segment_misplaced here a p
-is_misplaced here s = bytes_misplaced here.reached (size_of s)
+abbrev pub is_out_of_place : Layout → Statement → Bool
+is_out_of_place here (Segment a p) = segment_out_of_place here a p
+is_out_of_place here s = bytes_out_of_place here.reached (size_of s)
 
 -- so many bytes further
 abbrev pub further : Option ℕ → Layout → ℕ → Layout
@@ -54,12 +54,12 @@ after here (Segment a p) = record { reached = Some a; used = here.used; begun = 
 after here s = further here.reached here (size_of s)
 
 -- a line with a fault of its own, or that is misplaced, has no bytes and begins no segment
-abbrev pub placed : Layout → Read → Layout
-placed here (Err kind) = here
-placed here (Ok s) = if is_misplaced here s.0 then here else after here s.0
+abbrev pub with_read : Layout → Read → Layout
+with_read here (Err kind) = here
+with_read here (Ok s) = if is_out_of_place here s.0 then here else after here s.0
 
 unfoldable pub next : Layout → List ℕ → Layout
-next here line = placed here (statement_in line)
+next here line = with_read here (statement_in line)
 
 -- the first line that defines a label, and its value: the address reached before the line's statement
 unfoldable pub definition_in : ℕ → Layout → List (List ℕ) → List ℕ → Option Definition

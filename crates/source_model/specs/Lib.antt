@@ -1,10 +1,16 @@
+pub mod Bytes
 pub mod Names
 pub mod Text
 pub mod Number
+pub mod Field
 pub mod Register
 pub mod Mnemonic
 pub mod Statement
 pub mod Line
 pub mod Layout
-pub mod Source
+pub mod Reading
 pub mod Meaning
+pub mod Operand
+pub mod Grammar
+pub mod Source
+pub mod Definitions

@@ -1,10 +1,10 @@
 -- A line: its label, and its statement or the first kind of fault that the line has by itself.
--- Source: RISC-V Assembly Programmer's Manual, for the look of a line.
--- Our choice: the grammar.
+-- Our choice: a restatement for proofs: a line as it is read.
 use Rattle.std.specs.Prelude.{ℕ, Bool, false, List, Option, Some, None, is_some, not, Err, if◌then◌else◌}
 use Rattle.source_model.specs.declared.error.AsmErrorKind.TheVariants as kinds
 use Rattle.source_model.specs.declared.statement.Class.TheVariants.{Foreign}
-use Rattle.source_model.specs.Text.{from, is_empty, code_of, label_at, same_text}
+use Rattle.source_model.specs.Bytes.{is_empty, same_text}
+use Rattle.source_model.specs.Text.{from, code_of, label_at}
 use Rattle.source_model.specs.Statement.{Read, statement_of}
 
 abbrev pub name_in : Option (List ℕ × List ℕ) → Option (List ℕ)

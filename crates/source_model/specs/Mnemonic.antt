@@ -1,6 +1,5 @@
 -- The first words of statements (RISC-V Unprivileged ISA, RV32I, instruction names in lower case; the others are directives).
--- Source: RISC-V Unprivileged ISA, RV32I, the names of instructions.
--- Our choice: the directives.
+-- Our choice: a restatement for proofs: first words as they are compared.
 use Rattle.std.specs.Prelude.{ℕ, List, Option, Some, None, Result, if◌then◌else◌, codes}
 use Rattle.memory_model.specs.declared.Width.TheVariants as widths
 use Rattle.instruction_model.specs.declared.Comparison.TheVariants as comparisons
@@ -9,10 +8,10 @@ use Rattle.instruction_model.specs.declared.Operation.TheVariants as operations
 use Rattle.instruction_model.specs.declared.Instruction.TheVariants as instructions
 use Rattle.source_model.specs.declared.error.AsmErrorKind.{AsmErrorKind}
 use Rattle.source_model.specs.declared.error.AsmErrorKind.TheVariants as kinds
-use Rattle.source_model.specs.declared.statement.Mnemonic.{Mnemonic}
-use Rattle.source_model.specs.declared.statement.Mnemonic.TheVariants.{Operate, OperateImmediate, ShiftImmediate, Load, Store, Branch, Jalr, Jal, Lui, Auipc, Alone, LoadImmediate, Segment, Entry, Stack, Word, Byte, Zero}
-use Rattle.source_model.specs.Text.{same_text}
-use Rattle.source_model.specs.Number.{or_fault}
+use Rattle.source_model.specs.declared.mnemonic.Mnemonic.{Mnemonic}
+use Rattle.source_model.specs.declared.mnemonic.Mnemonic.TheVariants.{Operate, OperateImmediate, ShiftImmediate, Load, Store, Branch, Jalr, Jal, Lui, Auipc, Alone, LoadImmediate, Segment, Entry, Stack, Word, Byte, Zero}
+use Rattle.source_model.specs.Bytes.{same_text}
+use Rattle.source_model.specs.Field.{or_fault}
 
 -- computations over two registers
 unfoldable pub operation_of : List ℕ → Option Mnemonic

@@ -1,15 +1,11 @@
 -- Numbers: decimal with an optional minus, or 0x and hexadecimal digits.
 -- Our choice: how numbers are written.
-use Rattle.std.specs.Prelude.{ℕ, ◌+◌, ◌-◌, ◌*◌, ◌^◌, ◌%◌, min, not, ◌&&◌, ◌||◌, ◌==◌, nat_lt, List, [], ◌∷◌, drop, Option, Some, None, option_and_then, option_map, Result, Ok, Err, if◌then◌else◌}
-use Rattle.source_model.specs.declared.error.AsmErrorKind.{AsmErrorKind}
-use Rattle.source_model.specs.declared.error.AsmErrorKind.TheVariants as kinds
-use Rattle.source_model.specs.declared.statement.Base.{Base}
-use Rattle.source_model.specs.declared.statement.Base.TheVariants.{Decimal, Hexadecimal}
-use Rattle.source_model.specs.declared.statement.Number.{Number}
-use Rattle.source_model.specs.declared.statement.Number.TheVariants.{Plus, Minus}
-use Rattle.source_model.specs.declared.statement.Value.{Value}
-use Rattle.source_model.specs.declared.statement.Value.TheVariants as values
-use Rattle.source_model.specs.Text.{◌>>=◌, is_between, is_digit, is_empty, begins, is_label}
+use Rattle.std.specs.Prelude.{ℕ, ◌+◌, ◌-◌, ◌*◌, ◌^◌, ◌%◌, not, ◌&&◌, ◌||◌, ◌==◌, nat_lt, List, [], ◌∷◌, drop, Option, Some, None, option_and_then, option_map, if◌then◌else◌}
+use Rattle.source_model.specs.declared.mnemonic.Base.{Base}
+use Rattle.source_model.specs.declared.mnemonic.Base.TheVariants.{Decimal, Hexadecimal}
+use Rattle.source_model.specs.declared.mnemonic.Number.{Number}
+use Rattle.source_model.specs.declared.mnemonic.Number.TheVariants.{Plus, Minus}
+use Rattle.source_model.specs.Bytes.{is_between, is_digit, is_empty, begins}
 
 abbrev pub digit_of : Base → ℕ → Option ℕ
 digit_of Decimal b = if is_digit b then Some (b - 48) else None
@@ -42,22 +38,7 @@ abbrev pub in_range : ℕ → ℕ → Number → Option ℕ
 in_range below above (Plus n) = if nat_lt above n then None else Some n
 in_range below above (Minus n) = if nat_lt below n then None else Some ((2 ^ 32 - n) % 2 ^ 32)
 
-abbrev pub or_fault : {A : Type 0} → AsmErrorKind → Option A → Result A AsmErrorKind
-or_fault kind (Some x) = Ok x
-or_fault kind None = Err kind
-
--- a number of a field
-unfoldable pub field : ℕ → ℕ → List ℕ → Result ℕ AsmErrorKind
-field below above word = or_fault kinds.Number (option_and_then (in_range below above) (number_of word))
-
--- a number from 0 on; what is above the bound counts as one more than it
-abbrev pub up_to : ℕ → Number → Option ℕ
-up_to bound (Plus n) = Some (min n (bound + 1))
-up_to bound (Minus n) = if n == 0 then Some 0 else None
-
-unfoldable pub count : ℕ → List ℕ → Result ℕ AsmErrorKind
-count bound word = or_fault kinds.Number (option_and_then (up_to bound) (number_of word))
-
--- a label, or a number from -2 ^ 31 to 2 ^ 32 - 1
-unfoldable pub value_of : List ℕ → Result Value AsmErrorKind
-value_of word = if is_label word then Ok values.Label else (field (2 ^ 31) (2 ^ 32 - 1) word >>= λ n. Ok (values.Number n))
+-- a number from 0 on
+abbrev pub natural_of : Number → Option ℕ
+natural_of (Plus n) = Some n
+natural_of (Minus n) = if n == 0 then Some 0 else None

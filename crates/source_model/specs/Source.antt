@@ -1,187 +1,42 @@
--- The image that a source stands for, or its first fault: in the least line with one, the first kind of the list.
--- Our choice: which fault counts, and the layout of segments.
-use Rattle.std.specs.Prelude.{◌≡◌, ℕ, ◌+◌, ◌-◌, ◌*◌, ◌/◌, ◌%◌, ◌^◌, Bool, false, not, ◌||◌, nat_lt, ◌==◌, List, [], ◌∷◌, ◌++◌, replicate, Option, Some, None, option_map, unwrap_or, Result, Ok, Err, if◌then◌else◌}
-use Rattle.std.specs.Int.{w32, to_le_bytes}
-use Rattle.image_model.specs.Image as model
-use Rattle.instruction_model.specs.declared.Instruction.{Instruction}
-use Rattle.instruction_model.specs.declared.Instruction.TheVariants as instructions
-use Rattle.instruction_model.specs.declared.Operation.TheVariants.{Add}
-use Rattle.instruction_model.specs.Word.{sign_extended}
+-- Sources: the image that a text is a source of, and the fault with which any other text is refused.
+-- Our choice: in the least line with a fault, the first kind of the list is named.
+use Rattle.std.specs.Prelude.{◌≡◌, ℕ, ◌+◌, List, [], ◌∷◌, ◌++◌, length, Some, None}
 use Rattle.source_model.specs.declared.error.AsmError.{AsmError}
-use Rattle.source_model.specs.declared.error.AsmErrorKind.{AsmErrorKind}
-use Rattle.source_model.specs.declared.error.AsmErrorKind.TheVariants as kinds
-use Rattle.source_model.specs.declared.statement.Statement.{Statement}
-use Rattle.source_model.specs.declared.statement.Statement.TheVariants.{Nothing, Plain, Branch, Jump, LoadImmediate, Segment, Entry, Stack, Word, Byte, Zero}
-use Rattle.source_model.specs.declared.statement.Value.{Value}
-use Rattle.source_model.specs.declared.statement.Value.TheVariants as values
-use Rattle.source_model.specs.declared.statement.Layout.{Layout}
-use Rattle.source_model.specs.declared.statement.Definition.{Definition}
-use Rattle.source_model.specs.Text.{◌>>=◌, is_empty, lines_of}
-use Rattle.source_model.specs.Line.{label_of, statement_in}
-use Rattle.source_model.specs.Layout.{size_of, start, address_in, is_misplaced, after, definitions}
-use Rattle.instruction_model.specs.Encoding.{word_of}
+use Rattle.image_model.specs.Image.{Image}
+use Rattle.source_model.specs.Bytes.{lines_of}
+use Rattle.source_model.specs.Grammar.{IsLine}
+use Rattle.source_model.specs.Meaning.{Line, fault_in, worth_in, image_of}
 
--- where labels are first defined
-abbrev pub Labels : Type 0
-Labels = List ℕ → Option Definition
+-- each text is read as the line in its place
+abbrev pub AreLines : List (List ℕ) → List Line → Type 0
+AreLines [] [] = Unit {0}
+AreLines (t ∷ ts) (l ∷ ls) = IsLine t l × AreLines ts ls
+AreLines texts lines = ⊥
 
--- ---- the value of a statement
+-- none of these lines has a fault, where each follows those before it
+abbrev pub AreFaultless : List Line → List Line → List Line → Type 0
+AreFaultless all before [] = Unit {0}
+AreFaultless all before (l ∷ ls) = (fault_in all before l ≡ None) × AreFaultless all (before ++ l ∷ []) ls
 
--- 0 where the statement has none
-abbrev pub operand_of : Statement → Value
-operand_of Nothing = values.Number 0
-operand_of (Plain i) = values.Number 0
-operand_of (Branch c a b t) = t
-operand_of (Jump r t) = t
-operand_of (LoadImmediate r v) = v
-operand_of (Segment a p) = values.Number 0
-operand_of (Entry v) = v
-operand_of (Stack v) = v
-operand_of (Word v) = v
-operand_of (Byte n) = values.Number 0
-operand_of (Zero n) = values.Number 0
-
--- none where the label is not defined
-abbrev pub resolved : Labels → List ℕ → Value → Option ℕ
-resolved labels name (values.Number n) = Some n
-resolved labels name values.Label = option_map (λ d. d.value) (labels name)
-
--- ---- targets
-
--- from an address to a target, modulo 2 ^ 32
-abbrev pub distance : ℕ → ℕ → ℕ
-distance here target = (target + (2 ^ 32 - here)) % 2 ^ 32
-
--- odd, or not from minus the reach to below it
-abbrev pub is_out_of_reach : ℕ → ℕ → Bool
-is_out_of_reach reach d = not (d % 2 == 0) || not (nat_lt ((d + reach) % 2 ^ 32) (2 * reach))
-
-abbrev pub is_too_far : ℕ → Statement → Option ℕ → Bool
-is_too_far here s None = false
-is_too_far here (Branch c a b t) (Some v) = is_out_of_reach (2 ^ 12) (distance here v)
-is_too_far here (Jump r t) (Some v) = is_out_of_reach (2 ^ 20) (distance here v)
-is_too_far here s (Some v) = false
-
--- ---- bytes
-
-abbrev pub instruction_bytes : Instruction → List ℕ
-instruction_bytes i = to_le_bytes w32 (word_of i)
-
--- the nearest multiple of 4,096 that is at most 2,048 above, modulo 2 ^ 32
-abbrev pub upper_part : ℕ → ℕ
-upper_part v = (v + 0x800) / 0x1000 % 2 ^ 20 * 0x1000
-
--- what is left of it, from -2,048 to 2,047
-abbrev pub lower_part : ℕ → ℕ
-lower_part v = sign_extended 12 (v % 0x1000)
-
--- the bytes of a statement with this value at this address
-abbrev pub bytes_of : ℕ → Statement → ℕ → List ℕ
-bytes_of here Nothing v = []
-bytes_of here (Plain i) v = instruction_bytes i
-bytes_of here (Branch c a b t) v = instruction_bytes (instructions.Branch c a b (distance here v))
-bytes_of here (Jump r t) v = instruction_bytes (instructions.Jal r (distance here v))
-bytes_of here (LoadImmediate r t) v = instruction_bytes (instructions.Lui r (upper_part v)) ++ instruction_bytes (instructions.OperateImmediate Add r r (lower_part v))
-bytes_of here (Segment a p) v = []
-bytes_of here (Entry t) v = []
-bytes_of here (Stack t) v = []
-bytes_of here (Word t) v = to_le_bytes w32 v
-bytes_of here (Byte n) v = n ∷ []
-bytes_of here (Zero n) v = replicate n 0
-
--- ---- the image as far as the lines have come
-
--- closed segments and, where one has begun, the address, permission and bytes of the last; the address of the first; what
--- .entry and .stack gave; how many bytes the image's file has
-pub record Draft : Type 0 where
-  pub layout : Layout
-  pub base : ℕ
-  pub permission : ℕ
-  pub content : List ℕ
-  pub segments : List model.Segment
-  pub first : Option ℕ
-  pub entry : Option ℕ
-  pub stack : ℕ
-  pub size : ℕ
-
-abbrev pub blank : Draft
-blank = record { layout = start; base = 0; permission = 0; content = []; segments = []; first = None; entry = None; stack = 0; size = 14 }
-
--- a segment without bytes is left out
-abbrev pub closed : ℕ → ℕ → List ℕ → List model.Segment → List model.Segment
-closed base permission [] segments = segments
-closed base permission (b ∷ bs) segments = segments ++ record { address = base; permission = permission; content = b ∷ bs } ∷ []
-
-abbrev pub or_first : Option ℕ → ℕ → Option ℕ
-or_first None a = Some a
-or_first (Some b) a = Some b
-
--- the size of the file with so many bytes more: a segment's first byte brings nine with it
-abbrev pub size_with : Draft → ℕ → ℕ
-size_with d n = if n == 0 then d.size else d.size + n + (if is_empty d.content then 9 else 0)
-
-abbrev pub extended : Draft → Statement → ℕ → Draft
-extended d s v = record d { layout = after d.layout s; content = d.content ++ bytes_of (address_in d.layout.reached) s v; size = size_with d (size_of s) }
-
-abbrev pub applied : Draft → Statement → ℕ → Draft
-applied d (Segment a p) v = record d { layout = after d.layout (Segment a p); base = a; permission = p; content = []; segments = closed d.base d.permission d.content d.segments; first = or_first d.first a }
-applied d (Entry t) v = record d { entry = Some v }
-applied d (Stack t) v = record d { stack = v }
-applied d s v = extended d s v
-
--- ---- faults
-
--- the label has a definition in an earlier line
-abbrev pub is_earlier : ℕ → Option Definition → Bool
-is_earlier number None = false
-is_earlier number (Some d) = nat_lt d.line number
-
-abbrev pub is_defined_before : Labels → ℕ → Option (List ℕ) → Bool
-is_defined_before labels number None = false
-is_defined_before labels number (Some name) = is_earlier number (labels name)
-
-abbrev pub limit : ℕ
-limit = 16777216
-
-abbrev pub completed : Draft → Statement → Option ℕ → Result Draft AsmErrorKind
-completed d s None = Err kinds.Label
-completed d s (Some v) = Ok (applied d s v)
-
--- a line after others: its first fault, or the draft with it
-unfoldable pub checked : Labels → ℕ → Draft → Option (List ℕ) → Statement → Option ℕ → Result Draft AsmErrorKind
-checked labels number d label s v =
-    if is_too_far (address_in d.layout.reached) s v then Err kinds.Number
-    else if is_defined_before labels number label then Err kinds.Twice
-    else if is_misplaced d.layout s then Err kinds.Place
-    else if nat_lt limit (size_with d (size_of s)) then Err kinds.TooBig
-    else completed d s v
-
-unfoldable pub with_line : Labels → ℕ → Draft → List ℕ → Result Draft AsmErrorKind
-with_line labels number d line = do
-  s ← statement_in line
-  checked labels number d (label_of line) s.0 (resolved labels s.1 (operand_of s.0))
-
--- ---- sources
-
-abbrev pub in_line : {A : Type 0} → ℕ → Result Draft AsmErrorKind → (Draft → Result A AsmError) → Result A AsmError
-in_line number (Ok d) f = f d
-in_line number (Err kind) f = Err (record { line = number; kind = kind })
-
-unfoldable pub with_lines : Labels → ℕ → Draft → List (List ℕ) → Result Draft AsmError
-with_lines labels number d [] = Ok d
-with_lines labels number d (l ∷ ls) = in_line number (with_line labels number d l) (λ e. with_lines labels (number + 1) e ls)
-
-abbrev pub finished : Draft → model.Image
-finished d = record { entry = unwrap_or d.entry (unwrap_or d.first 0); stack = d.stack; segments = closed d.base d.permission d.content d.segments }
-
-abbrev pub image_in : Result Draft AsmError → Result model.Image AsmError
-image_in (Ok d) = Ok (finished d)
-image_in (Err e) = Err e
-
--- the image of a source, or its first fault
-unfoldable pub source_of : List ℕ → Result model.Image AsmError
-source_of text = image_in (with_lines (definitions text) 1 blank (lines_of text))
+-- the least line with a fault, and its first kind
+pub record HasFault (lines : List Line) (e : AsmError) : Type 0 where
+  pub before : List Line
+  pub line : Line
+  pub others : List Line
+  pub split : lines ≡ before ++ line ∷ others
+  pub earlier : AreFaultless lines [] before
+  pub place : e.line ≡ length before + 1
+  pub kind : fault_in lines before line ≡ Some e.kind
 
 -- the text is a source of the image
-abbrev pub SourceOf : List ℕ → model.Image → Type 0
-SourceOf text i = source_of text ≡ Ok i
+pub record SourceOf (text : List ℕ) (i : Image) : Type 0 where
+  pub lines : List Line
+  pub read : AreLines (lines_of text) lines
+  pub faultless : AreFaultless lines [] lines
+  pub image : i ≡ image_of (worth_in lines) lines
+
+-- the text is refused with this fault
+pub record IsRefused (text : List ℕ) (e : AsmError) : Type 0 where
+  pub lines : List Line
+  pub read : AreLines (lines_of text) lines
+  pub fault : HasFault lines e

@@ -1,7 +1,6 @@
 -- Statements: what follows the first word, read by shape, then registers, then numbers. Beside a statement stands the word
 -- that may name its label.
--- Source: RISC-V Assembly Programmer's Manual, for operands and their order.
--- Our choice: `li` is always two words; the directives.
+-- Our choice: a restatement for proofs: operands as they are read.
 use Rattle.std.specs.Prelude.{ℕ, ◌*◌, ◌-◌, ◌^◌, List, [], Result, Ok, Err, if◌then◌else◌}
 use Rattle.memory_model.specs.declared.Width.{Width}
 use Rattle.instruction_model.specs.declared.Comparison.{Comparison}
@@ -11,14 +10,14 @@ use Rattle.instruction_model.specs.declared.Instruction.{Instruction}
 use Rattle.instruction_model.specs.declared.Instruction.TheVariants as instructions
 use Rattle.source_model.specs.declared.error.AsmErrorKind.{AsmErrorKind}
 use Rattle.source_model.specs.declared.error.AsmErrorKind.TheVariants as kinds
-use Rattle.source_model.specs.declared.statement.Mnemonic.{Mnemonic}
-use Rattle.source_model.specs.declared.statement.Mnemonic.TheVariants as words
+use Rattle.source_model.specs.declared.mnemonic.Mnemonic.{Mnemonic}
+use Rattle.source_model.specs.declared.mnemonic.Mnemonic.TheVariants as words
 use Rattle.source_model.specs.declared.statement.Statement.{Statement}
 use Rattle.source_model.specs.declared.statement.Statement.TheVariants as statements
 use Rattle.source_model.specs.declared.statement.Class.TheVariants.{Solid, Blank}
-use Rattle.source_model.specs.Text.{◌>>=◌, is_empty, before, from, one_word, two_apart, two_words, three_words, word_and_address}
-use Rattle.source_model.specs.Number.{field, count, value_of}
-use Rattle.source_model.specs.Register.{register_of}
+use Rattle.source_model.specs.Bytes.{is_empty}
+use Rattle.source_model.specs.Text.{◌>>=◌, before, from, one_word, two_apart, two_words, three_words, word_and_address}
+use Rattle.source_model.specs.Field.{field, count, value_of, register_of}
 use Rattle.source_model.specs.Mnemonic.{mnemonic_of}
 
 abbrev pub Read : Type 0

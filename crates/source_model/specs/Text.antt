@@ -1,7 +1,7 @@
 -- The text of a source: bytes, lines, labels and words.
--- Our choice: lines, labels and words.
-use Rattle.std.specs.Prelude.{ℕ, ◌-◌, Bool, true, false, not, ◌&&◌, ◌||◌, ◌==◌, nat_lt, List, [], ◌∷◌, length, slice_index, take, drop, Option, Some, None, Result, Ok, Err, if◌then◌else◌}
-use Rattle.std.specs.Str.{bytes_eq}
+-- Our choice: a restatement for proofs: a text as it is cut from left to right.
+use Rattle.std.specs.Prelude.{ℕ, Bool, false, not, ◌&&◌, ◌||◌, ◌==◌, List, [], ◌∷◌, drop, Option, Some, None, Result, Ok, Err, if◌then◌else◌}
+use Rattle.source_model.specs.Bytes.{is_digit, is_letter, is_blank, is_comment, is_word_end, is_foreign, is_empty, begins, without_return}
 use Rattle.source_model.specs.declared.error.AsmErrorKind.{AsmErrorKind}
 use Rattle.source_model.specs.declared.error.AsmErrorKind.TheVariants as kinds
 use Rattle.source_model.specs.declared.statement.Class.{Class}
@@ -15,39 +15,16 @@ abbrev pub ◌>>=◌ : {A B : Type 0} → Result A AsmErrorKind → (A → Resul
 
 -- ---- bytes
 
-abbrev pub is_between : ℕ → ℕ → ℕ → Bool
-is_between low high b = not (nat_lt b low) && not (nat_lt high b)
-
--- 0 to 9
-abbrev pub is_digit : ℕ → Bool
-is_digit b = is_between 48 57 b
-
--- A to Z, a to z and _
-abbrev pub is_letter : ℕ → Bool
-is_letter b = is_between 65 90 b || is_between 97 122 b || (b == 95)
-
--- a space or a tab
-abbrev pub is_blank : ℕ → Bool
-is_blank b = (b == 32) || (b == 9)
-
 abbrev pub contains : Class → ℕ → Bool
 contains LineFeed b = b == 10
-contains Comment b = (b == 59) || (b == 35)
+contains Comment b = is_comment b
 contains Blank b = is_blank b
 contains Solid b = not (is_blank b)
 contains Outside b = not (is_letter b || is_digit b)
-contains WordEnd b = is_blank b || (b == 44) || (b == 40) || (b == 41)
-contains Foreign b = nat_lt 127 b
+contains WordEnd b = is_word_end b
+contains Foreign b = is_foreign b
 
 -- ---- cutting a text
-
-abbrev pub is_empty : List ℕ → Bool
-is_empty [] = true
-is_empty (b ∷ bs) = false
-
-abbrev pub begins : ℕ → List ℕ → Bool
-begins b [] = false
-begins b (c ∷ cs) = c == b
 
 -- what stands before the first byte of the class
 unfoldable pub before : Class → List ℕ → List ℕ
@@ -59,23 +36,7 @@ unfoldable pub from : Class → List ℕ → List ℕ
 from class [] = []
 from class (b ∷ bs) = if contains class b then b ∷ bs else from class bs
 
-unfoldable pub same_text : List ℕ → List ℕ → Bool
-same_text a b = bytes_eq a b
-
 -- ---- lines
-
-abbrev pub add_first : ℕ → List (List ℕ) → List (List ℕ)
-add_first b [] = (b ∷ []) ∷ []
-add_first b (l ∷ ls) = (b ∷ l) ∷ ls
-
--- a line feed ends a line, and the last line may lack it
-unfoldable pub lines_of : List ℕ → List (List ℕ)
-lines_of [] = []
-lines_of (b ∷ bs) = if b == 10 then [] ∷ lines_of bs else add_first b (lines_of bs)
-
--- one carriage return at the end is no part of a line
-unfoldable pub without_return : List ℕ → List ℕ
-without_return text = if slice_index text (length text - 1) == 13 then take (length text - 1) text else text
 
 -- a line without its comment
 unfoldable pub code_of : List ℕ → List ℕ

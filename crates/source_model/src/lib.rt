@@ -3,9 +3,15 @@
 
 mod error;
 mod laws;
+mod mnemonic;
+mod sources;
 mod statement;
 
 pub use error::{AsmError, AsmErrorKind};
 pub use instruction_model::{Comparison, Instruction, LoadKind, Operation, Width};
-pub use laws::{labels_are_addresses, one_image};
-pub use statement::{Base, Class, Definition, Layout, Mnemonic, Number, Statement, Value};
+pub use laws::labels_are_addresses;
+pub use mnemonic::{Base, Mnemonic, Number};
+pub use sources::{
+    answers_every_text, one_fault, one_image, reads_exactly_sources, refuses_exactly_the_rest,
+};
+pub use statement::{Class, Definition, Layout, Statement, Value};

@@ -1,4 +1,4 @@
-use instruction_model::{Comparison, Instruction, LoadKind, Operation, Width};
+use instruction_model::{Comparison, Instruction};
 
 /// A class of bytes, at the first of which a text is cut.
 #[derive(Clone, Copy, Debug, PartialEq, Eq)]
@@ -19,20 +19,6 @@ pub enum Class {
     Foreign,
 }
 
-/// The base of a number's digits.
-#[derive(Clone, Copy, Debug, PartialEq, Eq)]
-pub enum Base {
-    Decimal,
-    Hexadecimal,
-}
-
-/// A number as it is written: a magnitude, and whether a minus stands before it.
-#[derive(Clone, Copy, Debug, PartialEq, Eq)]
-pub enum Number {
-    Plus(u64),
-    Minus(u64),
-}
-
 /// A value of 32 bits that is written as a number or as a label.
 #[derive(Clone, Copy, Debug, PartialEq, Eq)]
 pub enum Value {
@@ -40,33 +26,6 @@ pub enum Value {
     Number(u32),
     /// The value of the label that the statement's last word names.
     Label,
-}
-
-/// What a statement's first word asks for.
-#[derive(Clone, Copy, Debug, PartialEq, Eq)]
-pub enum Mnemonic {
-    /// A computation over two registers.
-    Operate(Operation),
-    /// A computation over a register and a number.
-    OperateImmediate(Operation),
-    /// A shift by a number.
-    ShiftImmediate(Operation),
-    Load(LoadKind),
-    Store(Width),
-    Branch(Comparison),
-    Jalr,
-    Jal,
-    Lui,
-    Auipc,
-    /// An instruction without operands.
-    Alone(Instruction),
-    LoadImmediate,
-    Segment,
-    Entry,
-    Stack,
-    Word,
-    Byte,
-    Zero,
 }
 
 /// What a line asks for.

@@ -1,8 +1,8 @@
 use Rattle.std.proofs.Common.{arith, rules}
 use Rattle.std.proofs.lemmas.Result.{err_from_is_err_and}
 use Rattle.rv_asm.specs.View.{labels_in, draft_view}
-use Rattle.source_model.specs.Source as sources
-use Rattle.source_model.specs.Text.{lines_of}
+use Rattle.source_model.specs.Reading as sources
+use Rattle.source_model.specs.Bytes.{lines_of}
 use Rattle.rv_asm.proofs.Lines.{goes-on, ends, is-done}
 use Rattle.rv_asm.proofs.assembling.with_lines.Goals as goal
 

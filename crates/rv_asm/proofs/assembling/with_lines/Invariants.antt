@@ -1,8 +1,8 @@
 use Rattle.std.proofs.Common.{◌≡◌, ◌+◌, ◌≤◌, length}
 use Rattle.rv_asm.specs.Sound.{IsNear}
 use Rattle.rv_asm.specs.View.{labels_in, draft_view}
-use Rattle.source_model.specs.Source as sources
-use Rattle.source_model.specs.Text.{lines_of}
+use Rattle.source_model.specs.Reading as sources
+use Rattle.source_model.specs.Bytes.{lines_of}
 use Rattle.rv_asm.proofs.assembling.with_lines.Given as goal
 
 abbrev pub invariant-loop-rest : goal.invariant-loop-rest

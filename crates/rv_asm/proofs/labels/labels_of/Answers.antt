@@ -1,6 +1,6 @@
 use Rattle.std.proofs.Common.{◌≡◌, None, refl, rules, arith}
 use Rattle.source_model.specs.Layout.{definition_in, start}
-use Rattle.source_model.specs.Text.{lines_of}
+use Rattle.source_model.specs.Bytes.{lines_of}
 use Rattle.rv_asm.specs.View.{labels_in}
 use Rattle.rv_asm.proofs.Names.{goes-on, is-done, none-in-empty}
 use Rattle.rv_asm.proofs.labels.labels_of.Goals as goal

@@ -2,7 +2,7 @@ use Rattle.std.proofs.Common.{◌≡◌, ℕ, ◌+◌, ◌≤◌, List, length}
 use Rattle.rv_asm.specs.Sound.{IsNear}
 use Rattle.rv_asm.specs.View.{labels_in}
 use Rattle.source_model.specs.Layout.{start, definition_in}
-use Rattle.source_model.specs.Text.{lines_of}
+use Rattle.source_model.specs.Bytes.{lines_of}
 use Rattle.source_model.specs.Mnemonic.{or_else}
 use Rattle.rv_asm.proofs.labels.labels_of.Given as goal
 

@@ -1,5 +1,5 @@
 use Rattle.source_model.specs.Layout.{definitions, start}
-use Rattle.source_model.specs.Text.{lines_of}
+use Rattle.source_model.specs.Bytes.{lines_of}
 use Rattle.source_model.proofs.Definitions.{is-first, first-is}
 use Rattle.source_model.proofs.laws.labels_are_addresses.Goals as goal
 
