@@ -2,7 +2,7 @@
 use Rattle.std.proofs.Common.{◌≡◌, ℕ, Bool, true, false, ◌||◌, List, Option, Some, None, if◌then◌else◌, refl, arith, ◌≤◌, nat_lt}
 use Rattle.std.proofs.lemmas.Bool.Decides.{nat_tests}
 use Rattle.call_model.specs.declared.Kind.{Kind}
-use Rattle.call_model.specs.declared.Kind.TheVariants.{Put, Get, Ret, ConsoleOut, Fork, Wait, Tfork, Tjoin, FileNew, FilePut, FileGet, FileLength, FileDelete}
+use Rattle.call_model.specs.declared.Kind.TheVariants.{Put, Get, Ret, ConsoleOut, ConsoleIn, Clock, Random, Fork, Wait, Tfork, Tjoin, FileNew, FilePut, FileGet, FileLength, FileDelete}
 use Rattle.call_model.specs.declared.Call.{Call}
 use Rattle.call_model.specs.Options.{has, tree, has_two_changes, has_clash, bad_put_options, bad_get_options}
 use Rattle.call_model.specs.Tests.{wrong_options, wrong_child, wrong_range, outside_root, too_long, too_deep, wrong_block, argument, first_failing}
@@ -75,6 +75,9 @@ named_kept Put x root depth p = by_tree (has tree (argument x 0)) _ _ tt (p.opti
 named_kept Get x root depth p = by_tree (has tree (argument x 0)) _ _ tt (p.options, record { changes = get_change (argument x 0) p.options; ranges = p.range; block = p.block })
 named_kept Ret x root depth p = tt
 named_kept ConsoleOut x root depth p = is_span (argument x 1) (argument x 2) p.range p.length
+named_kept ConsoleIn x root depth p = is_span (argument x 1) (argument x 2) p.range p.length
+named_kept Clock x root depth p = tt
+named_kept Random x root depth p = tt
 named_kept Fork x root depth p = tt
 named_kept Wait x root depth p = tt
 named_kept Tfork x root depth p = tt

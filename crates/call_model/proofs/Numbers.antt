@@ -3,7 +3,7 @@ use Rattle.std.proofs.Common.{◌≡◌, ℕ, ◌==◌, Bool, true, false, cond,
 use Rattle.std.proofs.lemmas.Bool.Decides.{nat_tests}
 use Rattle.std.specs.List.{find}
 use Rattle.call_model.specs.declared.Kind.{Kind}
-use Rattle.call_model.specs.declared.Kind.TheVariants.{Put, Get, Ret, ConsoleOut, Fork, Wait, Tfork, Tjoin, FileNew, FilePut, FileGet, FileLength, FileDelete}
+use Rattle.call_model.specs.declared.Kind.TheVariants.{Put, Get, Ret, ConsoleOut, ConsoleIn, Clock, Random, Fork, Wait, Tfork, Tjoin, FileNew, FilePut, FileGet, FileLength, FileDelete}
 use Rattle.call_model.specs.Kinds.{number_of, kinds, kind_of}
 
 -- each kind is that of its number
@@ -12,6 +12,9 @@ kind_of-number_of Put = refl
 kind_of-number_of Get = refl
 kind_of-number_of Ret = refl
 kind_of-number_of ConsoleOut = refl
+kind_of-number_of ConsoleIn = refl
+kind_of-number_of Clock = refl
+kind_of-number_of Random = refl
 kind_of-number_of Fork = refl
 kind_of-number_of Wait = refl
 kind_of-number_of Tfork = refl

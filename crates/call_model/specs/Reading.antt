@@ -5,7 +5,7 @@ use Rattle.call_model.specs.declared.Kind.{Kind}
 use Rattle.call_model.specs.declared.Kind.TheVariants as kinds
 use Rattle.call_model.specs.declared.Transfer.{Transfer}
 use Rattle.call_model.specs.declared.Call.{Call}
-use Rattle.call_model.specs.declared.Call.TheVariants.{Put, PutTree, Get, GetTree, Ret, ConsoleOut, Fork, Wait, Tfork, Tjoin, File}
+use Rattle.call_model.specs.declared.Call.TheVariants.{Put, PutTree, Get, GetTree, Ret, ConsoleOut, ConsoleIn, Clock, Random, Fork, Wait, Tfork, Tjoin, File}
 use Rattle.call_model.specs.declared.FileCall.{FileCall}
 use Rattle.call_model.specs.declared.FileCall.TheVariants as files
 use Rattle.call_model.specs.declared.Badcall.{Badcall}
@@ -24,6 +24,9 @@ call_of kinds.Put x = if has tree (argument x 0) then PutTree (argument x 1) (ar
 call_of kinds.Get x = if has tree (argument x 0) then GetTree (argument x 1) (argument x 3) (argument x 4) else Get (transfer x)
 call_of kinds.Ret x = Ret (argument x 0)
 call_of kinds.ConsoleOut x = ConsoleOut (argument x 1) (argument x 2)
+call_of kinds.ConsoleIn x = ConsoleIn (argument x 1) (argument x 2)
+call_of kinds.Clock x = Clock
+call_of kinds.Random x = Random
 call_of kinds.Fork x = Fork (argument x 1)
 call_of kinds.Wait x = Wait (argument x 1)
 call_of kinds.Tfork x = Tfork (argument x 1)
@@ -72,5 +75,6 @@ abbrev pub IsAccepted : Call → Type 0
 IsAccepted (Put t) = (bad_put_options t.options ≡ false) × IsTransfer t
 IsAccepted (Get t) = (bad_get_options t.options ≡ false) × IsTransfer t
 IsAccepted (ConsoleOut addr len) = IsSpan addr len
+IsAccepted (ConsoleIn addr len) = IsSpan addr len
 IsAccepted (File call) = IsFileCall call
 IsAccepted k = Unit {0}

@@ -3,7 +3,7 @@
 -- Our choice: the tests, their numbers and their order.
 use Rattle.std.specs.Prelude.{ℕ, ◌+◌, Bool, false, not, ◌&&◌, ◌||◌, nat_lt, if◌then◌else◌, List, [], ◌∷◌, slice_index, Option, Some, None}
 use Rattle.call_model.specs.declared.Kind.{Kind}
-use Rattle.call_model.specs.declared.Kind.TheVariants.{Put, Get, ConsoleOut, Fork, Wait, Tfork, Tjoin, FileNew, FilePut, FileGet, FileLength, FileDelete}
+use Rattle.call_model.specs.declared.Kind.TheVariants.{Put, Get, ConsoleOut, ConsoleIn, Clock, Random, Fork, Wait, Tfork, Tjoin, FileNew, FilePut, FileGet, FileLength, FileDelete}
 use Rattle.call_model.specs.Limits.{greatest_child, greatest_depth, greatest_length}
 use Rattle.call_model.specs.Options.{has, tree, bad_put_options, bad_get_options, bad_ranges, bad_block, passes_end}
 
@@ -48,11 +48,12 @@ wrong_name x = passes_end (argument x 1) (argument x 2)
 abbrev pub wrong_data : List ℕ → Bool
 wrong_data x = wrong_name x || passes_end (argument x 3) (argument x 4)
 
--- a range of Put or Get, the bytes of console out, or what a file call names
+-- a range of Put or Get, the bytes of console out, the buffer of console in, or what a file call names
 unfoldable pub wrong_range : Kind → List ℕ → Bool
 wrong_range Put x = bad_ranges (argument x 0) (argument x 3) (argument x 4) (argument x 5)
 wrong_range Get x = bad_ranges (argument x 0) (argument x 3) (argument x 4) (argument x 5)
 wrong_range ConsoleOut x = passes_end (argument x 1) (argument x 2)
+wrong_range ConsoleIn x = passes_end (argument x 1) (argument x 2)
 wrong_range FileNew x = wrong_name x
 wrong_range FilePut x = wrong_data x
 wrong_range FileGet x = wrong_data x
@@ -63,6 +64,9 @@ wrong_range kind x = false
 -- a call of a device outside the root
 unfoldable pub outside_root : Kind → Bool → Bool
 outside_root ConsoleOut root = not root
+outside_root ConsoleIn root = not root
+outside_root Clock root = not root
+outside_root Random root = not root
 outside_root kind root = false
 
 -- of a file call, the length of its name, or that of its data or buffer
@@ -75,6 +79,7 @@ long_data x = long_name x || nat_lt greatest_length (argument x 4)
 -- a length above the greatest
 unfoldable pub too_long : Kind → List ℕ → Bool
 too_long ConsoleOut x = nat_lt greatest_length (argument x 2)
+too_long ConsoleIn x = nat_lt greatest_length (argument x 2)
 too_long FileNew x = long_name x
 too_long FilePut x = long_data x
 too_long FileGet x = long_data x

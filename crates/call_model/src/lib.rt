@@ -22,6 +22,9 @@ pub enum Kind {
     Get,
     Ret,
     ConsoleOut,
+    ConsoleIn,
+    Clock,
+    Random,
     Fork,
     Wait,
     Tfork,
@@ -86,6 +89,12 @@ pub enum Call {
     Ret { value: u32 },
     /// Writes `len` bytes from `addr` on to the console.
     ConsoleOut { addr: u32, len: u32 },
+    /// Reads at most `len` bytes of the console's input into a buffer from `addr` on.
+    ConsoleIn { addr: u32, len: u32 },
+    /// Reads the clock.
+    Clock,
+    /// Draws a random number.
+    Random,
     /// Starts a process: a child that goes on from here with a copy of the caller's memory.
     Fork { child: u16 },
     /// Waits for a process and all below it, and removes them.

@@ -1,7 +1,7 @@
 -- How a space runs until it stops, over what its children do when they are waited for: by its next events, and until it has stopped.
 use Rattle.std.proofs.Common.{◌≡◌, ℕ, zero, suc, ◌≤◌, Bool, true, false, cond, List, ◌∷◌, Option, Some, None, refl, sym, ap, ◌∙◌, subst, arith}
 use Rattle.call_model.specs.declared.Call.{Call}
-use Rattle.call_model.specs.declared.Call.TheVariants.{Put, PutTree, Get, GetTree, Ret, ConsoleOut, Fork, Wait, Tfork, Tjoin, File}
+use Rattle.call_model.specs.declared.Call.TheVariants.{Put, PutTree, Get, GetTree, Ret, ConsoleOut, ConsoleIn, Clock, Random, Fork, Wait, Tfork, Tjoin, File}
 use Rattle.space_model.specs.Stop.{is_stopped}
 use Rattle.space_model.specs.Space.{Space, space, Children, Top, top_of, children_of, find, over}
 use Rattle.space_model.specs.declared.Refusal.{Refusal}
@@ -43,6 +43,9 @@ action_fuel (Tfork child) u seen cs = refl
 action_fuel (Tjoin child) u seen cs = (join_alike (or_fresh u (first_top seen)) u).fuel
 action_fuel (Ret value) u seen cs = refl
 action_fuel (ConsoleOut addr len) u seen cs = refl
+action_fuel (ConsoleIn addr len) u seen cs = refl
+action_fuel Clock u seen cs = refl
+action_fuel Random u seen cs = refl
 action_fuel (File call) u seen cs = refl
 
 unless_fuel : (o : Option Refusal) (u : Top) (m : Meeting) (cs : Children) → (top_of (apply_meeting m cs)).fuel ≡ u.fuel → (top_of (apply_meeting (unless_refused o u m) cs)).fuel ≡ u.fuel

@@ -1,8 +1,8 @@
 -- What the next event of a space tells: a call that meets a child is one that may, of a top that may pay; a local event keeps a top
 -- sound, and so do many.
-use Rattle.std.proofs.Common.{◌≡◌, ℕ, zero, suc, ◌-◌, ◌≤◌, ◌<◌, ◌+◌, nat_lt, Bool, true, false, ◌&&◌, ◌||◌, if◌then◌else◌, List, Option, Some, None, Result, Ok, Err, refl, sym, ap, ◌∙◌, subst, arith}
+use Rattle.std.proofs.Common.{◌≡◌, ℕ, zero, suc, ◌-◌, ◌≤◌, ◌<◌, ◌+◌, nat_lt, Bool, true, false, ◌&&◌, ◌||◌, if◌then◌else◌, List, [], ◌∷◌, Option, Some, None, Result, Ok, Err, refl, sym, ap, ◌∙◌, subst, arith}
 use Rattle.std.proofs.lemmas.Bool.Decides.{nat_tests}
-use Rattle.memory_model.specs.Memory.{may_read, first_without}
+use Rattle.memory_model.specs.Memory.{may_read, may_write, first_without}
 use Rattle.instruction_model.specs.Outcome.{view_of, Outcome, goes, stores, calls, traps, outcome}
 use Rattle.call_model.specs.declared.Transfer.{Transfer}
 use Rattle.call_model.specs.declared.Call.{Call}
@@ -19,14 +19,15 @@ use Rattle.call_model.specs.Reading.{unless_failed, read_as, read, IsAccepted}
 use Rattle.call_model.proofs.Accepted.{Passes, passes, named_accepted}
 use Rattle.space_model.specs.declared.Status.{Status}
 use Rattle.space_model.specs.declared.Status.TheVariants.{Running, Stopped}
-use Rattle.space_model.specs.Space.{Top, Devices}
+use Rattle.script_model.specs.Devices.{Devices}
+use Rattle.space_model.specs.Space.{Top}
 use Rattle.space_model.specs.Sound.{has_devices, IsSoundTop}
 use Rattle.space_model.specs.Change.{after_payment}
 use Rattle.space_model.specs.Meeting.{MayMeet}
 use Rattle.space_model.specs.declared.FileAnswer.{FileAnswer}
 use Rattle.space_model.specs.declared.FileAnswer.TheVariants.{Done, Refused, Fault}
 use Rattle.space_model.specs.Files.{FileResult, file_call}
-use Rattle.space_model.specs.Event.{Effect, becomes, asks, NextEvent, rests, moves, meets, charge, with_devices, output, console_out, effect_of, after_answer, after_file_call, by_reading, call, after_outcome, instruction, by_limit_left, by_fuel_left, by_status, next, Follows, IsNotLocal, MayPay}
+use Rattle.space_model.specs.Event.{Effect, becomes, asks, NextEvent, rests, moves, meets, charge, with_devices, output, console_out, input, console_in, next_number, clock, random, effect_of, after_answer, after_file_call, by_reading, call, after_outcome, instruction, by_limit_left, by_fuel_left, by_status, next, Follows, IsNotLocal, MayPay}
 
 fits : (n : ℕ) → is_no_child n ≡ false → IsChild n
 fits n h = grind (arith, nat_tests)
@@ -51,9 +52,25 @@ output_asks t d addr len None k e = cc
 console_asks : (t : Top) (addr len : ℕ) (k : Call) → effect_of t (named.ConsoleOut addr len) ≡ asks k → ⊥
 console_asks t addr len k e = device_asks t t.devices (console_out t addr len) k (λ d. output_asks t d addr len (first_without (may_read t.memory) addr len) k) e
 
+input_asks : (t : Top) (d : Devices) (addr len : ℕ) (o : Option ℕ) (k : Call) → input t d addr len o ≡ asks k → ⊥
+input_asks t d addr len (Some a) k e = cc
+input_asks t d addr len None k e = cc
+
+buffer_asks : (t : Top) (addr len : ℕ) (k : Call) → effect_of t (named.ConsoleIn addr len) ≡ asks k → ⊥
+buffer_asks t addr len k e = device_asks t t.devices (console_in t addr len) k (λ d. input_asks t d addr len (first_without (may_write t.memory) addr len) k) e
+
+clock_asks : (t : Top) (k : Call) → effect_of t named.Clock ≡ asks k → ⊥
+clock_asks t k e = device_asks t t.devices (clock t) k (λ d h. cc) e
+
+random_asks : (t : Top) (k : Call) → effect_of t named.Random ≡ asks k → ⊥
+random_asks t k e = device_asks t t.devices (random t) k (λ d h. cc) e
+
 -- the call that is asked for is the call itself
 asked : (t : Top) (c k : Call) → effect_of t c ≡ asks k → c ≡ k
 asked t (named.ConsoleOut addr len) k e = absurd (console_asks t addr len k e)
+asked t (named.ConsoleIn addr len) k e = absurd (buffer_asks t addr len k e)
+asked t named.Clock k e = absurd (clock_asks t k e)
+asked t named.Random k e = absurd (random_asks t k e)
 asked t (named.File call) k e = cc
 asked t c k e = cc
 
@@ -86,6 +103,9 @@ named_meets levels t kinds.Tfork x root k p e = (shallow levels 1 p.below, fits 
 named_meets levels t kinds.Tjoin x root k p e = fits (argument x 1) p.child
 named_meets levels t kinds.Ret x root k p e = cc
 named_meets levels t kinds.ConsoleOut x root k p e = absurd (console_asks t (argument x 1) (argument x 2) k e)
+named_meets levels t kinds.ConsoleIn x root k p e = absurd (buffer_asks t (argument x 1) (argument x 2) k e)
+named_meets levels t kinds.Clock x root k p e = absurd (clock_asks t k e)
+named_meets levels t kinds.Random x root k p e = absurd (random_asks t k e)
 named_meets levels t kinds.FileNew x root k p e = cc
 named_meets levels t kinds.FilePut x root k p e = cc
 named_meets levels t kinds.FileGet x root k p e = cc
@@ -159,6 +179,14 @@ output_keeps : (t : Top) (d : Devices) (addr len : ℕ) (o : Option ℕ) → t.d
 output_keeps t d addr len (Some a) is = refl
 output_keeps t d addr len None is = rw is refl
 
+input_keeps : (t : Top) (d : Devices) (addr len : ℕ) (o : Option ℕ) → t.devices ≡ Some d → KeepsDevices t (input t d addr len o)
+input_keeps t d addr len (Some a) is = refl
+input_keeps t d addr len None is = rw is refl
+
+number_keeps : (t : Top) (d : Devices) (ns : List ℕ) (left : List ℕ → Devices) → t.devices ≡ Some d → has_devices (next_number t ns left).devices ≡ has_devices t.devices
+number_keeps t d [] left is = refl
+number_keeps t d (n ∷ ns) left is = rw is refl
+
 answer_keeps : (a : FileAnswer) (t : Top) → (after_answer a t).devices ≡ t.devices
 answer_keeps (Done None) t = refl
 answer_keeps (Done (Some n)) t = refl
@@ -172,6 +200,9 @@ file_call_keeps r t = answer_keeps r.answer (record t { memory = r.memory })
 effect_keeps : (t : Top) (c : Call) → KeepsDevices t (effect_of t c)
 effect_keeps t (named.Ret value) = refl
 effect_keeps t (named.ConsoleOut addr len) = device_keeps t t.devices (console_out t addr len) refl (λ d. output_keeps t d addr len (first_without (may_read t.memory) addr len))
+effect_keeps t (named.ConsoleIn addr len) = device_keeps t t.devices (console_in t addr len) refl (λ d. input_keeps t d addr len (first_without (may_write t.memory) addr len))
+effect_keeps t named.Clock = device_keeps t t.devices (clock t) refl (λ d. number_keeps t d d.clocks (λ ns. record d { clocks = ns }))
+effect_keeps t named.Random = device_keeps t t.devices (random t) refl (λ d. number_keeps t d d.numbers (λ ns. record d { numbers = ns }))
 effect_keeps t (named.File call) = ap has_devices (file_call_keeps (file_call call t.memory) t)
 effect_keeps t c = tt
 

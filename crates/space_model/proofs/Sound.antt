@@ -6,7 +6,7 @@ use Rattle.std.proofs.Common.{◌≡◌, ℕ, zero, suc, pred, ◌+◌, ◌-◌,
 use Rattle.std.proofs.lemmas.Bool.Decides.{nat_tests}
 use Rattle.std.specs.Prelude.{option_map, if◌then◌else◌}
 use Rattle.call_model.specs.declared.Call.{Call}
-use Rattle.call_model.specs.declared.Call.TheVariants.{Put, PutTree, Get, GetTree, Ret, ConsoleOut, Fork, Wait, Tfork, Tjoin, File}
+use Rattle.call_model.specs.declared.Call.TheVariants.{Put, PutTree, Get, GetTree, Ret, ConsoleOut, ConsoleIn, Clock, Random, Fork, Wait, Tfork, Tjoin, File}
 use Rattle.call_model.specs.Limits.{IsChild}
 use Rattle.space_model.specs.declared.Refusal.{Refusal}
 use Rattle.space_model.specs.Space.{Space, space, Children, none, child, Top, top_of, children_of, find, over, has, enter, put_child, remove_child, height, levels_of}
@@ -249,6 +249,9 @@ action_sound levels root fuel (Tjoin n) u cs may top ok passes =
     (caller_sound fuel root u (after_join c u) (join_alike c u) top, ok)
 action_sound levels root fuel (Ret value) u cs may top ok passes = absurd may
 action_sound levels root fuel (ConsoleOut addr len) u cs may top ok passes = absurd may
+action_sound levels root fuel (ConsoleIn addr len) u cs may top ok passes = absurd may
+action_sound levels root fuel Clock u cs may top ok passes = absurd may
+action_sound levels root fuel Random u cs may top ok passes = absurd may
 action_sound levels root fuel (File call) u cs may top ok passes = absurd may
 
 -- a caller that stops is as sound as it was

@@ -13,7 +13,8 @@ use Rattle.space_model.specs.declared.Status.TheVariants.{Running, Stopped}
 use Rattle.space_model.specs.declared.Cause.{Cause}
 use Rattle.space_model.specs.declared.Cause.TheVariants.{FetchMisaligned, FetchFault, Illegal, Breakpoint, LoadMisaligned, LoadFault, StoreMisaligned, StoreFault, Badcall, Conflict, Limit, Fuel, Ret, Fresh}
 use Rattle.space_model.specs.Stop.{cause_number, cause_of}
-use Rattle.space_model.specs.Space.{Devices, Top, Space, space, Children, none, child, children_from}
+use Rattle.script_model.specs.Devices.{Devices, coded_devices}
+use Rattle.space_model.specs.Space.{Top, Space, space, Children, none, child, children_from}
 
 pub cause_of-cause_number : (c : Cause) → cause_of (cause_number c) ≡ c
 cause_of-cause_number FetchMisaligned = refl
@@ -48,9 +49,6 @@ status_from-status_parts (Stopped cause value) = refl
 
 abbrev pub coded_status : Coded Status
 coded_status = code_by (Option (Cause × ℕ)) (coded_option (coded× coded_cause coded_ℕ)) status_parts status_from status_from-status_parts
-
-abbrev pub coded_devices : Coded Devices
-coded_devices = code_by (List ℕ) (coded_list coded_ℕ) (λ d. d.console) (λ c. record { console = c }) (λ _. refl)
 
 -- A space is told apart by its tops and numbers in the order in which a reader meets them.
 abbrev pub Token : Type 0

@@ -1,8 +1,8 @@
 -- One local event of a space: one instruction, one trap, or one stop. The order of the tests is the order of the lines.
 -- Source: OSDI 2010, "Efficient System-Enforced Deterministic Parallelism", the kernel interface: a trap is an implicit Ret.
 -- Our choice: fuel in each space, and the order of the tests.
-use Rattle.std.specs.Prelude.{◌≡◌, ℕ, zero, suc, ◌-◌, ◌<◌, Option, Some, None, Result, Ok, Err, List, ◌++◌}
-use Rattle.memory_model.specs.Memory.{may_read, bytes_from, first_without, with_number}
+use Rattle.std.specs.Prelude.{◌≡◌, ℕ, zero, suc, ◌-◌, ◌<◌, Option, Some, None, Result, Ok, Err, List, [], ◌∷◌, ◌++◌, length, take, drop}
+use Rattle.memory_model.specs.Memory.{may_read, may_write, bytes_from, first_without, with_bytes, with_number}
 use Rattle.instruction_model.specs.Outcome.{view_of, Outcome, goes, stores, calls, traps, outcome}
 use Rattle.call_model.specs.declared.Call.{Call}
 use Rattle.call_model.specs.declared.Call.TheVariants as named
@@ -11,9 +11,10 @@ use Rattle.call_model.specs.Limits.{greatest_depth}
 use Rattle.call_model.specs.Reading.{read}
 use Rattle.space_model.specs.declared.Status.{Status}
 use Rattle.space_model.specs.declared.Status.TheVariants.{Running, Stopped}
-use Rattle.space_model.specs.declared.Cause.TheVariants.{LoadFault, Badcall, Limit, Fuel, Ret}
+use Rattle.space_model.specs.declared.Cause.TheVariants.{LoadFault, StoreFault, Badcall, Limit, Fuel, Ret}
 use Rattle.space_model.specs.Stop.{cause_of}
-use Rattle.space_model.specs.Space.{Top, Devices}
+use Rattle.script_model.specs.Devices.{Devices}
+use Rattle.space_model.specs.Space.{Top}
 use Rattle.space_model.specs.Sound.{has_devices}
 use Rattle.space_model.specs.Change.{stop, after_success, after_error, with_count, after_payment}
 use Rattle.space_model.specs.declared.FileAnswer.{FileAnswer}
@@ -54,6 +55,30 @@ output t d addr len None = becomes (after_success (with_output t d (bytes_from t
 abbrev pub console_out : Top → ℕ → ℕ → Devices → Effect
 console_out t addr len d = output t d addr len (first_without (may_read t.memory) addr len)
 
+-- the first bytes of the input that is left go into a buffer, and are counted
+abbrev pub with_input : Top → Devices → ℕ → ℕ → Top
+with_input t d addr len =
+    with_count (length (take len d.input)) (record t { memory = with_bytes t.memory addr (take len d.input); devices = Some (record d { input = drop len d.input }) })
+
+abbrev pub input : Top → Devices → ℕ → ℕ → Option ℕ → Effect
+input t d addr len (Some a) = becomes (stop t StoreFault a)
+input t d addr len None = becomes (after_success (with_input t d addr len))
+
+-- console in into a buffer, all of which has to be writable
+abbrev pub console_in : Top → ℕ → ℕ → Devices → Effect
+console_in t addr len d = input t d addr len (first_without (may_write t.memory) addr len)
+
+-- the next number of a device goes into a1, and the others are left; where there is none, a0 is 1 and a1 is 0
+abbrev pub next_number : Top → List ℕ → (List ℕ → Devices) → Top
+next_number t [] left = after_error 1 (with_count 0 t)
+next_number t (n ∷ ns) left = after_success (with_count n (record t { devices = Some (left ns) }))
+
+abbrev pub clock : Top → Devices → Effect
+clock t d = becomes (next_number t d.clocks (λ ns. record d { clocks = ns }))
+
+abbrev pub random : Top → Devices → Effect
+random t d = becomes (next_number t d.numbers (λ ns. record d { numbers = ns }))
+
 -- what a call on a file answers: a0, and a count in a1; or the trap of a byte that lacks a right
 abbrev pub after_answer : FileAnswer → Top → Top
 after_answer (Done None) t = after_success t
@@ -68,6 +93,9 @@ after_file_call result t = after_answer result.answer (record t { memory = resul
 abbrev pub effect_of : Top → Call → Effect
 effect_of t (named.Ret value) = becomes (stop (after_success t) Ret value)
 effect_of t (named.ConsoleOut addr len) = with_devices t t.devices (console_out t addr len)
+effect_of t (named.ConsoleIn addr len) = with_devices t t.devices (console_in t addr len)
+effect_of t named.Clock = with_devices t t.devices (clock t)
+effect_of t named.Random = with_devices t t.devices (random t)
 effect_of t (named.File call) = becomes (after_file_call (file_call call t.memory) t)
 effect_of t call = asks call
 

@@ -4,12 +4,9 @@
 use Rattle.std.specs.Prelude.{ℕ, suc, List, [], ◌∷◌, Option, Bool, true, false, Some, None, cond, ◌==◌, nat_lt, max}
 use Rattle.memory_model.specs.Memory.{Memory}
 use Rattle.instruction_model.specs.Outcome.{Registers}
+use Rattle.script_model.specs.Devices.{Devices}
 use Rattle.space_model.specs.declared.Status.{Status}
 use Rattle.space_model.specs.Stop.{is_stopped}
-
--- what only the root has
-pub record Devices : Type 0 where
-  pub console : List ℕ
 
 -- the bytes written to the console; without devices there are none
 abbrev pub console_bytes : Option Devices → List ℕ
@@ -24,6 +21,7 @@ pub record Top : Type 0 where
   pub fuel : ℕ
   pub used : ℕ
   pub status : Status
+  -- what only the root has
   pub devices : Option Devices
 
 mutual

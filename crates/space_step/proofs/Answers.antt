@@ -5,7 +5,8 @@ use Rattle.memory_model.specs.Memory.{may_read, first_without}
 use Rattle.call_model.specs.declared.Call.TheVariants as named
 use Rattle.call_model.specs.Reading.{read}
 use Rattle.space_model.specs.Sound.{has_devices}
-use Rattle.space_model.specs.Space.{Top, Devices}
+use Rattle.script_model.specs.Devices.{Devices}
+use Rattle.space_model.specs.Space.{Top}
 use Rattle.space_model.specs.Change.{after_payment}
 use Rattle.space_model.specs.Event.{Effect, becomes, asks, charge, with_devices, output, console_out, effect_of, by_reading, call, after_outcome, instruction, MayPay}
 use Rattle.space_step.specs.declared.event.Next.{Next}
