@@ -17,7 +17,8 @@ use std::marker::Model;
 
 /// A call that passed the tests on registers. Options of Put and Get stand together; with Copy, Zero, Merge or Perm the
 /// destination is a range of whole pages of memory, with Copy the source too; with Regs the register block stands in memory, at a
-/// multiple of 4. Console out's bytes, and a file call's name, data and buffer, stand in memory and are at most 65,536 bytes each.
+/// multiple of 4. Console out's bytes, console in's buffer, and a file call's name, data and buffer, stand in memory and are at most
+/// 65,536 bytes each.
 #[derive(Clone, Copy, Debug, PartialEq, Eq)]
 pub struct AcceptedCall {
     call: Call,
@@ -149,6 +150,12 @@ fn call_of(kind: Kind, x: &[u32; 32]) -> Call
             addr: argument(x, 1),
             len: argument(x, 2),
         },
+        Kind::ConsoleIn => Call::ConsoleIn {
+            addr: argument(x, 1),
+            len: argument(x, 2),
+        },
+        Kind::Clock => Call::Clock,
+        Kind::Random => Call::Random,
         Kind::Fork => Call::Fork {
             child: argument(x, 1) as u16,
         },
@@ -182,10 +189,10 @@ fn call_of(kind: Kind, x: &[u32; 32]) -> Call
 /// 2. an option that is not known, permission bits without Perm, two of Copy, Zero and Merge, Tree with another bit; in Put
 ///    Merge, or Limit without Start; in Get one of Snap, Start and Limit; in FileNew an a3, or in FilePut an a5, above 1;
 /// 3. a child number above 65,535, with Tree one of three;
-/// 4. a range of Put or Get that is not of whole pages of 4,096 bytes or passes the end of memory; console out's bytes, or a file call's
-///    name, data or buffer, that pass it;
-/// 6. console out outside the root;
-/// 7. console out of more than 65,536 bytes, or a file call's name, data or buffer of more;
+/// 4. a range of Put or Get that is not of whole pages of 4,096 bytes or passes the end of memory; console out's bytes, console in's
+///    buffer, or a file call's name, data or buffer, that pass it;
+/// 6. console out, console in, the clock or a random number outside the root;
+/// 7. console out or console in of more than 65,536 bytes, or a file call's name, data or buffer of more;
 /// 8. Put, Fork or Tfork at depth 8, Put with Tree at depth 7 or 8;
 /// 9. a register block at no multiple of 4, or above 0xFFFFFF78.
 #[tactic(auto, using(call_model::proofs::Accepted::named_accepted, call_model::proofs::Accepted::named_child))]

@@ -158,7 +158,7 @@ fn wrong_data(x: &[u32; 32]) -> bool
     wrong_name(x) || passes_end(argument(x, 3), argument(x, 4))
 }
 
-/// Test 4: a range of Put or Get, the bytes of console out, or what a file call names.
+/// Test 4: a range of Put or Get, the bytes of console out, the buffer of console in, or what a file call names.
 #[tactic(auto, unfolding(call_model::specs::Tests::wrong_range))]
 pub(crate) fn wrong_range(kind: Kind, x: &[u32; 32]) -> bool
     ensures { result ≡ table.wrong_range kind x.now }
@@ -170,7 +170,7 @@ pub(crate) fn wrong_range(kind: Kind, x: &[u32; 32]) -> bool
             argument(x, 4),
             argument(x, 5),
         ),
-        Kind::ConsoleOut => passes_end(argument(x, 1), argument(x, 2)),
+        Kind::ConsoleOut | Kind::ConsoleIn => passes_end(argument(x, 1), argument(x, 2)),
         Kind::FilePut | Kind::FileGet => wrong_data(x),
         Kind::FileNew | Kind::FileLength | Kind::FileDelete => wrong_name(x),
         _ => false,
@@ -183,7 +183,7 @@ pub(crate) fn outside_root(kind: Kind, is_root: bool) -> bool
     ensures { result ≡ table.outside_root kind is_root }
 {
     match kind {
-        Kind::ConsoleOut => !is_root,
+        Kind::ConsoleOut | Kind::ConsoleIn | Kind::Clock | Kind::Random => !is_root,
         _ => false,
     }
 }
@@ -207,9 +207,8 @@ pub(crate) fn too_long(kind: Kind, x: &[u32; 32]) -> bool
     ensures { result ≡ table.too_long kind x.now }
 {
     match kind {
-        Kind::ConsoleOut | Kind::FileNew | Kind::FileLength | Kind::FileDelete => {
-            is_too_long(argument(x, 2))
-        }
+        Kind::ConsoleOut | Kind::ConsoleIn | Kind::FileNew | Kind::FileLength | Kind::FileDelete =>
+            is_too_long(argument(x, 2)),
         Kind::FilePut | Kind::FileGet => long_data(x),
         _ => false,
     }

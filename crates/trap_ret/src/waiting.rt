@@ -39,6 +39,11 @@ pub fn awaits(call: Call) -> Awaits
             one(child, Reach::Itself)
         }
         Call::Wait { child } => one(child, Reach::Whole),
-        Call::Ret { .. } | Call::ConsoleOut { .. } | Call::File(_) => ArrayVec::new(),
+        Call::Ret { .. }
+        | Call::ConsoleOut { .. }
+        | Call::ConsoleIn { .. }
+        | Call::Clock
+        | Call::Random
+        | Call::File(_) => ArrayVec::new(),
     }
 }
