@@ -1,3 +1,7 @@
+ghost use Rattle.std.specs.Prelude.{◌≡◌, IfOk};
+ghost use Rattle.dev_script.specs.View.{no_devices};
+
+use std::alloc::{AllocError, Global};
 use std::collections::VecDeque;
 use std::marker::Model;
 
@@ -28,4 +32,30 @@ impl Model for Devices {
       numbers = d.numbers.items;
       console = d.console.items;
     } };
+}
+
+impl Devices {
+    /// Devices that have nothing left to give, and an empty console.
+    pub fn new(alloc: Global) -> Devices
+        ensures { result ≡ no_devices }
+    {
+        Devices {
+            input: VecDeque::new(alloc),
+            clocks: VecDeque::new(alloc),
+            numbers: VecDeque::new(alloc),
+            console: Vec::new(alloc),
+        }
+    }
+
+    /// Equal devices. The one error is want of memory.
+    pub fn copy(&self) -> Result<Devices, AllocError>
+        ensures { IfOk result (λ d. d ≡ self.now) }
+    {
+        Ok(Devices {
+            input: self.input.clone()?,
+            clocks: self.clocks.clone()?,
+            numbers: self.numbers.clone()?,
+            console: self.console.clone()?,
+        })
+    }
 }
