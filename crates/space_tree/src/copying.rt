@@ -3,14 +3,15 @@ ghost use Rattle.std.specs.BTreeMap.{get, IsOrdered};
 ghost use Rattle.std.specs.Ordering.{nat_cmp};
 ghost use Rattle.space_mem.specs.Held.{memory_in};
 
-use crate::devices::Devices;
 use crate::space::Space;
 use crate::top::Top;
+use dev_script::Devices;
 use space_mem::Mem;
 use std::alloc::{AllocError, Global};
 use std::collections::BTreeMap;
 
 /// An equal state, whose memories no later write to this one's changes. The one error is want of memory.
+#[tactic(auto, using(space_mem::proofs::Dirty::covers_in_same))]
 pub fn copy_top(top: &mut Top) -> Result<Top, AllocError>
     ensures equal { IfOk result (λ t. t ≡ top.old) }
     ensures same { top.new ≡ top.old }

@@ -2,7 +2,6 @@
 #![tactic(auto)]
 
 mod copying;
-mod devices;
 mod levels;
 mod path;
 mod settled;
@@ -10,7 +9,7 @@ mod space;
 mod top;
 
 pub use copying::{copy_top, copy_tree};
-pub use devices::Devices;
+pub use dev_script::Devices;
 pub use levels::height;
 pub use path::{Path, at, put_at, swap_top};
 pub use rv_exec::Regs;

@@ -6,7 +6,7 @@ ghost use Rattle.space_model.specs.Beginning.{fresh_top, root_of};
 ghost use Rattle.space_model.specs.Space.{console_bytes};
 ghost use Rattle.space_mem.specs.Held.{memory_in};
 
-use crate::devices::Devices;
+use dev_script::Devices;
 use rv_exec::Regs;
 use space_mem::Mem;
 use space_model::{Cause, Status};
