@@ -1,14 +1,14 @@
 -- The answers to what is next, where the instruction at pc may be paid for.
 use Rattle.std.proofs.Common.{◌≡◌, ℕ, ◌-◌, true, false, Option, Some, None, refl, sym, ap, ◌∙◌, subst}
 use Rattle.instruction_model.specs.Outcome.{Outcome, goes, stores, calls, traps, view_of, outcome}
-use Rattle.memory_model.specs.Memory.{may_read, first_without}
+use Rattle.memory_model.specs.Memory.{may_read, may_write, first_without}
 use Rattle.call_model.specs.declared.Call.TheVariants as named
 use Rattle.call_model.specs.Reading.{read}
 use Rattle.space_model.specs.Sound.{has_devices}
 use Rattle.script_model.specs.Devices.{Devices}
 use Rattle.space_model.specs.Space.{Top}
 use Rattle.space_model.specs.Change.{after_payment}
-use Rattle.space_model.specs.Event.{Effect, becomes, asks, charge, with_devices, output, console_out, effect_of, by_reading, call, after_outcome, instruction, MayPay}
+use Rattle.space_model.specs.Event.{Effect, becomes, asks, charge, with_devices, output, console_out, input, console_in, clock, random, effect_of, by_reading, call, after_outcome, instruction, MayPay}
 use Rattle.space_step.specs.declared.event.Next.{Next}
 use Rattle.space_step.specs.declared.event.Next.TheVariants as answers
 use Rattle.space_step.specs.Steps.{IsNextLocal, IsNext, IsLocal, IsAnswer}
@@ -38,6 +38,20 @@ device_is_local t (Some d) f local = local d
 -- console out is a local event
 pub console_is_local : (t : Top) (addr len : ℕ) → IsLocal (effect_of t (named.ConsoleOut addr len))
 console_is_local t addr len = device_is_local t t.devices (console_out t addr len) (λ d. output_is_local t d addr len (first_without (may_read t.memory) addr len))
+
+input_is_local : (t : Top) (d : Devices) (addr len : ℕ) (o : Option ℕ) → IsLocal (input t d addr len o)
+input_is_local t d addr len (Some a) = tt
+input_is_local t d addr len None = tt
+
+-- so are console in, the clock and a random number
+pub buffer_is_local : (t : Top) (addr len : ℕ) → IsLocal (effect_of t (named.ConsoleIn addr len))
+buffer_is_local t addr len = device_is_local t t.devices (console_in t addr len) (λ d. input_is_local t d addr len (first_without (may_write t.memory) addr len))
+
+pub clock_is_local : (t : Top) → IsLocal (effect_of t named.Clock)
+clock_is_local t = device_is_local t t.devices (clock t) (λ d. tt)
+
+pub random_is_local : (t : Top) → IsLocal (effect_of t named.Random)
+random_is_local t = device_is_local t t.devices (random t) (λ d. tt)
 
 local_is_next : (levels : ℕ) (t : Top) (e : Effect) → MayPay t → instruction levels t ≡ e → IsLocal e → IsNext levels answers.Local t
 local_is_next levels t (becomes u) may is local = (after_payment t u, next_pays levels t may ∙ ap (charge t) is)

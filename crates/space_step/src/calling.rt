@@ -1,53 +1,20 @@
-ghost use Rattle.std.specs.Prelude.{◌≡◌, ◌-◌, ◌≤◌, ◌^◌, ◌+◌, OnOk, OnErr, IfOk, IfSome};
+ghost use Rattle.std.specs.Prelude.{◌≡◌, ◌-◌, ◌≤◌};
 ghost use Rattle.call_model.specs.Limits.{greatest_depth, levels_below};
-ghost use Rattle.memory_model.specs.Memory.{bytes_from};
 ghost use Rattle.instruction_model.specs.Outcome.{calls, view_of, outcome};
-ghost use Rattle.call_model.specs.Reading.{IsAccepted};
 ghost use Rattle.space_model.specs.Event as event;
 ghost use Rattle.space_model.specs.Event.{MayPay};
-ghost use Rattle.space_step.specs.Steps.{Acts, Does, Steps};
+ghost use Rattle.space_step.specs.Steps.{Acts, Steps};
 
+use crate::devices::{console_in, console_out, draw_number, read_clock};
 use crate::event::Next;
 use crate::files::file_call;
 use space_model::Cause;
 use space_tree::Top;
-use std::alloc::{AllocError, Global};
+use std::alloc::AllocError;
 use trap_ret::{AcceptedCall, Badcall, Call, read_call};
 
-// Appends a range of memory to the console of a space that has one.
-fn write_console(top: &mut Top, alloc: Global, addr: u32, len: u32) -> Result<(), AllocError>
-    requires { addr + len ≤ 2 ^ 32 }
-    ensures ok { OnOk result (IfSome top.old.devices (λ d. top.new ≡ event.with_output top.old d (bytes_from top.old.memory addr len))) }
-    ensures err { OnErr result (top.new ≡ top.old) }
-{
-    let bytes = top.memory.bytes(alloc, addr, len)?;
-    if let Some(devices) = &mut top.devices {
-        devices.console.extend_from_slice(&bytes)?;
-    }
-    Ok(())
-}
-
-// Console out of a range of memory.
-fn console_out(top: &mut Top, addr: u32, len: u32) -> Result<(), AllocError>
-    requires { addr + len ≤ 2 ^ 32 }
-    ensures { Does (event.with_devices top.old top.old.devices (event.console_out top.old addr len)) result top.old top.new }
-{
-    let Some(devices) = &top.devices else {
-        top.stop(Cause::Badcall, 6);
-        return Ok(());
-    };
-    let alloc = *devices.console.allocator();
-    if let Some(at) = top.memory.first_unreadable(addr, len) {
-        top.stop(Cause::LoadFault, at);
-        return Ok(());
-    }
-    write_console(top, alloc, addr, len)?;
-    top.succeed();
-    Ok(())
-}
-
 // What a call does, but for what it costs. A call that meets children is left to do.
-#[tactic(auto, using(crate::proofs::Answers::console_is_local))]
+#[tactic(auto, using(crate::proofs::Answers::console_is_local, crate::proofs::Answers::buffer_is_local))]
 fn act(top: &mut Top, accepted: AcceptedCall) -> Result<Next, AllocError>
     ensures { Acts (event.effect_of top.old accepted) result top.old top.new }
 {
@@ -56,8 +23,11 @@ fn act(top: &mut Top, accepted: AcceptedCall) -> Result<Next, AllocError>
             top.succeed();
             top.stop(Cause::Ret, value);
         }
-        Call::ConsoleOut { addr, len } => console_out(top, addr, len)?,
         Call::File(call) => file_call(top, call)?,
+        Call::ConsoleOut { addr, len } => console_out(top, addr, len)?,
+        Call::ConsoleIn { addr, len } => console_in(top, addr, len)?,
+        Call::Clock => read_clock(top),
+        Call::Random => draw_number(top),
         _ => return Ok(Next::Meet(accepted)),
     }
     Ok(Next::Local)

@@ -28,16 +28,16 @@ fn error_number(error: FileError) -> u32
     }
 }
 
-// A call is refused: a0 is the number of the error, and the next instruction follows.
-fn refuse(top: &mut Top, error: FileError)
-    ensures { top.new ≡ after_error (error_number error) top.old }
+/// A call is refused: a0 is the number of the error, and the next instruction follows.
+pub(crate) fn fail(top: &mut Top, number: u32)
+    ensures { top.new ≡ after_error number top.old }
 {
     top.registers.pc = top.registers.pc.wrapping_add(4);
-    top.registers.set_register(10, error_number(error));
+    top.registers.set_register(10, number);
 }
 
-// A call is done: a1 is what it has counted, where it counts.
-fn finish(top: &mut Top, count: Option<u32>)
+/// A call is done: a1 is what it has counted, where it counts.
+pub(crate) fn finish(top: &mut Top, count: Option<u32>)
     ensures { top.new ≡ after_answer (Done count) top.old }
 {
     if let Some(n) = count {
@@ -53,7 +53,7 @@ fn tell(top: &mut Top, answer: FileAnswer)
 {
     match answer {
         FileAnswer::Done(count) => finish(top, count),
-        FileAnswer::Refused(error) => refuse(top, error),
+        FileAnswer::Refused(error) => fail(top, error_number(error)),
         FileAnswer::Fault(refusal) => top.stop(refusal.cause, refusal.value),
     }
 }

@@ -3,6 +3,7 @@
 
 mod calling;
 mod decode_cache;
+mod devices;
 mod event;
 mod files;
 mod paying;

@@ -35,12 +35,17 @@ fn is_at_call(registers: &Regs, memory: &Mem) -> bool
 }
 
 // What a call is: a local event, or a call that meets children.
-#[tactic(auto, using(crate::proofs::Answers::console_is_local))]
+#[tactic(auto, using(crate::proofs::Answers::console_is_local, crate::proofs::Answers::buffer_is_local, crate::proofs::Answers::clock_is_local, crate::proofs::Answers::random_is_local))]
 fn answer_of(accepted: AcceptedCall) -> Next
     ensures { (t : model.Top) → IsAnswer result (effect_of t accepted) }
 {
     match accepted.call() {
-        Call::Ret { .. } | Call::ConsoleOut { .. } | Call::File(_) => Next::Local,
+        Call::Ret { .. }
+        | Call::ConsoleOut { .. }
+        | Call::ConsoleIn { .. }
+        | Call::Clock
+        | Call::Random
+        | Call::File(_) => Next::Local,
         _ => Next::Meet(accepted),
     }
 }
