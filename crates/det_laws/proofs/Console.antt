@@ -2,23 +2,24 @@
 -- in `action_devices`, of those that do.
 use Rattle.std.proofs.Common.{◌≡◌, ℕ, zero, suc, ◌-◌, Bool, List, [], ◌∷◌, ◌++◌, append_assoc, Option, Some, None, Result, Ok, Err, refl, sym, ◌∙◌, ap, subst}
 use Rattle.std.proofs.lemmas.List.{append-nil}
-use Rattle.memory_model.specs.Memory.{may_read, first_without, bytes_from}
+use Rattle.memory_model.specs.Memory.{may_read, may_write, first_without, bytes_from}
 use Rattle.instruction_model.specs.Outcome.{view_of, Outcome, goes, stores, calls, traps, outcome}
 use Rattle.call_model.specs.declared.Call.{Call}
-use Rattle.call_model.specs.declared.Call.TheVariants.{Get, Ret, ConsoleOut, File, Wait, Tjoin}
+use Rattle.call_model.specs.declared.Call.TheVariants.{Get, Ret, ConsoleOut, ConsoleIn, Clock, Random, File, Wait, Tjoin}
 use Rattle.call_model.specs.declared.Badcall as refusal
 use Rattle.call_model.specs.Limits.{greatest_depth}
 use Rattle.call_model.specs.Reading.{read}
 use Rattle.space_model.specs.declared.Status.{Status}
 use Rattle.space_model.specs.declared.Status.TheVariants.{Running, Stopped}
 use Rattle.space_model.specs.declared.Refusal.{Refusal}
-use Rattle.space_model.specs.Space.{Space, space, Top, Devices, Children, top_of, console_bytes}
+use Rattle.script_model.specs.Devices.{Devices}
+use Rattle.space_model.specs.Space.{Space, space, Top, Children, top_of, console_bytes}
 use Rattle.space_model.specs.Sound.{has_devices}
 use Rattle.space_model.specs.Call.{Seen, Meeting, first_top, seen_of}
 use Rattle.space_model.specs.Files.{file_call}
 use Rattle.space_model.specs.Refusals.{first_refusal}
 use Rattle.space_model.specs.Meeting.{awaits, meet, or_fresh, refusals, action, unless_refused}
-use Rattle.space_model.specs.Event.{Effect, becomes, asks, NextEvent, rests, moves, meets, charge, with_devices, output, console_out, effect_of, after_file_call, by_reading, after_outcome, instruction, by_limit_left, by_fuel_left, by_status, next}
+use Rattle.space_model.specs.Event.{Effect, becomes, asks, NextEvent, rests, moves, meets, charge, with_devices, output, console_out, input, console_in, next_number, clock, random, effect_of, after_file_call, by_reading, after_outcome, instruction, by_limit_left, by_fuel_left, by_status, next}
 use Rattle.space_model.proofs.Parts.{caller_alike, wait_alike, join_alike}
 use Rattle.space_model.proofs.Next.{next_meets, file_call_keeps}
 use Rattle.space_model.specs.declared.Reach.TheVariants.{Whole}
@@ -59,9 +60,21 @@ output_writes : (t : Top) (d : Devices) (addr len : ℕ) (o : Option ℕ) → t.
 output_writes t d addr len (Some a) is = same_devices t t refl
 output_writes t d addr len None is = (bytes_from t.memory addr len, ap (λ o. console_bytes o ++ bytes_from t.memory addr len) (sym is))
 
+input_writes : (t : Top) (d : Devices) (addr len : ℕ) (o : Option ℕ) → t.devices ≡ Some d → Writes t (input t d addr len o)
+input_writes t d addr len (Some a) is = same_devices t t refl
+input_writes t d addr len None is = prefix_same (console_bytes t.devices) d.console (sym (ap console_bytes is))
+
+number_writes : (t : Top) (d : Devices) (ns : List ℕ) (left : List ℕ → Devices) → t.devices ≡ Some d → ((rest : List ℕ) → (left rest).console ≡ d.console)
+    → HasWritten t (next_number t ns left)
+number_writes t d [] left is same = same_devices t (next_number t [] left) refl
+number_writes t d (n ∷ ns) left is same = prefix_same (console_bytes t.devices) (left ns).console (same ns ∙ sym (ap console_bytes is))
+
 effect_writes : (t : Top) (c : Call) → Writes t (effect_of t c)
 effect_writes t (Ret value) = same_devices t t refl
 effect_writes t (ConsoleOut addr len) = device_writes t t.devices (console_out t addr len) refl (λ d. output_writes t d addr len (first_without (may_read t.memory) addr len))
+effect_writes t (ConsoleIn addr len) = device_writes t t.devices (console_in t addr len) refl (λ d. input_writes t d addr len (first_without (may_write t.memory) addr len))
+effect_writes t Clock = device_writes t t.devices (clock t) refl (λ d is. number_writes t d d.clocks (λ ns. record d { clocks = ns }) is (λ rest. refl))
+effect_writes t Random = device_writes t t.devices (random t) refl (λ d is. number_writes t d d.numbers (λ ns. record d { numbers = ns }) is (λ rest. refl))
 effect_writes t (File call) = same_devices t (after_file_call (file_call call t.memory) t) (file_call_keeps (file_call call t.memory) t)
 effect_writes t c = tt
 
