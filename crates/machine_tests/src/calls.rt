@@ -39,7 +39,7 @@ fn first_failing(rt: &impl Abort, a: [u32; 8], want: [u8; 3]) {
 fn numbers_and_options(rt: HostRuntime) -> Result<(), Fail> {
     // no call number
     first_failing(&rt, [0, 0, 0, 0, 0, 0, 0, 0], [1, 1, 1]);
-    first_failing(&rt, [0, 0, 0, 0, 0, 0, 0, 5], [1, 1, 1]);
+    first_failing(&rt, [0, 0, 0, 0, 0, 0, 0, 8], [1, 1, 1]);
     first_failing(&rt, [8, 65_536, 0, 0, 0, 0, 0, 15], [1, 1, 1]);
     first_failing(&rt, [8, 65_536, 0, 0, 0, 0, 0, 20], [1, 1, 1]);
     first_failing(&rt, [0, 0, 0, 2, 0, 2, 0, 23], [1, 1, 1]);
@@ -105,6 +105,17 @@ fn console_depth_and_blocks(rt: HostRuntime) -> Result<(), Fail> {
     first_failing(&rt, [0, 0, 65_536, 0, 0, 0, 0, 4], [0, 6, 6]);
     first_failing(&rt, [0, 0, 65_537, 0, 0, 0, 0, 4], [7, 6, 6]);
     first_failing(&rt, [0, 0xFFFF_0000, 65_537, 0, 0, 0, 0, 4], [4, 4, 4]);
+    // console in: the same of its buffer
+    first_failing(&rt, [0, 0xFFFF_FFFF, 1, 0, 0, 0, 0, 5], [0, 6, 6]);
+    first_failing(&rt, [0, 0xFFFF_FFFF, 2, 0, 0, 0, 0, 5], [4, 4, 4]);
+    first_failing(&rt, [0, 0, 65_536, 0, 0, 0, 0, 5], [0, 6, 6]);
+    first_failing(&rt, [0, 0, 65_537, 0, 0, 0, 0, 5], [7, 6, 6]);
+    first_failing(&rt, [0, 0xFFFF_0000, 65_537, 0, 0, 0, 0, 5], [4, 4, 4]);
+    // the clock and random numbers: outside the root; they take nothing
+    first_failing(&rt, [0, 0, 0, 0, 0, 0, 0, 6], [0, 6, 6]);
+    first_failing(&rt, [9, 0xFFFF_FFFF, 65_537, 1, 1, 1, 1, 6], [0, 6, 6]);
+    first_failing(&rt, [0, 0, 0, 0, 0, 0, 0, 7], [0, 6, 6]);
+    first_failing(&rt, [9, 0xFFFF_FFFF, 65_537, 1, 1, 1, 1, 7], [0, 6, 6]);
     // Put at depth 8, with Tree at depth 7 too; forks at depth 8
     first_failing(&rt, [0, 0, 0, 0, 0, 0, 0, 1], [0, 0, 8]);
     first_failing(&rt, [0, 9, 0, 0, 0, 0, 0, 16], [0, 0, 8]);
@@ -235,6 +246,10 @@ fn calls(rt: HostRuntime) -> Result<(), Fail> {
     reads(&rt, [7, 0, 0, 0, 0, 0, 0, 3], Ok(Call::Ret { value: 7 }));
     let out = Call::ConsoleOut { addr: 1, len: 2 };
     reads(&rt, [7, 1, 2, 0, 0, 0, 0, 4], Ok(out));
+    let input = Call::ConsoleIn { addr: 1, len: 2 };
+    reads(&rt, [7, 1, 2, 0, 0, 0, 0, 5], Ok(input));
+    reads(&rt, [7, 1, 2, 0, 0, 0, 0, 6], Ok(Call::Clock));
+    reads(&rt, [7, 1, 2, 0, 0, 0, 0, 7], Ok(Call::Random));
     reads(&rt, [1, 0, 2, 0, 0, 0, 0, 1], Err(Badcall(9)));
     Ok(())
 }
