@@ -1,0 +1,54 @@
+-- What is read of a line is what the line says, and what a line says is read.
+use Rattle.std.proofs.Common.{◌≡◌, ℕ, Bool, true, false, cond, List, [], ◌∷◌, refl, sym, ap, subst, ◌∙◌, inl, inr}
+use Rattle.std.specs.Prelude.{◌==◌, Option, Some, None, option_map}
+use Rattle.std.proofs.lemmas.Bool.{eqb-true}
+use Rattle.schedule_model.specs.Schedule.{Item, Nothing, Next, Says, IsRefused}
+use Rattle.schedule_model.specs.Reading.{path_of, item_of}
+use Rattle.schedule_model.proofs.Paths.{path_takes, long_again}
+
+-- ---- what is said is read
+
+abbrev next_item : Option (List ℕ) → Option Item
+next_item o = option_map (λ path. Next path) o
+
+pub item_again : (line : List ℕ) (i : Item) → Says line i → item_of line ≡ Some i
+unfolding item_of path_of
+item_again line Nothing (inl e) = ap item_of e
+item_again line Nothing (inr h) = ap item_of h.1
+item_again line (Next []) h = ap item_of h
+item_again line (Next (n ∷ path)) (short, [], text, are) = absurd are
+item_again line (Next (n ∷ path)) (short, digits ∷ others, text, are) = ap item_of text ∙ ap next_item (long_again digits others n path are.0 are.1 short)
+
+pub one : (line : List ℕ) (i j : Item) → Says line i → Says line j → i ≡ j
+one line i j h k = let same = sym (item_again line i h) ∙ item_again line j k in cc
+
+-- ---- what is read is said
+
+said_is : (line : List ℕ) (i j : Item) → Says line i → Some i ≡ Some j → Says line j
+said_is line i j h e = let same : i ≡ j = cc in subst (Says line) same h
+
+next_takes : (bs : List ℕ) (i : Item) (o : Option (List ℕ)) → path_of bs ≡ o → next_item o ≡ Some i → Says (47 ∷ bs) i
+next_takes bs i None read e = absurd cc
+next_takes bs i (Some path) read e = said_is (47 ∷ bs) (Next path) i (path_takes bs path read) e
+
+first_takes : (b : ℕ) (bs : List ℕ) (i : Item) (t : Bool) → (b == 35) ≡ t → (u : Bool) → (b == 47) ≡ u → cond t (Some Nothing) (cond u (next_item (path_of bs)) None) ≡ Some i → Says (b ∷ bs) i
+first_takes b bs i true comment u slash e = let first = eqb-true b 35 comment in said_is (b ∷ bs) Nothing i (inr (bs, cc)) e
+first_takes b bs i false comment true slash e = subst (λ (c : ℕ). Says (c ∷ bs) i) (sym (eqb-true b 47 slash)) (next_takes bs i (path_of bs) refl e)
+first_takes b bs i false comment false slash e = absurd cc
+
+pub item_takes : (line : List ℕ) (i : Item) → item_of line ≡ Some i → Says line i
+unfolding item_of
+item_takes [] i e = said_is [] Nothing i (inl refl) e
+item_takes (b ∷ bs) i e = first_takes b bs i (b == 35) refl (b == 47) refl e
+
+-- ---- what is not read is not said
+
+pub not_said : (line : List ℕ) → item_of line ≡ None → IsRefused line
+not_said line e i h = let read = item_again line i h in cc
+
+pub not_read : (line : List ℕ) → IsRefused line → item_of line ≡ None
+not_read line h = none_from line h (item_of line) refl
+  where
+    none_from : (line : List ℕ) → IsRefused line → (o : Option Item) → item_of line ≡ o → o ≡ None
+    none_from line h None e = refl
+    none_from line h (Some i) e = absurd (h i (item_takes line i e))

@@ -1,0 +1,4 @@
+pub mod Paths
+pub mod Items
+pub mod Schedules
+pub mod Examples
