@@ -6,7 +6,7 @@ use Rattle.std.proofs.lemmas.List.{append-nil}
 use Rattle.std.proofs.lemmas.List.Concat.{flat_map-cons}
 use Rattle.script_model.specs.declared.error.ScriptError.{ScriptError}
 use Rattle.script_model.specs.Devices.{Devices}
-use Rattle.script_model.specs.Lines.{lines_with_returns, lines_of}
+use Rattle.text_lines.specs.Lines.{lines_with_returns, lines_of}
 use Rattle.script_model.specs.Script.{Item, input_in, clocks_in, numbers_in}
 use Rattle.script_model.specs.Reading.{item_of, items_of, with_line, devices_in, script_of}
 use Rattle.dev_script.specs.View.{no_devices, with_item}

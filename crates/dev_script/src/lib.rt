@@ -4,7 +4,6 @@
 mod devices;
 mod fault;
 mod item;
-mod lines;
 mod reading;
 mod words;
 

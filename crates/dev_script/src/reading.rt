@@ -8,9 +8,9 @@ ghost use Rattle.script_model.specs.Script.{ScriptOf, IsFirstRefused};
 use crate::devices::Devices;
 use crate::fault::ScriptFault;
 use crate::item::{Item, item_of};
-use crate::lines::first_line;
 use std::alloc::{AllocError, Global};
 use std::collections::VecDeque;
+use text_lines::first_line;
 
 /// What the lines so far have said.
 #[derive(Drop)]

@@ -1,7 +1,7 @@
 -- Worked examples: schedules, and lines one by one.
 use Rattle.std.proofs.Common.{◌≡◌, [], ◌∷◌, Ok, Err, refl}
 use Rattle.std.specs.Prelude.{Some, None, codes}
-use Rattle.script_model.specs.Lines.{lines_with_returns}
+use Rattle.text_lines.specs.Lines.{lines_with_returns}
 use Rattle.schedule_model.specs.Schedule.{Nothing, Next}
 use Rattle.schedule_model.specs.Reading.{number_of, numbers_of, path_of, item_of, items_of, schedule_of}
 

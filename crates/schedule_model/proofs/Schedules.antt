@@ -1,7 +1,7 @@
 -- What is read line by line is what the lines say, and the line that is named is the first one that is refused.
 use Rattle.std.proofs.Common.{◌≡◌, ℕ, suc, ◌+◌, List, [], ◌∷◌, ◌++◌, length, Result, Ok, Err, refl, sym, ap, ◌∙◌, arith}
 use Rattle.std.specs.Prelude.{Option, Some, None, IsErr}
-use Rattle.script_model.specs.Lines.{lines_of}
+use Rattle.text_lines.specs.Lines.{lines_of}
 use Rattle.schedule_model.specs.Schedule.{Item, SayAll, ScheduleOf, IsRefused, IsFirstRefused}
 use Rattle.schedule_model.specs.Reading.{item_of, with_line, items_of, paths_of, schedule_of}
 use Rattle.schedule_model.proofs.Items.{item_takes, item_again, not_said, not_read}

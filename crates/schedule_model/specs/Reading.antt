@@ -5,7 +5,7 @@ use Rattle.std.specs.List.{flat_map, slice_split}
 use Rattle.std.specs.Str.{all_ascii_digits}
 use Rattle.std.specs.Str.Parse.{digits_value}
 use Rattle.call_model.specs.Limits.{greatest_child, greatest_depth}
-use Rattle.script_model.specs.Lines.{lines_of}
+use Rattle.text_lines.specs.Lines.{lines_of}
 use Rattle.schedule_model.specs.Schedule.{Item, Nothing, Next, paths_in}
 
 -- ---- one line

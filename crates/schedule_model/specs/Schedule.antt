@@ -5,8 +5,7 @@ use Rattle.std.specs.List.{flat_map}
 use Rattle.std.specs.Str.{all_ascii_digits}
 use Rattle.std.specs.Str.Parse.{digits_value}
 use Rattle.call_model.specs.Limits.{IsChild, greatest_depth}
-use Rattle.script_model.specs.Lines.{lines_of}
-use Rattle.script_model.specs.Script.{SaysNothing}
+use Rattle.text_lines.specs.Lines.{SaysNothing, lines_of}
 
 -- what a line may say: nothing, or whose event comes next
 pub data Item : Type 0 where

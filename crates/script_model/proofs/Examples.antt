@@ -1,7 +1,7 @@
 -- Worked examples: scripts, and lines one by one.
 use Rattle.std.proofs.Common.{◌≡◌, [], ◌∷◌, ◌++◌, Ok, Err, refl}
 use Rattle.std.specs.Prelude.{Some, None, codes}
-use Rattle.script_model.specs.Lines.{lines_with_returns, lines_of}
+use Rattle.text_lines.specs.Lines.{lines_with_returns, lines_of}
 use Rattle.script_model.specs.Script.{Nothing, Input, Clock, Random}
 use Rattle.script_model.specs.Reading.{after, number_of, bytes_of, item_of, items_of, script_of}
 

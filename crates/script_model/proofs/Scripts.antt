@@ -3,7 +3,7 @@ use Rattle.std.proofs.Common.{◌≡◌, ℕ, suc, ◌+◌, List, [], ◌∷◌,
 use Rattle.std.specs.Prelude.{Option, Some, None, IsErr}
 use Rattle.script_model.specs.declared.error.ScriptError.{ScriptError}
 use Rattle.script_model.specs.Devices.{Devices}
-use Rattle.script_model.specs.Lines.{lines_of}
+use Rattle.text_lines.specs.Lines.{lines_of}
 use Rattle.script_model.specs.Script.{Item, SayAll, ScriptOf, IsRefused, IsFirstRefused}
 use Rattle.script_model.specs.Reading.{item_of, with_line, items_of, devices_in, script_of}
 use Rattle.script_model.proofs.Items.{item_takes, item_again, not_said, not_read}

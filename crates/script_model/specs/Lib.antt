@@ -1,4 +1,3 @@
-pub mod Lines
 pub mod Devices
 pub mod Script
 pub mod Reading

@@ -6,7 +6,7 @@ use Rattle.std.specs.Str.{all_ascii_digits, bytes_eq}
 use Rattle.std.specs.Str.Parse.{digits_value}
 use Rattle.script_model.specs.declared.error.ScriptError.{ScriptError}
 use Rattle.script_model.specs.Devices.{Devices}
-use Rattle.script_model.specs.Lines.{lines_of}
+use Rattle.text_lines.specs.Lines.{lines_of}
 use Rattle.script_model.specs.Script.{Item, Nothing, Input, Clock, Random, byte_of, devices_from}
 
 -- ---- one line

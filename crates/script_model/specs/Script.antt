@@ -6,7 +6,7 @@ use Rattle.std.specs.List.{flat_map}
 use Rattle.std.specs.Str.{all_ascii_digits}
 use Rattle.std.specs.Str.Parse.{digits_value}
 use Rattle.script_model.specs.Devices.{Devices}
-use Rattle.script_model.specs.Lines.{lines_of}
+use Rattle.text_lines.specs.Lines.{SaysNothing, lines_of}
 
 -- what a line may say: nothing, bytes for the input, a reading of the clock, a random number
 pub data Item : Type 0 where
@@ -16,10 +16,6 @@ pub data Item : Type 0 where
   Random : ℕ → Item
 
 -- ---- one line
-
--- an empty line, or one that begins with `#`
-abbrev pub SaysNothing : List ℕ → Type 0
-SaysNothing line = (line ≡ []) ⊎ ((text : List ℕ) × (line ≡ codes "#" ++ text))
 
 -- `in` alone or `in TEXT`: the text, whatever it is, and a line feed
 abbrev pub IsText : List ℕ → List ℕ → Type 0

@@ -1,17 +1,9 @@
 //! Laws of the definitions, over all lists of bytes.
 
-ghost use Rattle.std.specs.Prelude.{◌≡◌, ◌++◌, ℕ, List, ◌↔◌, Ok, Err, IsErr};
-ghost use Rattle.std.specs.List.{AllByRecursion};
+ghost use Rattle.std.specs.Prelude.{◌≡◌, ℕ, List, ◌↔◌, Ok, Err, IsErr};
 ghost use Rattle.script_model.specs.Devices.{Devices};
-ghost use Rattle.script_model.specs.Lines.{HasNoFeed, last_line_of, lines_with_returns, text_of};
 ghost use Rattle.script_model.specs.Script.{Item, Says, ScriptOf, IsFirstRefused};
 ghost use Rattle.script_model.specs.Reading.{script_of};
-
-/// Lines that are put together to a text are the lines of that text.
-pub fn reads_lines_back()
-    ensures { (ls : List (List ℕ)) (last : List ℕ) → AllByRecursion HasNoFeed ls → HasNoFeed last
-        → lines_with_returns (text_of ls last) ≡ ls ++ last_line_of last }
-{}
 
 /// What is read line by line is what the grammar relates to the bytes.
 pub fn reads_exactly_scripts()

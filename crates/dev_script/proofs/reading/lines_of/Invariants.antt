@@ -1,5 +1,5 @@
 use Rattle.std.proofs.Common.{◌≡◌, ◌+◌, ◌≤◌, length}
-use Rattle.script_model.specs.Lines.{lines_of}
+use Rattle.text_lines.specs.Lines.{lines_of}
 use Rattle.script_model.specs.Reading.{items_of, script_of}
 use Rattle.dev_script.specs.View.{script_view}
 use Rattle.dev_script.proofs.Loops.{before}

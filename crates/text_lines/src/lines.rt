@@ -1,6 +1,6 @@
 ghost use Rattle.std.specs.Prelude.{◌≡◌, ◌<◌, ◌∷◌, [], length};
 ghost use Rattle.std.specs.Str.Lines.{strip_carriage_return};
-ghost use Rattle.script_model.specs.Lines.{lines_with_returns, lines_of};
+ghost use Rattle.text_lines.specs.Lines.{lines_with_returns, lines_of};
 
 /// The line at the front of a text that is not empty, with what stands at its end before the line feed, and what follows it.
 fn first_line_with_return(text: &[u8]) -> (&[u8], &[u8])
@@ -29,7 +29,7 @@ fn without_return(line: &[u8]) -> &[u8]
 }
 
 /// The line at the front of a text that is not empty, and what follows it.
-pub(crate) fn first_line(text: &[u8]) -> (&[u8], &[u8])
+pub fn first_line(text: &[u8]) -> (&[u8], &[u8])
     requires { 0 < length text.now }
     ensures lines { lines_of text.now ≡ result.0.now ∷ lines_of result.1.now }
     ensures shorter { length result.1.now < length text.now }

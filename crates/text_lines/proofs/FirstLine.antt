@@ -4,7 +4,7 @@ use Rattle.std.specs.Prelude.{◌==◌}
 use Rattle.std.specs.List.{AllByRecursion}
 use Rattle.std.proofs.lemmas.Bool.{ne_eqb}
 use Rattle.std.proofs.lemmas.List.Concat.{flat_map-cons}
-use Rattle.script_model.specs.Lines.{add_first, lines_with_returns, HasNoFeed, text_of, last_line_of}
+use Rattle.text_lines.specs.Lines.{add_first, lines_with_returns, HasNoFeed, text_of, last_line_of}
 
 -- no line feed stands before this place
 abbrev pub NoneBelow : List ℕ → ℕ → Type 0

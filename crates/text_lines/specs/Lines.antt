@@ -1,7 +1,8 @@
 -- The lines of a text: a line feed ends a line, the last line may lack it, and one carriage return at a line's end is no part
 -- of the line.
--- Our choice: that the last line may lack its line feed, and that a carriage return at the end of any line is dropped.
-use Rattle.std.specs.Prelude.{◌≢◌, ℕ, List, [], ◌∷◌, ◌++◌, map, ◌==◌, if◌then◌else◌}
+-- Our choice: that the last line may lack its line feed, that a carriage return at the end of any line is dropped, and which lines
+-- say nothing.
+use Rattle.std.specs.Prelude.{◌≡◌, ◌≢◌, ℕ, ◌⊎◌, List, [], ◌∷◌, ◌++◌, map, ◌==◌, codes, if◌then◌else◌}
 use Rattle.std.specs.List.{AllByRecursion, flat_map}
 use Rattle.std.specs.Str.Lines.{strip_carriage_return}
 
@@ -17,6 +18,10 @@ lines_with_returns (b ∷ bs) = if b == 10 then [] ∷ lines_with_returns bs els
 
 abbrev pub lines_of : List ℕ → List (List ℕ)
 lines_of text = map strip_carriage_return (lines_with_returns text)
+
+-- an empty line, or one that begins with `#`
+abbrev pub SaysNothing : List ℕ → Type 0
+SaysNothing line = (line ≡ []) ⊎ ((text : List ℕ) × (line ≡ codes "#" ++ text))
 
 -- ---- texts, by their lines
 
