@@ -1,0 +1,21 @@
+ghost use Rattle.std.specs.Prelude.{◌≡◌, IfOk};
+ghost use Rattle.call_model.specs.Limits.{greatest_depth};
+ghost use Rattle.space_model.specs.Sound.{IsSound};
+ghost use Rattle.run_model.specs.Replay.{replay};
+ghost use Rattle.det_core.specs.View.{path_views};
+
+use crate::stepping::step;
+use space_tree::{Path, Space};
+use std::alloc::{AllocError, Global};
+
+/// Goes through a schedule: the event at each path, one after the other, where it may happen; where it may not, nothing changes. Its
+/// one error is want of memory.
+pub fn walk(alloc: Global, mut space: Space, paths: &[Path]) -> Result<Space, AllocError>
+    ensures value { IfOk result (λ s. s ≡ replay (path_views paths.now) greatest_depth space) }
+    ensures sound { IsSound space → IfOk result IsSound }
+{
+    for path in paths {
+        step(alloc, &mut space, path)?;
+    }
+    Ok(space)
+}
