@@ -1,4 +1,5 @@
 //! Tests of the outside world, of images as files, of scripts, of the words of a command line and of the assembler. Tests alone.
+//! Tests of the outside world, of images as files, of schedules, of the words of a command line and of the assembler. Tests alone.
 #![tactic(auto)]
 
 #[cfg(test)]
@@ -9,6 +10,7 @@ mod files_and_sinks;
 mod images;
 #[cfg(test)]
 mod scripts;
+mod schedules;
 #[cfg(test)]
 mod sources;
 #[cfg(test)]
