@@ -50,7 +50,7 @@ source_step name = record { name = name; room = source_room; refuse = λ bytes. 
 
 -- the settled root of an image, where each space has so much fuel
 abbrev pub settled_root : Image → ℕ → Space
-settled_root image fuel = settle_tree (boot image (record { console = [] }) fuel)
+settled_root image fuel = settle_tree (boot image (record { input = []; clocks = []; numbers = []; console = [] }) fuel)
 
 -- the end of a settled root
 abbrev pub end_of : Space → End

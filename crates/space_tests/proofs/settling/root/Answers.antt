@@ -1,6 +1,7 @@
 use Rattle.std.proofs.Common.{arith, ap, ◌∙◌, sym, subst, refl, ℕ, ◌<◌, ◌≤◌, ◌^◌}
 use Rattle.memory_model.specs.Memory.{Memory}
-use Rattle.space_model.specs.Space.{space, none, Devices}
+use Rattle.script_model.specs.Devices.{Devices}
+use Rattle.space_model.specs.Space.{space, none}
 use Rattle.space_model.specs.Sound.{IsSound}
 use Rattle.space_model.specs.Beginning.{root_of}
 use Rattle.space_tests.proofs.settling.root.Goals as goal
