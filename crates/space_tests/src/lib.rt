@@ -19,6 +19,8 @@ mod merging_gets;
 #[cfg(test)]
 mod reports;
 #[cfg(test)]
+mod schedules;
+#[cfg(test)]
 mod settling;
 #[cfg(test)]
 mod spaces;
