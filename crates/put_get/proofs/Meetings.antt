@@ -6,7 +6,7 @@ use Rattle.std.specs.BTreeMap.{is_at}
 use Rattle.std.specs.Map.{lookup}
 use Rattle.call_model.specs.declared.Transfer.{Transfer}
 use Rattle.call_model.specs.declared.Call.{Call}
-use Rattle.call_model.specs.declared.Call.TheVariants.{Put, PutTree, Get, GetTree, Ret, ConsoleOut, Fork, Wait, Tfork, Tjoin, File}
+use Rattle.call_model.specs.declared.Call.TheVariants.{Put, PutTree, Get, GetTree, Ret, ConsoleOut, ConsoleIn, Clock, Random, Fork, Wait, Tfork, Tjoin, File}
 use Rattle.call_model.specs.Options.{has}
 use Rattle.space_model.specs.declared.Refusal.{Refusal}
 use Rattle.space_model.specs.declared.Cause.TheVariants.{Conflict}
@@ -174,6 +174,9 @@ early_then levels (Wait n) t seen h = h
 early_then levels (Tfork n) t seen h = h
 early_then levels (Ret value) t seen h = h
 early_then levels (ConsoleOut addr len) t seen h = h
+early_then levels (ConsoleIn addr len) t seen h = h
+early_then levels Clock t seen h = h
+early_then levels Random t seen h = h
 early_then levels (File call) t seen h = h
 
 early_stops : (levels : ℕ) (k : Call) (t : Top) (seen : List Seen) (r : Refusal) → first_refusal (early_refusals levels k t seen) ≡ Some r → first_refusal (refusals levels k t seen) ≡ Some r
@@ -187,6 +190,9 @@ early_stops levels (Wait n) t seen r h = h
 early_stops levels (Tfork n) t seen r h = h
 early_stops levels (Ret value) t seen r h = h
 early_stops levels (ConsoleOut addr len) t seen r h = h
+early_stops levels (ConsoleIn addr len) t seen r h = h
+early_stops levels Clock t seen r h = h
+early_stops levels Random t seen r h = h
 early_stops levels (File call) t seen r h = h
 
 unless_is : (o : Option Refusal) (k : Call) (s : Space)

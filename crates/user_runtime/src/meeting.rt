@@ -37,6 +37,11 @@ pub fn meet(
         Call::Wait { child } => wait(alloc, child, depth, space),
         Call::Tfork { child } => tfork(alloc, child, depth, space),
         Call::Tjoin { child } => tjoin(alloc, child, depth, space),
-        Call::Ret { .. } | Call::ConsoleOut { .. } | Call::File(_) => unreachable!(),
+        Call::Ret { .. }
+        | Call::ConsoleOut { .. }
+        | Call::ConsoleIn { .. }
+        | Call::Clock
+        | Call::Random
+        | Call::File(_) => unreachable!(),
     }
 }
