@@ -1,59 +1,69 @@
-ghost use Rattle.std.specs.Prelude.{◌≡◌, ◌+◌, false, true};
-ghost use Rattle.file_model.specs.Sizes.{first_address};
+ghost use Rattle.std.specs.Prelude.{◌≡◌};
 ghost use Rattle.space_model.specs.Files.{file_bytes};
-ghost use Rattle.memory_files.specs.Slots.{HasBytes};
+ghost use Rattle.memory_files.specs.Files.{held_in, is_taken, has_taken_header, KeepsFiles};
 
-use crate::slots::FIRST_ADDRESS;
+use crate::lent::Lent;
+use crate::slots::{FIRST_ADDRESS, Slots};
 use file_image::FileBytes;
 use space_mem::Mem;
 
-// The files of a memory that is read.
+// The files of a memory: those of one that is lent are read, those of one that was taken are written, too.
 #[derive(Drop)]
-pub(crate) struct Files<'a> {
-    pub(crate) memory: &'a Mem,
-    pub(crate) ghost small: { HasBytes memory.now.memory },
+pub(crate) enum Files<'a> {
+    Lent(Lent<'a>),
+    Taken(Slots),
 }
 
 impl<'a> Files<'a> {
     pub(crate) fn new(memory: &'a Mem) -> Files<'a>
-        ensures { result.memory.now ≡ memory.now }
+        ensures { held_in result ≡ memory.now }
     {
         memory.bounds();
-        Files { memory }
+        Files::Lent(Lent { memory })
     }
 }
 
 impl FileBytes for Files<'_> {
-    ghost use Rattle.std.proofs.Common.{◌∙◌, refl};
+    ghost use Rattle.memory_files.specs.FileLaws as laws;
 
-    ghost bytes = { λ s. file_bytes s.memory.now.memory };
+    ghost bytes = { λ s. let h = held_in s in file_bytes h.memory };
 
-    // none may be written
-    ghost is_ready = { λ s k. false };
+    ghost is_ready = { is_taken };
 
-    ghost has_header = { λ s k. false };
+    ghost has_header = { has_taken_header };
 
-    ghost keeps = { λ s t. t.memory.now ≡ s.memory.now };
+    ghost keeps = { KeepsFiles };
 
     fn byte(&self, offset: u32) -> u8 {
-        self.memory.byte(FIRST_ADDRESS + offset)
+        match self {
+            Files::Lent(lent) => lent.memory.byte(FIRST_ADDRESS + offset),
+            Files::Taken(slots) => slots.byte(offset),
+        }
     }
 
-    fn set(&mut self, _offset: u32, _value: u8) {}
-
-    fn ready(&self, _slot: u32) -> bool {
-        false
+    fn set(&mut self, offset: u32, value: u8) {
+        match self {
+            Files::Lent(_) => {}
+            Files::Taken(slots) => slots.set(offset, value),
+        }
     }
 
-    ghost small = { λ s a. s.small (first_address + a) };
+    fn ready(&self, slot: u32) -> bool {
+        match self {
+            Files::Lent(_) => false,
+            Files::Taken(slots) => slots.ready(slot),
+        }
+    }
 
-    ghost keeps_itself = { λ s. refl };
+    ghost small = { λ s a. laws.small s a };
 
-    ghost keeps_on = { λ s t u first second. second ∙ first };
+    ghost keeps_itself = { laws.keeps_itself };
 
-    ghost ready_on = { λ s t k kept ready. ready };
+    ghost keeps_on = { laws.keeps_on };
 
-    ghost header_on = { λ s t k kept header. header };
+    ghost ready_on = { laws.ready_on };
 
-    ghost header_ready = { λ s k ready. ready };
+    ghost header_on = { laws.header_on };
+
+    ghost header_ready = { laws.header_ready };
 }

@@ -5,6 +5,7 @@ mod basing;
 mod calling;
 mod editing;
 mod files;
+mod lent;
 mod owning;
 mod reading;
 mod reconciling;

@@ -1,15 +1,11 @@
+use Rattle.memory_files.specs.Files.{held_in}
 use Rattle.std.proofs.Common.{◌≡◌, Ok}
 use Rattle.file_model.specs.Operations.{length_of}
 use Rattle.space_model.specs.Files.{files_in}
-use Rattle.memory_files.proofs.Contents.{length_known, get_long, get_part}
+use Rattle.memory_files.proofs.Contents.{length_known, get_long}
 use Rattle.memory_files.proofs.reading.part_of.Goals as goal
 
 pub read_part-requires : goal.read_part-requires
 read_part-requires c =
-    let known : length_of (files_in c.args.memory.now.memory) c.args.name.now ≡ Ok c.in-Ok.length = length_known c.args.memory.now c.new.result.memory.now c.args.name.now c.len.result (Ok c.in-Ok.length) c.new.ensures c.len.ensures c.in-Ok.is in
+    let known : length_of (files_in c.args.memory.now.memory) c.args.name.now ≡ Ok c.in-Ok.length = length_known c.args.memory.now (held_in c.new.result) c.args.name.now c.len.result (Ok c.in-Ok.length) c.new.ensures c.len.ensures c.in-Ok.is in
     get_long (files_in c.args.memory.now.memory) c.args.name.now c.args.offset c.args.count c.in-Ok.length c.count_from-count.result known c.count_from-count.ensures
-
-pub returns-in_ok-part-in-Ok : goal.returns-in_ok-part-in-Ok
-returns-in_ok-part-in-Ok c =
-    let known : length_of (files_in c.args.memory.now.memory) c.args.name.now ≡ Ok c.in-Ok.length = length_known c.args.memory.now c.new.result.memory.now c.args.name.now c.len.result (Ok c.in-Ok.length) c.new.ensures c.len.ensures c.in-Ok.is in
-    get_part (files_in c.args.memory.now.memory) c.args.name.now c.args.offset c.args.count c.in-Ok.length c.count_from-count.result c.in_ok-part-in-Ok.part known c.count_from-count.ensures c.in_ok-part-in-Ok.ensures
