@@ -9,7 +9,7 @@ use std::process::Abort;
 use std::test::*;
 
 // The bytes of the image of a source.
-fn image_of(alloc: Global, source: &str) -> Result<Vec<u8>, Fail> {
+pub fn image_of(alloc: Global, source: &str) -> Result<Vec<u8>, Fail> {
     let image = assemble(alloc, source.as_bytes())?;
     Ok(write_image(alloc, &image)?)
 }
