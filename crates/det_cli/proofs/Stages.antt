@@ -9,10 +9,13 @@ use Rattle.det_cli.specs.Files.{Expectation, Step, Input, Agrees, AsTold, names_
 use Rattle.image_model.specs.declared.ImageError.{ImageError}
 use Rattle.image_model.specs.Image.{Image}
 use Rattle.image_model.specs.Reading.{image_of}
+use Rattle.script_model.specs.declared.error.ScriptError.{ScriptError}
+use Rattle.script_model.specs.Devices.{Devices}
+use Rattle.script_model.specs.Reading.{script_of}
 use Rattle.space_model.specs.Space.{Space, top_of}
 use Rattle.space_model.specs.Stop.{has_returned}
 use Rattle.command_line.specs.Line.{run}
-use Rattle.det_cli.specs.Commands.{image_room, bad_image, image_step, script_step, expectation_of_root, expectation_of_image, settled_root, steps_of, whole_of}
+use Rattle.det_cli.specs.Commands.{image_room, bad_image, image_step, script_step, expectation_of_root, expectation_of_run, settled_root, run_whole, steps_of, whole_of}
 use Rattle.det_cli.specs.Stages.{LoadFault, LoadsFile, GivesRefusal, GivesExpectation, Reads}
 
 take_none : (j : ℕ) → take {A = List ℕ} j [] ≡ []
@@ -172,43 +175,60 @@ done_by false = lit< tt
 pub root_done : (x : Space) → IsDone (expectation_of_root x).end
 root_done x = done_by (has_returned (top_of x).status)
 
-pub kept_by : {V : Type 0} (e : Expectation) (r : Result V End) → IfOk r (λ _. Some e ≡ Some e)
-kept_by e (Ok x) = refl
-kept_by e (Err f) = tt
+-- what was read before is answered together with what was read behind it
+abbrev pub ReadAs : {U V : Type 0} → (U → V) → Result U End → Result V End → Type 0
+ReadAs pair (Ok u) r = r ≡ Ok (pair u)
+ReadAs pair (Err f) r = r ≡ Err f
 
--- what was read before is answered in place of nothing
-gives_by : {U V : Type 0} (shows : V → Expectation) (o : Option Expectation) (i : Input) (u : U) (v : V) → GivesExpectation (λ _. shows v) o i (Ok u) → GivesExpectation shows o i (Ok v)
-gives_by shows None i u v h = h
-gives_by shows (Some e) i u v h = h
+gives_by : {U V : Type 0} (shows : V → Expectation) (pair : U → V) (o : Option Expectation) (i : Input) (u : U) → GivesExpectation (λ (x : U). shows (pair x)) o i (Ok u) → GivesExpectation shows o i (Ok (pair u))
+gives_by shows pair None i u h = h
+gives_by shows pair (Some e) i u h = h
 
-stopped_by : {V : Type 0} (U : Type 0) (e : Expectation) (shows : V → Expectation) (o : Option Expectation) (i : Input) (f : End) → GivesExpectation {V = U} (λ _. e) o i (Err f) → GivesExpectation shows o i (Err f)
-stopped_by U e shows None i f h = h
-stopped_by U e shows (Some x) i f h = h
+stopped_by : {U V : Type 0} (shows : V → Expectation) (pair : U → V) (o : Option Expectation) (i : Input) (f : End) → GivesExpectation (λ (x : U). shows (pair x)) o i (Err f) → GivesExpectation shows o i (Err f)
+stopped_by shows pair None i f h = h
+stopped_by shows pair (Some e) i f h = h
 
--- what is answered where the script is read, or not
-abbrev pub ReadAs : {U V : Type 0} → V → Result U End → Result V End → Type 0
-ReadAs v (Ok u) r = r ≡ Ok v
-ReadAs v (Err f) r = r ≡ Err f
+gives_as : {U V : Type 0} (shows : V → Expectation) (pair : U → V) (o : Option Expectation) (i : Input) (q : Result U End) (r : Result V End)
+    → ReadAs pair q r → GivesExpectation (λ (x : U). shows (pair x)) o i q → GivesExpectation shows o i r
+gives_as shows pair o i (Ok u) r e h = subst (λ x. GivesExpectation shows o i x) (sym e) (gives_by shows pair o i u h)
+gives_as shows pair o i (Err f) r e h = subst (λ x. GivesExpectation shows o i x) (sym e) (stopped_by shows pair o i f h)
 
-reads_as : {U V : Type 0} (shows : V → Expectation) (steps : List Step) (whole : List (List ℕ) → Option Expectation) (i : Input) (v : V) (q : Result U End) (r : Result V End)
-    → ReadAs v q r → Reads (λ _. shows v) steps whole i q → Reads shows steps whole i r
-reads_as shows steps whole i v (Ok u) r e h =
-    record { contents = h.contents; files = h.files; gives = subst (λ x. GivesExpectation shows (judge steps whole h.contents) i x) (sym e) (gives_by shows (judge steps whole h.contents) i u v h.gives) }
-reads_as shows steps whole i v (Err f) r e h =
-    record { contents = h.contents; files = h.files; gives = subst (λ x. GivesExpectation shows (judge steps whole h.contents) i x) (sym e) (stopped_by _ (shows v) shows (judge steps whole h.contents) i f h.gives) }
+reads_as : {U V : Type 0} (shows : V → Expectation) (pair : U → V) (steps : List Step) (whole : List (List ℕ) → Option Expectation) (i : Input) (q : Result U End) (r : Result V End)
+    → ReadAs pair q r → Reads (λ (x : U). shows (pair x)) steps whole i q → Reads shows steps whole i r
+reads_as shows pair steps whole i q r e h =
+    record { contents = h.contents; files = h.files; gives = gives_as shows pair (judge steps whole h.contents) i q r e h.gives }
+
+-- the first file gave a value, and then the others give theirs
+pub then_stage : {U V W : Type 0} (items : W → List ℕ) (shows : V → Expectation) (pair : U → V) (s : Step) (ss : List Step) (whole : List (List ℕ) → Option Expectation)
+    (told now : List ℕ → Option (List ℕ)) (a b c : List (List ℕ)) (x y z : ℕ) (v : W) (q : Result U End) (r : Result V End)
+    → LoadsFile items s.name s.room (record { told = told; asked_before = a; asked_after = b; faults_before = x; faults_after = y }) (Ok v) → s.refuse (items v) ≡ None
+    → ((name : List ℕ) → now name ≡ told name) → x ≤ y → ReadAs pair q r
+    → Reads (λ (u : U). shows (pair u)) ss (λ rest. whole (items v ∷ rest)) (record { told = now; asked_before = b; asked_after = c; faults_before = y; faults_after = z }) q
+    → Reads shows (s ∷ ss) whole (record { told = told; asked_before = a; asked_after = c; faults_before = x; faults_after = z }) r
+then_stage items shows pair s ss whole told now a b c x y z v q r loaded kept same le becomes h =
+    then_read items shows s ss whole told now a b c x y z v r loaded kept same le
+    (reads_as shows pair ss (λ rest. whole (items v ∷ rest)) (record { told = now; asked_before = b; asked_after = c; faults_before = y; faults_after = z }) q r becomes h)
+
+-- what an image and a script make that are not refused
+run_of : (fuel : ℕ) (p : Result Image ImageError) (q : Result Devices ScriptError) (i : Image) (d : Devices) → p ≡ Ok i → q ≡ Ok d
+    → expectation_of_run fuel p q ≡ Some (expectation_of_root (settled_root i d fuel))
+run_of fuel p q i d image devices = ap (λ (x : Result Image ImageError). expectation_of_run fuel x q) image ∙ ap (λ (y : Result Devices ScriptError). expectation_of_run fuel (Ok i) y) devices
+
+pub run_made : (fuel : ℕ) (image script : List ℕ) (i : Image) (r : Result Devices End) → image_of image ≡ Ok i → IfOk r (λ d. script_of script ≡ Ok d)
+    → IfOk r (λ d. run_whole fuel (image ∷ script ∷ []) ≡ Some (expectation_of_root (settled_root i d fuel)))
+run_made fuel image script i (Ok d) is read = run_of fuel (image_of image) (script_of script) i d is read
+run_made fuel image script i (Err f) is read = tt
 
 -- the image is read, and then the script
-pub image_then_script : {U W : Type 0} (items : W → List ℕ) (fuel : ℕ) (image script : List ℕ)
-    (told now : List ℕ → Option (List ℕ)) (a b c : List (List ℕ)) (x y z : ℕ) (v : W) (text : List ℕ) (parsed : Image) (q : Result U End) (r : Result Image End)
+pub image_then_script : {W : Type 0} (items : W → List ℕ) (fuel : ℕ) (image script : List ℕ)
+    (told now : List ℕ → Option (List ℕ)) (a b c : List (List ℕ)) (x y z : ℕ) (v : W) (text : List ℕ) (parsed : Image) (q : Result Devices End) (r : Result (Image × Devices) End)
     → LoadsFile items image image_room (record { told = told; asked_before = a; asked_after = b; faults_before = x; faults_after = y }) (Ok v) → text ≡ items v → image_of text ≡ Ok parsed
-    → ((name : List ℕ) → now name ≡ told name) → x ≤ y → ReadAs parsed q r
-    → ((e : Expectation) → IsDone e.end → Reads (λ _. e) (script_step script ∷ []) (λ _. Some e) (record { told = now; asked_before = b; asked_after = c; faults_before = y; faults_after = z }) q)
-    → Reads (λ i. expectation_of_root (settled_root i fuel)) (steps_of (run fuel image script)) (whole_of (run fuel image script))
+    → ((name : List ℕ) → now name ≡ told name) → x ≤ y → ReadAs (λ (d : Devices). (parsed, d)) q r
+    → ((n : ℕ) (bytes : List ℕ) (i : Image) → image_of bytes ≡ Ok i → Reads (λ (d : Devices). expectation_of_root (settled_root i d n)) (script_step script ∷ []) (λ rest. run_whole n (bytes ∷ rest))
+    (record { told = now; asked_before = b; asked_after = c; faults_before = y; faults_after = z }) q)
+    → Reads (λ (p : Image × Devices). expectation_of_root (settled_root p.0 p.1 fuel)) (steps_of (run fuel image script)) (whole_of (run fuel image script))
     (record { told = told; asked_before = a; asked_after = c; faults_before = x; faults_after = z }) r
 image_then_script items fuel image script told now a b c x y z v text parsed q r loaded e read same le becomes h =
-    let shows : Image → Expectation = λ i. expectation_of_root (settled_root i fuel) in
     let is : image_of (items v) ≡ Ok parsed = ap image_of (sym e) ∙ read in
-    let later : Input = record { told = now; asked_before = b; asked_after = c; faults_before = y; faults_after = z } in
-    let rest = reads_as shows (script_step script ∷ []) (λ _. Some (shows parsed)) later parsed q r becomes (h (shows parsed) (root_done (settled_root parsed fuel))) in
-    then_read items shows (image_step image) (script_step script ∷ []) (whole_of (run fuel image script)) told now a b c x y z v r loaded (ap bad_image is) same le
-    (subst (λ (p : Result Image ImageError). Reads shows (script_step script ∷ []) (λ _. expectation_of_image fuel p) later r) (sym is) rest)
+    then_stage items (λ (p : Image × Devices). expectation_of_root (settled_root p.0 p.1 fuel)) (λ (d : Devices). (parsed, d)) (image_step image) (script_step script ∷ [])
+    (whole_of (run fuel image script)) told now a b c x y z v q r loaded (ap bad_image is) same le becomes (h fuel (items v) parsed is)

@@ -7,6 +7,9 @@ use Rattle.image_model.specs.Image.{Image, image_bytes}
 use Rattle.image_model.specs.Reading.{image_of}
 use Rattle.source_model.specs.declared.error.AsmError.{AsmError}
 use Rattle.source_model.specs.Reading.{source_of}
+use Rattle.script_model.specs.declared.error.ScriptError.{ScriptError}
+use Rattle.script_model.specs.Devices.{Devices}
+use Rattle.script_model.specs.Reading.{script_of}
 use Rattle.space_model.specs.Space.{Space, top_of}
 use Rattle.space_model.specs.Stop.{has_returned}
 use Rattle.run_model.specs.Boot.{boot}
@@ -30,10 +33,9 @@ abbrev pub bad_image : Result Image ImageError → Option End
 bad_image (Ok image) = None
 bad_image (Err e) = Some (BadImage e)
 
--- an empty script is the only one yet
-abbrev pub bad_script : List ℕ → Option End
-bad_script [] = None
-bad_script (b ∷ bs) = Some (BadScript (record { line = 1 }))
+abbrev pub bad_script : Result Devices ScriptError → Option End
+bad_script (Ok devices) = None
+bad_script (Err e) = Some (BadScript e)
 
 abbrev pub bad_source : Result Image AsmError → Option End
 bad_source (Ok image) = None
@@ -43,14 +45,14 @@ abbrev pub image_step : List ℕ → Step
 image_step name = record { name = name; room = image_room; refuse = λ bytes. bad_image (image_of bytes) }
 
 abbrev pub script_step : List ℕ → Step
-script_step name = record { name = name; room = script_room; refuse = bad_script }
+script_step name = record { name = name; room = script_room; refuse = λ bytes. bad_script (script_of bytes) }
 
 abbrev pub source_step : List ℕ → Step
 source_step name = record { name = name; room = source_room; refuse = λ bytes. bad_source (source_of bytes) }
 
--- the settled root of an image, where each space has so much fuel
-abbrev pub settled_root : Image → ℕ → Space
-settled_root image fuel = settle_tree (boot image (record { input = []; clocks = []; numbers = []; console = [] }) fuel)
+-- the settled root of an image with these devices, where each space has so much fuel
+abbrev pub settled_root : Image → Devices → ℕ → Space
+settled_root image devices fuel = settle_tree (boot image devices fuel)
 
 -- the end of a settled root
 abbrev pub end_of : Space → End
@@ -64,17 +66,17 @@ expectation_of_root s = record { out = console_of s; err = report s; end = end_o
 abbrev pub expectation_of_bytes : List ℕ → Expectation
 expectation_of_bytes bytes = record { out = bytes; err = []; end = Ret }
 
-abbrev pub expectation_of_image : ℕ → Result Image ImageError → Option Expectation
-expectation_of_image fuel (Ok image) = Some (expectation_of_root (settled_root image fuel))
-expectation_of_image fuel (Err e) = None
+abbrev pub expectation_of_run : ℕ → Result Image ImageError → Result Devices ScriptError → Option Expectation
+expectation_of_run fuel (Ok image) (Ok devices) = Some (expectation_of_root (settled_root image devices fuel))
+expectation_of_run fuel image devices = None
 
 abbrev pub expectation_of_source : Result Image AsmError → Option Expectation
 expectation_of_source (Ok image) = Some (expectation_of_bytes (image_bytes image))
 expectation_of_source (Err e) = None
 
 abbrev pub run_whole : ℕ → List (List ℕ) → Option Expectation
-run_whole fuel [] = None
-run_whole fuel (image ∷ rest) = expectation_of_image fuel (image_of image)
+run_whole fuel (image ∷ script ∷ rest) = expectation_of_run fuel (image_of image) (script_of script)
+run_whole fuel files = None
 
 abbrev pub asm_whole : List (List ℕ) → Option Expectation
 asm_whole [] = None

@@ -1,14 +1,9 @@
 ghost use Rattle.std.specs.Prelude.{◌≡◌};
 ghost use Rattle.det_cli.specs.Status.{status_of};
 
+use dev_script::ScriptError;
 use image_file::ImageError;
 use rv_asm::AsmError;
-
-/// The first line of a script that says nothing known, counted from 1.
-#[derive(Clone, Copy, Debug, PartialEq, Eq)]
-pub struct ScriptError {
-    pub line: u64,
-}
 
 /// How a call of the program ended.
 #[derive(Clone, Copy, Debug, PartialEq, Eq)]
@@ -21,7 +16,7 @@ pub enum End {
     Usage,
     /// There is room for the bytes of the image, and they are no image; with its first fault.
     BadImage(ImageError),
-    /// There is room for the bytes of the script, and they are no script; with its first fault.
+    /// There is room for the bytes of the script, and they are no script; with its first line that is refused.
     BadScript(ScriptError),
     /// There is room for the bytes of the source, and they are no source; with its first fault.
     BadSource(AsmError),

@@ -10,7 +10,7 @@ mod reading;
 mod running;
 mod writing;
 
-pub use end::{End, ScriptError, status};
+pub use end::{End, status};
 pub use fault_line::write_fault;
 pub use main_call::det_main;
 pub use program::{Exit, det_program};

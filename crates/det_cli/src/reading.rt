@@ -1,13 +1,15 @@
-ghost use Rattle.std.specs.Prelude.{◌≡◌, ◌≤◌, ◌<◌, ◌^◌, ◌∷◌, [], IfOk, List, ℕ, Some};
+ghost use Rattle.std.specs.Prelude.{◌≡◌, ◌≤◌, ◌<◌, ◌^◌, ◌∷◌, [], IfOk, List, ℕ};
+ghost use Rattle.image_model.specs.Image as images;
 ghost use Rattle.image_model.specs.Reading.{image_of};
+ghost use Rattle.script_model.specs.Reading.{script_of};
 ghost use Rattle.command_line.specs.Line.{run};
-ghost use Rattle.det_cli.specs.Status.{IsDone};
-ghost use Rattle.det_cli.specs.Files.{Expectation, input_of};
-ghost use Rattle.det_cli.specs.Commands.{bad_image, bad_script, expectation_of_root, script_step, settled_root, steps_of, whole_of};
+ghost use Rattle.det_cli.specs.Files.{input_of};
+ghost use Rattle.det_cli.specs.Commands.{bad_image, bad_script, expectation_of_root, run_whole, script_step, settled_root, steps_of, whole_of};
 ghost use Rattle.det_cli.specs.Stages.{LoadsFile, GivesRefusal, Reads};
 
-use crate::end::{End, ScriptError};
+use crate::end::End;
 use det_host::{LoadError, Loader};
+use dev_script::{Devices, ScriptFault, read_script};
 use image_file::{Image, ImageFault, read_image};
 use std::alloc::Global;
 
@@ -50,18 +52,21 @@ fn parse(alloc: Global, bytes: &[u8]) -> Result<Image, End>
     }
 }
 
-fn parse_script(bytes: &[u8]) -> Result<(), End>
-    ensures { GivesRefusal (bad_script bytes.now) result }
+fn parse_script(alloc: Global, bytes: &[u8]) -> Result<Devices, End>
+    ensures ok { IfOk result (λ d. script_of bytes.now ≡ Ok d) }
+    ensures judged { GivesRefusal (bad_script (script_of bytes.now)) result }
 {
-    if let [_, ..] = bytes {
-        return Err(End::BadScript(ScriptError { line: 1 }));
+    match read_script(alloc, bytes) {
+        Ok(devices) => Ok(devices),
+        Err(ScriptFault::Bad(e)) => Err(End::BadScript(e)),
+        Err(ScriptFault::Memory) => Err(End::NoMemory),
     }
-    Ok(())
 }
 
-// Loads a script and reads it. Where it is not refused, what is expected is what the files before it make.
-fn read_script<L: Loader>(alloc: Global, files: &mut L, script: &str) -> Result<(), End>
-    ensures reads { (e : Expectation) → IsDone e.end → Reads (λ _. e) (script_step script.now ∷ []) (λ _. Some e)
+// Loads a script and reads it, behind a file that is an image.
+fn load_script<L: Loader>(alloc: Global, files: &mut L, script: &str) -> Result<Devices, End>
+    ensures reads { (fuel : ℕ) (image : List ℕ) (i : images.Image) → image_of image ≡ Ok i
+        → Reads (λ d. expectation_of_root (settled_root i d fuel)) (script_step script.now ∷ []) (λ rest. run_whole fuel (image ∷ rest))
         (input_of L.told L.asked L.faults files.old files.new) result }
     ensures later { L.faults files.old ≤ L.faults files.new }
 {
@@ -69,18 +74,18 @@ fn read_script<L: Loader>(alloc: Global, files: &mut L, script: &str) -> Result<
         Ok(bytes) => bytes,
         Err(end) => return Err(end),
     };
-    parse_script(&bytes)
+    parse_script(alloc, &bytes)
 }
 
-/// The image of a run, whatever its fuel, where neither it nor the script is refused. Each file is loaded once, and read before
-/// the next is loaded.
+/// The image and the devices of a run, whatever its fuel, where neither the image nor the script is refused. Each file is
+/// loaded once, and read before the next is loaded.
 pub(crate) fn read_run<L: Loader>(
     alloc: Global,
     files: &mut L,
     image: &str,
     script: &str,
-) -> Result<Image, End>
-    ensures reads { (fuel : ℕ) → Reads (λ i. expectation_of_root (settled_root i fuel))
+) -> Result<(Image, Devices), End>
+    ensures reads { (fuel : ℕ) → Reads (λ x. expectation_of_root (settled_root x.0 x.1 fuel))
         (steps_of (run fuel image.now script.now)) (whole_of (run fuel image.now script.now))
         (input_of L.told L.asked L.faults files.old files.new) result }
     ensures later { L.faults files.old ≤ L.faults files.new }
@@ -93,8 +98,8 @@ pub(crate) fn read_run<L: Loader>(
         Ok(parsed) => parsed,
         Err(end) => return Err(end),
     };
-    match read_script(alloc, files, script) {
-        Ok(()) => Ok(parsed),
+    match load_script(alloc, files, script) {
+        Ok(devices) => Ok((parsed, devices)),
         Err(end) => Err(end),
     }
 }

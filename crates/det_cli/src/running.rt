@@ -13,17 +13,23 @@ use demand_eval::settle;
 use det_core::boot;
 use det_host::{Loader, Sink, SinkError};
 use det_report::report;
+use dev_script::Devices;
 use image_file::Image;
-use space_tree::{Cause, Devices, Space, Status};
+use space_tree::{Cause, Space, Status};
 use std::alloc::{AllocError, Global};
 
-// The settled root of an image, where each space has so much fuel.
-fn settled_root(alloc: Global, image: &Image, fuel: u32) -> Result<Space, AllocError>
+// The settled root of an image with these devices, where each space has so much fuel.
+fn settled_root(
+    alloc: Global,
+    image: &Image,
+    devices: Devices,
+    fuel: u32,
+) -> Result<Space, AllocError>
     requires { 1 ≤ fuel }
-    ensures root { IfOk result (λ s. s ≡ settled_root image.now fuel) }
+    ensures root { IfOk result (λ s. s ≡ settled_root image.now devices fuel) }
     ensures settled { IfOk result (λ s. is_settled s ≡ true) }
 {
-    let root = boot(alloc, image, Devices::new(alloc), fuel)?;
+    let root = boot(alloc, image, devices, fuel)?;
     settle(alloc, root)
 }
 
@@ -71,22 +77,23 @@ fn write_root<O: Sink, E: Sink>(alloc: Global, space: &Space, out: &mut O, err: 
     end_of(space)
 }
 
-// Boots and settles an image, where each space has so much fuel, and writes what its root shows.
+// Boots and settles an image with these devices, where each space has so much fuel, and writes what its root shows.
 fn settle_and_write<O: Sink, E: Sink>(
     alloc: Global,
     image: &Image,
+    devices: Devices,
     fuel: u32,
     out: &mut O,
     err: &mut E,
 ) -> End
     requires { 1 ≤ fuel }
-    ensures writes { Writes (expectation_of_root (settled_root image.now fuel))
+    ensures writes { Writes (expectation_of_root (settled_root image.now devices fuel))
         (output_of O.taken O.faults out.old out.new)
         (output_of E.taken E.faults err.old err.new) result }
     ensures out_later { O.faults out.old ≤ O.faults out.new }
     ensures err_later { E.faults err.old ≤ E.faults err.new }
 {
-    let Ok(root) = settled_root(alloc, image, fuel) else {
+    let Ok(root) = settled_root(alloc, image, devices, fuel) else {
         return End::NoMemory;
     };
     write_root(alloc, &root, out, err)
@@ -112,7 +119,7 @@ pub(crate) fn run_image<L: Loader, O: Sink, E: Sink>(
     ensures err_later { E.faults err.old ≤ E.faults err.new }
 {
     match read_run(alloc, files, image, script) {
-        Ok(parsed) => settle_and_write(alloc, &parsed, fuel, out, err),
+        Ok((parsed, devices)) => settle_and_write(alloc, &parsed, devices, fuel, out, err),
         Err(end) => end,
     }
 }

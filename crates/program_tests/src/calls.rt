@@ -58,6 +58,11 @@ pub(crate) fn run<'a>(
     }
 }
 
+/// The same call with this script.
+pub(crate) fn on_script<'a>(row: Row<'a>, script: &'a [u8]) -> Row<'a> {
+    Row { script, ..row }
+}
+
 fn words_of(alloc: Global, text: &str) -> Result<Vec<String>, AllocError> {
     let mut words = Vec::new(alloc);
     for word in text.split(' ') {
@@ -162,11 +167,7 @@ fn words_that_are_refused(rt: HostRuntime) -> Result<(), Fail> {
 // Files that are refused.
 fn one_of_files<R: AllocGlobal + Abort>(rt: &R, image: &[u8], script: &[u8], line: &str) {
     let words = "det run image script";
-    let row = Row {
-        script,
-        ..run(words, image, 3, "", line)
-    };
-    check(rt, &row);
+    check(rt, &on_script(run(words, image, 3, "", line), script));
 }
 
 #[test]
@@ -174,11 +175,11 @@ fn files_that_are_refused(rt: HostRuntime) -> Result<(), Fail> {
     let mut longer = RETURN_SEVEN.to_vec(rt.alloc())?;
     longer.push(0)?;
     let shorter = &RETURN_SEVEN[..34];
-    let script = b"in hello\n";
+    let script = b"in hello\nout hello\n";
     one_of_files(&rt, b"", b"", "det: image: truncated at 0\n");
     one_of_files(&rt, &longer, b"", "det: image: trailing at 35\n");
     one_of_files(&rt, shorter, b"", "det: image: truncated at 23\n");
-    one_of_files(&rt, &RETURN_SEVEN, script, "det: script: line 1\n");
+    one_of_files(&rt, &RETURN_SEVEN, script, "det: script: line 2\n");
     Ok(())
 }
 

@@ -6,6 +6,8 @@ mod calls;
 #[cfg(test)]
 mod files;
 #[cfg(test)]
+mod scripts;
+#[cfg(test)]
 mod threads;
 #[cfg(test)]
 mod trees;

@@ -8,8 +8,8 @@ use std::fmt::Write;
 use std::process::Abort;
 use std::test::*;
 
-// The bytes of the image of a source.
-pub fn image_of(alloc: Global, source: &str) -> Result<Vec<u8>, Fail> {
+/// The bytes of the image of a source.
+pub(crate) fn image_of(alloc: Global, source: &str) -> Result<Vec<u8>, Fail> {
     let image = assemble(alloc, source.as_bytes())?;
     Ok(write_image(alloc, &image)?)
 }
