@@ -1,6 +1,6 @@
 use Rattle.std.proofs.Common.{ap}
 use Rattle.space_mem.proofs.Dirty.{covers_all}
-use Rattle.space_tests.proofs.joins.keep_snapshot.Goals as goal
+use Rattle.meeting_tests.proofs.joins.keep_snapshot.Goals as goal
 
 pub invariant_of-top : goal.invariant_of-top
 invariant_of-top c =
