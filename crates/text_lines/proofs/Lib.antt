@@ -1,1 +1,4 @@
 pub mod FirstLine
+pub mod Digits
+pub mod Items
+pub mod Loops

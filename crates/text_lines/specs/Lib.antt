@@ -1,1 +1,4 @@
 pub mod Lines
+pub mod Items
+pub mod Numbers
+pub mod Reading
