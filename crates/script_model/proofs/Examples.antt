@@ -3,7 +3,8 @@ use Rattle.std.proofs.Common.{◌≡◌, [], ◌∷◌, ◌++◌, Ok, Err, refl}
 use Rattle.std.specs.Prelude.{Some, None, codes}
 use Rattle.text_lines.specs.Lines.{lines_with_returns, lines_of}
 use Rattle.script_model.specs.Script.{Nothing, Input, Clock, Random}
-use Rattle.script_model.specs.Reading.{after, number_of, bytes_of, item_of, items_of, script_of}
+use Rattle.text_lines.specs.Reading.{number_of, items_of}
+use Rattle.script_model.specs.Reading.{after, bytes_of, item_of, script_of}
 
 -- text and bytes come to the input in the order of their lines
 pub in_order : script_of (codes "in hi\nraw 00fF\nclock 5\n") ≡ Ok (record { input = codes "hi\n" ++ 0 ∷ 255 ∷ []; clocks = 5 ∷ []; numbers = []; console = [] })

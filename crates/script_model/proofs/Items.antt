@@ -4,9 +4,12 @@ use Rattle.std.specs.Prelude.{◌==◌, Option, Some, None, option_map, codes}
 use Rattle.std.specs.Str.{bytes_eq}
 use Rattle.std.proofs.lemmas.Bool.{eqb-true}
 use Rattle.std.proofs.lemmas.Slice.Eq.{bytes_eq-Decides}
-use Rattle.script_model.specs.Script.{Item, Nothing, Input, Clock, Random, ArePairs, Says, IsRefused}
-use Rattle.script_model.specs.Reading.{after, number_of, bytes_of, raw_of, short_of, or_else, item_of}
-use Rattle.script_model.proofs.Words.{is_after, number_takes, number_again, pairs_take, pairs_again}
+use Rattle.text_lines.specs.Reading.{number_of}
+use Rattle.text_lines.proofs.Digits.{number_takes, number_again}
+use Rattle.text_lines.proofs.Items.{Reads}
+use Rattle.script_model.specs.Script.{Item, Nothing, Input, Clock, Random, ArePairs, Says, most_digits, greatest_number}
+use Rattle.script_model.specs.Reading.{after, bytes_of, raw_of, short_of, or_else, item_of}
+use Rattle.script_model.proofs.Words.{is_after, pairs_take, pairs_again}
 
 -- ---- what is said is read
 
@@ -22,11 +25,8 @@ item_again line Nothing (inr h) = ap item_of h.1
 item_again line (Input bytes) (inl (inl h)) = ap item_of h.0 ∙ ap (λ bs. Some (Input bs)) (sym h.1)
 item_again line (Input bytes) (inl (inr h)) = ap item_of h.1 ∙ ap (λ bs. Some (Input bs)) (sym h.2)
 item_again line (Input bytes) (inr h) = ap item_of h.1 ∙ raw_again h.0 bytes h.2 h.3
-item_again line (Clock n) h = ap item_of h.1 ∙ ap (option_map (λ n. Clock n)) (number_again h.0 n h.2)
-item_again line (Random n) h = ap item_of h.1 ∙ ap (option_map (λ n. Random n)) (number_again h.0 n h.2)
-
-pub one : (line : List ℕ) (i j : Item) → Says line i → Says line j → i ≡ j
-one line i j h k = let same = sym (item_again line i h) ∙ item_again line j k in cc
+item_again line (Clock n) h = ap item_of h.1 ∙ ap (option_map (λ n. Clock n)) (number_again most_digits greatest_number h.0 n h.2)
+item_again line (Random n) h = ap item_of h.1 ∙ ap (option_map (λ n. Random n)) (number_again most_digits greatest_number h.0 n h.2)
 
 -- ---- what is read is said
 
@@ -59,13 +59,13 @@ pairs_said : (line : List ℕ) (i : Item) (digits : List ℕ) → line ≡ codes
 pairs_said line i [] e h = absurd cc
 pairs_said line i (d ∷ digits) e h = raw_takes line i (d ∷ digits) e (bytes_of (d ∷ digits)) refl (omega arith) h
 
-clock_takes : (line : List ℕ) (i : Item) (digits : List ℕ) → line ≡ codes "clock " ++ digits → (o : Option ℕ) → number_of digits ≡ o → option_map (λ n. Clock n) o ≡ Some i → Says line i
+clock_takes : (line : List ℕ) (i : Item) (digits : List ℕ) → line ≡ codes "clock " ++ digits → (o : Option ℕ) → number_of most_digits greatest_number digits ≡ o → option_map (λ n. Clock n) o ≡ Some i → Says line i
 clock_takes line i digits e None read h = absurd cc
-clock_takes line i digits e (Some n) read h = said_is line (Clock n) i (digits, e, number_takes digits n read) h
+clock_takes line i digits e (Some n) read h = said_is line (Clock n) i (digits, e, number_takes most_digits greatest_number digits n read) h
 
-random_takes : (line : List ℕ) (i : Item) (digits : List ℕ) → line ≡ codes "rand " ++ digits → (o : Option ℕ) → number_of digits ≡ o → option_map (λ n. Random n) o ≡ Some i → Says line i
+random_takes : (line : List ℕ) (i : Item) (digits : List ℕ) → line ≡ codes "rand " ++ digits → (o : Option ℕ) → number_of most_digits greatest_number digits ≡ o → option_map (λ n. Random n) o ≡ Some i → Says line i
 random_takes line i digits e None read h = absurd cc
-random_takes line i digits e (Some n) read h = said_is line (Random n) i (digits, e, number_takes digits n read) h
+random_takes line i digits e (Some n) read h = said_is line (Random n) i (digits, e, number_takes most_digits greatest_number digits n read) h
 
 -- what either says, the rest behind a word or else the other
 chosen : (line : List ℕ) (i : Item) (word : List ℕ) (said : List ℕ → Option Item) (other : Option Item) → ((rest : List ℕ) → line ≡ word ++ rest → said rest ≡ Some i → Says line i) → (other ≡ Some i → Says line i)
@@ -78,20 +78,11 @@ unfolding item_of
 item_takes line i =
     chosen line i (codes "in ") _ _ (λ text e h. said_is line (Input (text ++ 10 ∷ [])) i (inl (inr (text, e, refl))) h)
     (chosen line i (codes "raw ") _ _ (pairs_said line i)
-    (chosen line i (codes "clock ") _ _ (λ digits e h. clock_takes line i digits e (number_of digits) refl h)
-    (chosen line i (codes "rand ") _ _ (λ digits e h. random_takes line i digits e (number_of digits) refl h) (short_takes line i) (after (codes "rand ") line) refl)
+    (chosen line i (codes "clock ") _ _ (λ digits e h. clock_takes line i digits e (number_of most_digits greatest_number digits) refl h)
+    (chosen line i (codes "rand ") _ _ (λ digits e h. random_takes line i digits e (number_of most_digits greatest_number digits) refl h) (short_takes line i) (after (codes "rand ") line) refl)
     (after (codes "clock ") line) refl)
     (after (codes "raw ") line) refl)
     (after (codes "in ") line) refl
 
--- ---- what is not read is not said
-
-pub not_said : (line : List ℕ) → item_of line ≡ None → IsRefused line
-not_said line e i h = let read = item_again line i h in cc
-
-pub not_read : (line : List ℕ) → IsRefused line → item_of line ≡ None
-not_read line h = none_from line h (item_of line) refl
-  where
-    none_from : (line : List ℕ) → IsRefused line → (o : Option Item) → item_of line ≡ o → o ≡ None
-    none_from line h None e = refl
-    none_from line h (Some i) e = absurd (h i (item_takes line i e))
+pub reads : Reads Says item_of
+reads = record { takes = item_takes; again = item_again }

@@ -1,12 +1,9 @@
--- The parts of a line: what follows a word, numbers, and pairs of digits.
-use Rattle.std.proofs.Common.{◌≡◌, ℕ, ◌^◌, ◌<◌, Bool, true, false, cond, List, [], ◌∷◌, ◌++◌, length, refl, sym, ap, subst, ◌∙◌}
-use Rattle.std.specs.Prelude.{◌==◌, ◌&&◌, nat_lt, nat_le, Option, Some, None, option_map}
-use Rattle.std.specs.Str.{all_ascii_digits}
-use Rattle.std.specs.Str.Parse.{digits_value}
-use Rattle.std.proofs.lemmas.Bool.{and_parts, and_from, ltb-true, leb-true, lt-ltb, le-leb, eqb-true, eq-eqb}
-use Rattle.std.proofs.lemmas.Option.{cond_some}
-use Rattle.script_model.specs.Script.{ArePairs, IsNumber, byte_of}
-use Rattle.script_model.specs.Reading.{after, is_number, number_of, is_hex_digit, bytes_of}
+-- The parts of a line: what follows a word, and pairs of digits.
+use Rattle.std.proofs.Common.{◌≡◌, ℕ, Bool, true, false, cond, List, [], ◌∷◌, ◌++◌, refl, ap, ◌∙◌}
+use Rattle.std.specs.Prelude.{◌==◌, ◌&&◌, Option, Some, None, option_map}
+use Rattle.std.proofs.lemmas.Bool.{and_parts, and_from, ltb-true, lt-ltb, eqb-true, eq-eqb}
+use Rattle.script_model.specs.Script.{ArePairs, byte_of}
+use Rattle.script_model.specs.Reading.{after, is_hex_digit, bytes_of}
 
 -- ---- what follows a word
 
@@ -24,26 +21,6 @@ is_after (w ∷ ws) (b ∷ bs) rest e = is_after_byte w ws b bs rest (b == w) re
     is_after_byte : (w : ℕ) (ws : List ℕ) (b : ℕ) (bs rest : List ℕ) (t : Bool) → (b == w) ≡ t → cond t (after ws bs) None ≡ Some rest → (after ws bs ≡ Some rest → bs ≡ ws ++ rest) → b ∷ bs ≡ w ∷ (ws ++ rest)
     is_after_byte w ws b bs rest true same e more = let first = eqb-true b w same in let others = more e in cc
     is_after_byte w ws b bs rest false same e more = absurd cc
-
--- ---- numbers
-
-pub number_takes : (digits : List ℕ) (n : ℕ) → number_of digits ≡ Some n → IsNumber digits n
-unfolding number_of
-number_takes digits n e =
-    let taken = cond_some (is_number digits) (digits_value 10 digits) n e in
-    let a = and_parts (nat_lt 0 (length digits) && nat_le (length digits) 10 && all_ascii_digits digits) _ taken.0 in
-    let b = and_parts (nat_lt 0 (length digits) && nat_le (length digits) 10) _ a.0 in
-    let c = and_parts (nat_lt 0 (length digits)) _ b.0 in
-    let value : n ≡ digits_value 10 digits = sym taken.1 in
-    let small : digits_value 10 digits < 2 ^ 32 = ltb-true _ _ a.1 in
-    record { some = ltb-true _ _ c.0; few = leb-true _ _ c.1; decimal = b.1; value = value; small = rw value small }
-
-pub number_again : (digits : List ℕ) (n : ℕ) → IsNumber digits n → number_of digits ≡ Some n
-unfolding number_of
-number_again digits n h =
-    let small : digits_value 10 digits < 2 ^ 32 = subst (λ (k : ℕ). k < 2 ^ 32) h.value h.small in
-    let all : is_number digits ≡ true = and_from _ _ (and_from _ _ (and_from _ _ (lt-ltb _ _ h.some) (le-leb _ _ h.few)) h.decimal) (lt-ltb _ _ small) in
-    ap (λ (b : Bool). cond b (Some (digits_value 10 digits)) None) all ∙ ap (λ (k : ℕ). Some k) (sym h.value)
 
 -- ---- pairs of digits
 

@@ -1,12 +1,13 @@
 -- Scripts: what a line says, which devices all lines make, and which line is the first that is refused.
 -- Our choice: the grammar.
-use Rattle.std.specs.Prelude.{◌≡◌, ℕ, ◌+◌, ◌*◌, ◌^◌, ◌<◌, ◌≤◌, ◌⊎◌, true, List, [], ◌∷◌, ◌++◌, length, codes}
+use Rattle.std.specs.Prelude.{◌≡◌, ℕ, ◌+◌, ◌-◌, ◌*◌, ◌^◌, ◌<◌, ◌⊎◌, List, [], ◌∷◌, ◌++◌, length, codes}
 use Rattle.std.specs.Char.{digit_value}
 use Rattle.std.specs.List.{flat_map}
-use Rattle.std.specs.Str.{all_ascii_digits}
-use Rattle.std.specs.Str.Parse.{digits_value}
 use Rattle.script_model.specs.Devices.{Devices}
-use Rattle.text_lines.specs.Lines.{SaysNothing, lines_of}
+use Rattle.text_lines.specs.Items as texts
+use Rattle.text_lines.specs.Items.{IsTextOf}
+use Rattle.text_lines.specs.Lines.{SaysNothing}
+use Rattle.text_lines.specs.Numbers.{IsNumber}
 
 -- what a line may say: nothing, bytes for the input, a reading of the clock, a random number
 pub data Item : Type 0 where
@@ -37,28 +38,22 @@ ArePairs digits bytes = ⊥
 abbrev pub IsRaw : List ℕ → List ℕ → Type 0
 IsRaw line bytes = (digits : List ℕ) × (line ≡ codes "raw " ++ digits) × (0 < length bytes) × ArePairs digits bytes
 
--- 1 to 10 decimal digits, zeros at the front among them, of a number of 32 bits
-pub record IsNumber (digits : List ℕ) (n : ℕ) : Type 0 where
-  pub some : 0 < length digits
-  pub few : length digits ≤ 10
-  pub decimal : all_ascii_digits digits ≡ true
-  pub value : n ≡ digits_value 10 digits
-  pub small : n < 2 ^ 32
+-- the most digits of a number, zeros at the front among them
+abbrev pub most_digits : ℕ
+most_digits = 10
+
+-- the greatest number, of 32 bits
+abbrev pub greatest_number : ℕ
+greatest_number = 2 ^ 32 - 1
 
 -- the line says this
 abbrev pub Says : List ℕ → Item → Type 0
 Says line Nothing = SaysNothing line
 Says line (Input bytes) = IsText line bytes ⊎ IsRaw line bytes
-Says line (Clock n) = (digits : List ℕ) × (line ≡ codes "clock " ++ digits) × IsNumber digits n
-Says line (Random n) = (digits : List ℕ) × (line ≡ codes "rand " ++ digits) × IsNumber digits n
+Says line (Clock n) = (digits : List ℕ) × (line ≡ codes "clock " ++ digits) × IsNumber most_digits greatest_number digits n
+Says line (Random n) = (digits : List ℕ) × (line ≡ codes "rand " ++ digits) × IsNumber most_digits greatest_number digits n
 
 -- ---- all lines
-
--- each line says its item
-abbrev pub SayAll : List (List ℕ) → List Item → Type 0
-SayAll [] [] = Unit {0}
-SayAll (l ∷ ls) (i ∷ is) = Says l i × SayAll ls is
-SayAll ls is = ⊥
 
 abbrev pub input_in : Item → List ℕ
 input_in (Input bytes) = bytes
@@ -77,23 +72,9 @@ abbrev pub devices_from : List Item → Devices
 devices_from items = record { input = flat_map input_in items; clocks = flat_map clocks_in items; numbers = flat_map numbers_in items; console = [] }
 
 -- the bytes are a script of these devices
-pub record ScriptOf (bytes : List ℕ) (d : Devices) : Type 0 where
-  pub items : List Item
-  pub said : SayAll (lines_of bytes) items
-  pub made : d ≡ devices_from items
+abbrev pub ScriptOf : List ℕ → Devices → Type 0
+ScriptOf bytes d = IsTextOf Says devices_from bytes d
 
--- ---- the first line outside the grammar
-
-abbrev pub IsRefused : List ℕ → Type 0
-IsRefused line = (i : Item) → Says line i → ⊥
-
--- the line of this number, counted from 1, is refused, and each line before it says something
-pub record IsFirstRefused (bytes : List ℕ) (number : ℕ) : Type 0 where
-  pub before : List (List ℕ)
-  pub line : List ℕ
-  pub others : List (List ℕ)
-  pub split : lines_of bytes ≡ before ++ line ∷ others
-  pub items : List Item
-  pub said : SayAll before items
-  pub refused : IsRefused line
-  pub place : number ≡ length before + 1
+-- the line of this number, counted from 1, is the first that says none of these
+abbrev pub IsFirstRefused : List ℕ → ℕ → Type 0
+IsFirstRefused bytes number = texts.IsFirstRefused Says bytes number
