@@ -3,7 +3,8 @@ use Rattle.std.proofs.Common.{◌≡◌, [], ◌∷◌, Ok, Err, refl}
 use Rattle.std.specs.Prelude.{Some, None, codes}
 use Rattle.text_lines.specs.Lines.{lines_with_returns}
 use Rattle.schedule_model.specs.Schedule.{Nothing, Next}
-use Rattle.schedule_model.specs.Reading.{number_of, numbers_of, path_of, item_of, items_of, schedule_of}
+use Rattle.text_lines.specs.Reading.{number_of, items_of}
+use Rattle.schedule_model.specs.Reading.{numbers_of, path_of, item_of, schedule_of}
 
 -- paths come in the order of their lines
 pub in_order : schedule_of (codes "/\n/9\n/0\n/\n/3/4\n") ≡ Ok ([] ∷ (9 ∷ []) ∷ (0 ∷ []) ∷ [] ∷ (3 ∷ 4 ∷ []) ∷ [])

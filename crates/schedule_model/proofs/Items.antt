@@ -2,7 +2,8 @@
 use Rattle.std.proofs.Common.{◌≡◌, ℕ, Bool, true, false, cond, List, [], ◌∷◌, refl, sym, ap, subst, ◌∙◌, inl, inr}
 use Rattle.std.specs.Prelude.{◌==◌, Option, Some, None, option_map}
 use Rattle.std.proofs.lemmas.Bool.{eqb-true}
-use Rattle.schedule_model.specs.Schedule.{Item, Nothing, Next, Says, IsRefused}
+use Rattle.text_lines.proofs.Items.{Reads}
+use Rattle.schedule_model.specs.Schedule.{Item, Nothing, Next, Says}
 use Rattle.schedule_model.specs.Reading.{path_of, item_of}
 use Rattle.schedule_model.proofs.Paths.{path_takes, long_again}
 
@@ -18,9 +19,6 @@ item_again line Nothing (inr h) = ap item_of h.1
 item_again line (Next []) h = ap item_of h
 item_again line (Next (n ∷ path)) (short, [], text, are) = absurd are
 item_again line (Next (n ∷ path)) (short, digits ∷ others, text, are) = ap item_of text ∙ ap next_item (long_again digits others n path are.0 are.1 short)
-
-pub one : (line : List ℕ) (i j : Item) → Says line i → Says line j → i ≡ j
-one line i j h k = let same = sym (item_again line i h) ∙ item_again line j k in cc
 
 -- ---- what is read is said
 
@@ -41,14 +39,5 @@ unfolding item_of
 item_takes [] i e = said_is [] Nothing i (inl refl) e
 item_takes (b ∷ bs) i e = first_takes b bs i (b == 35) refl (b == 47) refl e
 
--- ---- what is not read is not said
-
-pub not_said : (line : List ℕ) → item_of line ≡ None → IsRefused line
-not_said line e i h = let read = item_again line i h in cc
-
-pub not_read : (line : List ℕ) → IsRefused line → item_of line ≡ None
-not_read line h = none_from line h (item_of line) refl
-  where
-    none_from : (line : List ℕ) → IsRefused line → (o : Option Item) → item_of line ≡ o → o ≡ None
-    none_from line h None e = refl
-    none_from line h (Some i) e = absurd (h i (item_takes line i e))
+pub reads : Reads Says item_of
+reads = record { takes = item_takes; again = item_again }

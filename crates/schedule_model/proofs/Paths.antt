@@ -1,45 +1,30 @@
 -- The parts of a line that names a path: numbers, and the slashes between them.
-use Rattle.std.proofs.Common.{◌≡◌, ℕ, ◌<◌, ◌≤◌, Bool, true, false, cond, List, [], ◌∷◌, ◌++◌, length, refl, sym, ap, subst, ◌∙◌, arith}
-use Rattle.std.specs.Prelude.{◌==◌, ◌&&◌, nat_lt, nat_le, Option, Some, None}
+use Rattle.std.proofs.Common.{◌≡◌, ℕ, ◌<◌, ◌≤◌, Bool, true, false, cond, List, [], ◌∷◌, ◌++◌, length, refl, ap, subst, ◌∙◌, arith}
+use Rattle.std.specs.Prelude.{◌==◌, nat_le, Option, Some, None}
 use Rattle.std.specs.Char.{is_ascii_digit}
 use Rattle.std.specs.List.{All, flat_map, slice_split, onto_first}
 use Rattle.std.specs.Str.{all_ascii_digits}
-use Rattle.std.specs.Str.Parse.{digits_value}
-use Rattle.std.proofs.lemmas.Bool.{and_parts, and_from, ltb-true, leb-true, lt-ltb, le-leb, eqb-true, ne_eqb}
+use Rattle.std.proofs.lemmas.Bool.{and_parts, leb-true, le-leb, eqb-true, ne_eqb}
 use Rattle.std.proofs.lemmas.List.{append-nil}
 use Rattle.std.proofs.lemmas.List.Elements.{All-nil, All-cons}
 use Rattle.std.proofs.lemmas.List.Splits.{slice_split_none, slice_split_at, length-slice_split}
 use Rattle.std.proofs.lemmas.Option.{cond_some}
-use Rattle.schedule_model.specs.Schedule.{IsNumber, AreNumbers, IsPath}
-use Rattle.schedule_model.specs.Reading.{is_number, number_of, with_number, numbers_of, at_most_eight, and_short, path_of}
+use Rattle.call_model.specs.Limits.{greatest_child}
+use Rattle.text_lines.specs.Numbers.{IsNumber}
+use Rattle.text_lines.specs.Reading.{number_of}
+use Rattle.text_lines.proofs.Digits.{number_takes, number_again}
+use Rattle.schedule_model.specs.Schedule.{AreNumbers, IsPath, most_digits}
+use Rattle.schedule_model.specs.Reading.{with_number, numbers_of, at_most_eight, and_short, path_of}
 
 -- ---- numbers
-
-pub number_takes : (digits : List ℕ) (n : ℕ) → number_of digits ≡ Some n → IsNumber digits n
-unfolding number_of
-number_takes digits n e =
-    let taken = cond_some (is_number digits) (digits_value 10 digits) n e in
-    let a = and_parts (nat_lt 0 (length digits) && nat_le (length digits) 5 && all_ascii_digits digits) _ taken.0 in
-    let b = and_parts (nat_lt 0 (length digits) && nat_le (length digits) 5) _ a.0 in
-    let c = and_parts (nat_lt 0 (length digits)) _ b.0 in
-    let value : n ≡ digits_value 10 digits = sym taken.1 in
-    let small : digits_value 10 digits ≤ 65535 = leb-true _ _ a.1 in
-    record { some = ltb-true _ _ c.0; few = leb-true _ _ c.1; decimal = b.1; value = value; small = omega (arith, value, small) }
-
-pub number_again : (digits : List ℕ) (n : ℕ) → IsNumber digits n → number_of digits ≡ Some n
-unfolding number_of
-number_again digits n h =
-    let small : digits_value 10 digits ≤ 65535 = omega (arith, h.value, h.small) in
-    let all : is_number digits ≡ true = and_from _ _ (and_from _ _ (and_from _ _ (lt-ltb _ _ h.some) (le-leb _ _ h.few)) h.decimal) (le-leb _ _ small) in
-    ap (λ (b : Bool). cond b (Some (digits_value 10 digits)) None) all ∙ ap (λ (k : ℕ). Some k) (sym h.value)
 
 pub numbers_take : (numbers : List (List ℕ)) (path : List ℕ) → numbers_of numbers ≡ Some path → AreNumbers numbers path
 unfolding numbers_of
 numbers_take [] [] e = tt
 numbers_take [] (n ∷ path) e = absurd cc
-numbers_take (digits ∷ others) path e = first_takes digits others path (number_of digits) refl (numbers_of others) refl e (numbers_take others)
+numbers_take (digits ∷ others) path e = first_takes digits others path (number_of most_digits greatest_child digits) refl (numbers_of others) refl e (numbers_take others)
   where
-    first_takes : (digits : List ℕ) (others : List (List ℕ)) (path : List ℕ) (o : Option ℕ) → number_of digits ≡ o → (r : Option (List ℕ)) → numbers_of others ≡ r
+    first_takes : (digits : List ℕ) (others : List (List ℕ)) (path : List ℕ) (o : Option ℕ) → number_of most_digits greatest_child digits ≡ o → (r : Option (List ℕ)) → numbers_of others ≡ r
         → with_number o r ≡ Some path → ((q : List ℕ) → numbers_of others ≡ Some q → AreNumbers others q) → AreNumbers (digits ∷ others) path
     first_takes digits others path None first r read e more = absurd cc
     first_takes digits others path (Some n) first None read e more = absurd cc
@@ -47,14 +32,14 @@ numbers_take (digits ∷ others) path e = first_takes digits others path (number
     first_takes digits others (m ∷ path) (Some n) first (Some q) read e more =
         let same : n ≡ m = cc in
         let rest : q ≡ path = cc in
-        (number_takes digits m (first ∙ ap (λ (k : ℕ). Some k) same), more path (read ∙ ap (λ (x : List ℕ). Some x) rest))
+        (number_takes most_digits greatest_child digits m (first ∙ ap (λ (k : ℕ). Some k) same), more path (read ∙ ap (λ (x : List ℕ). Some x) rest))
 
 pub numbers_again : (numbers : List (List ℕ)) (path : List ℕ) → AreNumbers numbers path → numbers_of numbers ≡ Some path
 unfolding numbers_of
 numbers_again [] [] h = refl
 numbers_again [] (n ∷ path) h = absurd h
 numbers_again (digits ∷ others) [] h = absurd h
-numbers_again (digits ∷ others) (n ∷ path) h = rw (number_again digits n h.0, numbers_again others path h.1) refl
+numbers_again (digits ∷ others) (n ∷ path) h = rw (number_again most_digits greatest_child digits n h.0, numbers_again others path h.1) refl
 
 -- ---- slashes
 
@@ -73,7 +58,7 @@ no_slash (b ∷ bs) h =
     All-cons (λ c. is_slash c ≡ false) b bs (ne_eqb b 47 (λ e. omega (arith, e, low))) (no_slash bs both.1)
 
 -- numbers with slashes between them are taken apart at the slashes
-pub taken_apart : (digits : List ℕ) (others : List (List ℕ)) (n : ℕ) (path : List ℕ) → IsNumber digits n → AreNumbers others path → slice_split is_slash (digits ++ with_slashes others) ≡ digits ∷ others
+pub taken_apart : (digits : List ℕ) (others : List (List ℕ)) (n : ℕ) (path : List ℕ) → IsNumber most_digits greatest_child digits n → AreNumbers others path → slice_split is_slash (digits ++ with_slashes others) ≡ digits ∷ others
 taken_apart digits [] n path h hs = ap (slice_split is_slash) (append-nil digits) ∙ slice_split_none is_slash digits (no_slash digits h.decimal)
 taken_apart digits (o ∷ os) n [] h hs = absurd hs
 taken_apart digits (o ∷ os) n (m ∷ path) h hs =
@@ -115,7 +100,7 @@ path_takes (b ∷ bs) path e =
 is_short : (path : List ℕ) → length path ≤ 8 → at_most_eight path ≡ Some path
 is_short path short = ap (λ (t : Bool). cond t (Some path) None) (le-leb _ _ short)
 
-pub long_again : (digits : List ℕ) (others : List (List ℕ)) (n : ℕ) (path : List ℕ) → IsNumber digits n → AreNumbers others path → length (n ∷ path) ≤ 8 → path_of (digits ++ with_slashes others) ≡ Some (n ∷ path)
+pub long_again : (digits : List ℕ) (others : List (List ℕ)) (n : ℕ) (path : List ℕ) → IsNumber most_digits greatest_child digits n → AreNumbers others path → length (n ∷ path) ≤ 8 → path_of (digits ++ with_slashes others) ≡ Some (n ∷ path)
 unfolding path_of
 long_again [] others n path h hs short = absurd (omega (arith, h.some))
 long_again (b ∷ bs) others n path h hs short =
