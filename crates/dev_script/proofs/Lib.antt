@@ -1,4 +1,3 @@
-pub mod Numbers
 pub mod Loops
 pub mod Pairs
 pub mod Found

@@ -2,6 +2,7 @@ ghost use Rattle.std.specs.Prelude.{◌≡◌, ◌++◌, ◌∷◌, [], IfOk, op
 ghost use Rattle.dev_script.specs.View.{item_view};
 ghost use Rattle.script_model.specs.Reading as reading;
 ghost use Rattle.script_model.specs.Script as grammar;
+ghost use Rattle.text_lines.specs.Reading as numbers;
 
 use crate::words::{after, bytes_of, number_of};
 use std::alloc::{AllocError, Global};
@@ -42,7 +43,7 @@ fn raw_of(alloc: Global, digits: &[u8]) -> Result<Option<Item>, AllocError>
 }
 
 fn clock_of(digits: &[u8]) -> Option<Item>
-    ensures { option_map item_view result ≡ option_map (λ n. grammar.Clock n) (reading.number_of digits.now) }
+    ensures { option_map item_view result ≡ option_map (λ n. grammar.Clock n) (numbers.number_of grammar.most_digits grammar.greatest_number digits.now) }
 {
     match number_of(digits) {
         Some(number) => Some(Item::Clock(number)),
@@ -51,7 +52,7 @@ fn clock_of(digits: &[u8]) -> Option<Item>
 }
 
 fn random_of(digits: &[u8]) -> Option<Item>
-    ensures { option_map item_view result ≡ option_map (λ n. grammar.Random n) (reading.number_of digits.now) }
+    ensures { option_map item_view result ≡ option_map (λ n. grammar.Random n) (numbers.number_of grammar.most_digits grammar.greatest_number digits.now) }
 {
     match number_of(digits) {
         Some(number) => Some(Item::Random(number)),

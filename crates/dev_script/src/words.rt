@@ -1,7 +1,7 @@
 ghost use Rattle.std.specs.Prelude.{◌≡◌, ◌<◌, ◌&&◌, ◌∷◌, length, Some, None, IfOk, IfSome, MatchOption, option_map, if◌then◌else◌};
-ghost use Rattle.std.specs.Str.{all_ascii_digits};
 ghost use Rattle.script_model.specs.Reading as reading;
 ghost use Rattle.script_model.specs.Script as grammar;
+ghost use Rattle.text_lines.specs.Reading as numbers;
 
 use std::alloc::{AllocError, Global};
 
@@ -12,22 +12,14 @@ pub(crate) fn after<'a>(word: &[u8], line: &'a [u8]) -> Option<&'a [u8]>
     line.strip_prefix(word)
 }
 
-/// Whether each byte is a decimal digit.
-fn are_digits(text: &[u8]) -> bool
-    ensures { result ≡ all_ascii_digits text.now }
-{
-    text.iter().all(|byte| byte.is_ascii_digit())
-}
+/// The most digits of a number.
+const MOST_DIGITS: usize = 10;
 
-/// The number that 1 to 10 decimal digits write, where it has no more than 32 bits.
-#[tactic(auto, unfolding(script_model::specs::Reading::number_of))]
+/// The number of 32 bits that 1 to 10 decimal digits write.
 pub(crate) fn number_of(digits: &[u8]) -> Option<u32>
-    ensures { result ≡ reading.number_of digits.now }
+    ensures { result ≡ numbers.number_of grammar.most_digits grammar.greatest_number digits.now }
 {
-    if digits.len() > 10 || !are_digits(digits) {
-        return None;
-    }
-    str::from_utf8(digits).ok()?.parse().ok()
+    text_lines::number_of(digits, MOST_DIGITS, u32::MAX)
 }
 
 /// The byte that two hexadecimal digits of either case write, the high one first.
