@@ -1,8 +1,9 @@
 ghost use Rattle.std.specs.Prelude.{◌≡◌, ◌==◌, option_map};
 ghost use Rattle.std.specs.List.{slice_split};
-ghost use Rattle.std.specs.Str.{all_ascii_digits};
+ghost use Rattle.call_model.specs.Limits.{greatest_child};
 ghost use Rattle.schedule_model.specs.Reading as reading;
 ghost use Rattle.schedule_model.specs.Schedule as grammar;
+ghost use Rattle.text_lines.specs.Reading as numbers;
 ghost use Rattle.det_core.specs.View.{item_view};
 
 use space_tree::Path;
@@ -15,22 +16,15 @@ pub(crate) enum Item {
     Next(Path),
 }
 
-// Whether each byte is a decimal digit.
-fn are_digits(text: &[u8]) -> bool
-    ensures { result ≡ all_ascii_digits text.now }
-{
-    text.iter().all(|byte| byte.is_ascii_digit())
-}
+// The most digits of a number.
+const MOST_DIGITS: usize = 5;
 
 // The number that 1 to 5 decimal digits write, where a child may have it.
-#[tactic(auto, unfolding(schedule_model::specs::Reading::number_of))]
 fn number_of(digits: &[u8]) -> Option<u16>
-    ensures { result ≡ reading.number_of digits.now }
+    ensures { result ≡ numbers.number_of grammar.most_digits greatest_child digits.now }
 {
-    if digits.len() > 5 || !are_digits(digits) {
-        return None;
-    }
-    str::from_utf8(digits).ok()?.parse().ok()
+    let number = text_lines::number_of(digits, MOST_DIGITS, u32::from(u16::MAX))?;
+    Some(number as u16)
 }
 
 // The path of numbers with `/` between them, at most eight.
