@@ -1,6 +1,6 @@
 -- Where a text is cut: the parts that a grammar names are those that are read from left to right.
-use Rattle.std.proofs.Common.{◌≡◌, ℕ, Bool, true, false, cond, not, ◌&&◌, List, [], ◌∷◌, ◌++◌, refl, sym, ◌∙◌, ap, subst}
-use Rattle.std.specs.Prelude.{drop, ◌==◌, ◌||◌}
+use Rattle.std.proofs.Common.{◌≡◌, ℕ, Bool, true, false, cond, not, ◌&&◌, List, [], ◌∷◌, ◌++◌, length, refl, sym, ◌∙◌, ap, subst, arith}
+use Rattle.std.specs.Prelude.{drop, take, ◌<◌, ◌==◌, ◌||◌}
 use Rattle.std.specs.List.{list_all}
 use Rattle.std.proofs.lemmas.List.{append-nil}
 use borrow.Author.Tests.{eqb-true}
@@ -8,7 +8,22 @@ use Rattle.source_model.specs.declared.statement.Class.{Class}
 use Rattle.source_model.specs.declared.statement.Class.TheVariants.{Solid, Blank, WordEnd}
 use Rattle.source_model.specs.Bytes.{is_blank, is_empty, begins}
 use Rattle.source_model.specs.Text.{contains, before, from}
-use Rattle.source_model.specs.Grammar.{AreBlanks, ends, HasWord, HasMark}
+use Rattle.source_model.specs.Grammar.{Starts, IsCut, HasWord}
+
+abbrev pub AreBlanks : List ℕ → Type 0
+AreBlanks text = list_all is_blank text ≡ true
+
+abbrev pub ends : (ℕ → Bool) → List ℕ → Bool
+ends test [] = true
+ends test (b ∷ bs) = test b
+
+and-true : (t : Bool) → (t && true) ≡ t
+and-true true = refl
+and-true false = refl
+
+pub ends-is : (test : ℕ → Bool) (text : List ℕ) → list_all test (take 1 text) ≡ ends test text
+ends-is test [] = refl
+ends-is test (b ∷ bs) = and-true (test b)
 
 pub both : (x y : Bool) → (x && y) ≡ true → (x ≡ true) × (y ≡ true)
 both true y h = (refl, h)
@@ -110,13 +125,6 @@ start-solid text b bs e =
     let solid : ends (λ c. not (is_blank c)) (b ∷ bs) ≡ true = subst (λ (l : List ℕ). ends (λ c. not (is_blank c)) l ≡ true) e (end Solid text) in
     not-true (is_blank b) solid
 
-pub all-blank : (text : List ℕ) → from Solid text ≡ [] → AreBlanks text
-all-blank text e = subst AreBlanks (sym (parts Solid text ∙ (ap (λ (l : List ℕ). before Solid text ++ l) e ∙ append-nil (before Solid text)))) (gap-blank text)
-
-pub blank-all : (text : List ℕ) → AreBlanks text → from Solid text ≡ []
-unfolding from
-blank-all text h = ap (from Solid) (sym (append-nil text)) ∙ skip text [] h
-
 -- ---- words and marks
 
 pub record Stops (class : Class) : Type 0 where
@@ -132,15 +140,27 @@ blank-stops = record { blank = λ b h. h }
 pub word-end-stops : Stops WordEnd
 word-end-stops = record { blank = λ b h. or-first (is_blank b) (b == 44) (or-first (is_blank b || (b == 44)) (b == 40) (or-first (is_blank b || (b == 44) || (b == 40)) (b == 41) h)) }
 
+pub starts : (text : List ℕ) → Starts text (from Solid text)
+starts text = (before Solid text, gap-blank text, parts Solid text)
+
+pub cut-given : (class : Class) (text : List ℕ) → IsCut (contains class) text (before class text) (from class text)
+cut-given class text = record { split = parts class text; inside = inside class text; end = ends-is (contains class) (from class text) ∙ end class text }
+
+pub cut-found : (class : Class) (text front rest : List ℕ) → IsCut (contains class) text front rest → (before class text ≡ front) × (from class text ≡ rest)
+cut-found class text front rest h =
+    let ending : ends (contains class) rest ≡ true = sym (ends-is (contains class) rest) ∙ h.end in
+    (ap (before class) h.split ∙ before-is class front rest h.inside ending, ap (from class) h.split ∙ from-is class front rest h.inside ending)
+
+filled : (w : List ℕ) → is_empty w ≡ false → 0 < length w
+filled [] h = cc
+filled (b ∷ bs) h = omega arith
+
+pub not-empty : (w : List ℕ) → 0 < length w → is_empty w ≡ false
+not-empty [] h = absurd (omega (arith, h))
+not-empty (b ∷ bs) h = refl
+
 pub word-given : (class : Class) (text : List ℕ) → is_empty (before class (from Solid text)) ≡ false → HasWord (contains class) text (before class (from Solid text)) (from class (from Solid text))
-word-given class text h = record {
-  gap = before Solid text;
-  split = parts Solid text ∙ ap (λ (l : List ℕ). before Solid text ++ l) (parts class (from Solid text));
-  blanks = gap-blank text;
-  nonempty = h;
-  inside = inside class (from Solid text);
-  end = end class (from Solid text);
-}
+word-given class text h = (from Solid text, starts text, cut-given class (from Solid text), filled (before class (from Solid text)) h)
 
 word-start : (class : Class) (stops : Stops class) (gap w rest : List ℕ) → AreBlanks gap → is_empty w ≡ false → list_all (λ b. not (contains class b)) w ≡ true → from Solid (gap ++ (w ++ rest)) ≡ w ++ rest
 word-start class stops gap [] rest g f h = cc
@@ -150,19 +170,28 @@ word-start class stops gap (b ∷ bs) rest g f h =
 
 pub word-found : (class : Class) (stops : Stops class) (text w rest : List ℕ) → HasWord (contains class) text w rest → (before class (from Solid text) ≡ w) × (from class (from Solid text) ≡ rest)
 word-found class stops text w rest h =
-    let start : from Solid text ≡ w ++ rest = ap (from Solid) h.split ∙ word-start class stops h.gap w rest h.blanks h.nonempty h.inside in
-    (ap (before class) start ∙ before-is class w rest h.inside h.end, ap (from class) start ∙ from-is class w rest h.inside h.end)
+    let gap = h.1 in
+    let cut = h.2 in
+    let split : h.0 ≡ w ++ rest = cut.split in
+    let whole : text ≡ gap.0 ++ (w ++ rest) = gap.2 ∙ ap (λ (l : List ℕ). gap.0 ++ l) split in
+    let start : from Solid text ≡ w ++ rest = ap (from Solid) whole ∙ word-start class stops gap.0 w rest gap.1 (not-empty w h.3) cut.inside in
+    let same : from Solid text ≡ h.0 = start ∙ sym split in
+    let found = cut-found class h.0 w rest cut in
+    (ap (before class) same ∙ found.0, ap (from class) same ∙ found.1)
 
 pub mark-text : (mark : ℕ) (start : List ℕ) → begins mark start ≡ true → start ≡ mark ∷ drop 1 start
 mark-text mark [] h = cc
 mark-text mark (b ∷ bs) h = ap (λ (n : ℕ). n ∷ bs) (eqb-true b mark h)
 
-pub mark-given : (mark : ℕ) (text : List ℕ) → begins mark (from Solid text) ≡ true → HasMark mark text (drop 1 (from Solid text))
-mark-given mark text h = record {
-  gap = before Solid text;
-  split = parts Solid text ∙ ap (λ (l : List ℕ). before Solid text ++ l) (mark-text mark (from Solid text) h);
-  blanks = gap-blank text;
-}
+pub mark-given : (mark : ℕ) (text : List ℕ) → begins mark (from Solid text) ≡ true → Starts text (mark ∷ drop 1 (from Solid text))
+mark-given mark text h = (before Solid text, gap-blank text, parts Solid text ∙ ap (λ (l : List ℕ). before Solid text ++ l) (mark-text mark (from Solid text) h))
 
-pub mark-found : (mark : ℕ) (text rest : List ℕ) → is_blank mark ≡ false → HasMark mark text rest → from Solid text ≡ mark ∷ rest
-mark-found mark text rest solid h = ap (from Solid) h.split ∙ (skip h.gap (mark ∷ rest) h.blanks ∙ stays mark rest solid)
+pub mark-found : (mark : ℕ) (text rest : List ℕ) → is_blank mark ≡ false → Starts text (mark ∷ rest) → from Solid text ≡ mark ∷ rest
+mark-found mark text rest solid h = ap (from Solid) h.2 ∙ (skip h.0 (mark ∷ rest) h.1 ∙ stays mark rest solid)
+
+pub start-blank : (text : List ℕ) → from Solid text ≡ [] → Starts text []
+start-blank text e = (before Solid text, gap-blank text, parts Solid text ∙ ap (λ (l : List ℕ). before Solid text ++ l) e)
+
+pub blank-start : (text : List ℕ) → Starts text [] → from Solid text ≡ []
+unfolding from
+blank-start text h = ap (from Solid) h.2 ∙ skip h.0 [] h.1

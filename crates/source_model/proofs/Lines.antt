@@ -1,10 +1,17 @@
 -- A line that is read from left to right is the one that the grammar names.
 use Rattle.std.proofs.Common.{◌≡◌, ℕ, Bool, true, false, cond, not, ◌&&◌, List, [], ◌∷◌, ◌++◌, Option, Some, None, Ok, Err, refl, sym, ◌∙◌, ap, subst, inl, inr}
-use Rattle.std.specs.Prelude.{◌||◌, ◌==◌, drop, is_some}
+use Rattle.std.specs.Prelude.{◌||◌, ◌==◌, drop, is_some, find, map, codes, if◌then◌else◌}
+use Rattle.std.specs.Str.{bytes_eq}
 use Rattle.std.specs.List.{list_all, list_any}
 use borrow.Author.Tests.{eqb-true}
 use Rattle.source_model.specs.declared.error.AsmErrorKind.TheVariants as kinds
+use Rattle.memory_model.specs.declared.Width.TheVariants as widths
+use Rattle.instruction_model.specs.declared.Comparison.TheVariants as comparisons
+use Rattle.instruction_model.specs.declared.LoadKind.TheVariants as loads
+use Rattle.instruction_model.specs.declared.Operation.TheVariants as operations
+use Rattle.instruction_model.specs.declared.Instruction.TheVariants as instructions_of
 use Rattle.source_model.specs.declared.mnemonic.Mnemonic.{Mnemonic}
+use Rattle.source_model.specs.declared.mnemonic.Mnemonic.TheVariants as words
 use Rattle.source_model.specs.declared.statement.Class.TheVariants.{Solid, Outside, Blank, Comment, Foreign}
 use Rattle.source_model.specs.declared.statement.Statement.TheVariants as statements
 use Rattle.source_model.specs.Bytes.{is_blank, is_letter, is_digit, is_foreign, is_empty, begins, same_text, without_return}
@@ -13,15 +20,60 @@ use Rattle.source_model.specs.Field.{or_fault}
 use Rattle.source_model.specs.Mnemonic.{or_else, operation_of, immediate_of, memory_of, branch_of, other_of, directive_of, mnemonic_of}
 use Rattle.source_model.specs.Statement as old
 use Rattle.source_model.specs.Line.{name_in, rest_in, label_of, body_of, statement_in}
-use Rattle.source_model.specs.Meaning.{Line, nothing}
-use Rattle.source_model.specs.Operand.{Names, operation_names, immediate_names, memory_names, branch_names, other_names, directive_names, mnemonic_in, mnemonic_for, is_label, shape, statement_of}
-use Rattle.source_model.specs.Grammar.{AreBlanks, HasLabel, ends, Read, Asks, IsStatement, LacksLabel, IsBody, IsRead, IsLine}
-use Rattle.source_model.proofs.Cuts.{parts, inside, end, before-is, from-is, skip, stays, gap-blank, start-solid, all-blank, blank-all, both, and-both, mark-text, blank-stops, word-given, word-found}
-use Rattle.source_model.proofs.Words.{words_of, may-be, may-be-one}
-use Rattle.source_model.proofs.Statements.{cap_read, operands-same}
-use Rattle.source_model.proofs.View.{read_view, line_view}
+use Rattle.source_model.specs.Meaning.{Line, Read, Effect, bytes}
+use Rattle.source_model.specs.Operand.{Part, Operands, is_label, Form, instructions, directives, statement_of}
+use Rattle.source_model.specs.Grammar.{Starts, HasLabel, AreOperands, Asks, IsStatement, IsBody, IsRead, IsLine}
+use Rattle.source_model.proofs.Cuts.{AreBlanks, ends, parts, inside, before-is, from-is, skip, stays, gap-blank, start-solid, both, and-both, mark-text, blank-stops, starts, cut-given, cut-found, word-given, word-found, not-empty, start-blank, blank-start}
+use Rattle.source_model.proofs.Words.{words_of, AreSolid, MayBeOperands, may-be, may-be-one}
+use Rattle.source_model.proofs.Alike.{Same, Alike, with_values, nothing-same}
+use Rattle.source_model.proofs.Statements.{shape, shape-solid, effect, read_by, operands-same}
 
--- ---- first words
+-- ---- first words, with what they ask for
+
+abbrev Names : Type 0
+Names = List (List ℕ × Mnemonic)
+
+abbrev operation_names : Names
+operation_names =
+    (codes "add", words.Operate operations.Add) ∷ (codes "sub", words.Operate operations.Sub) ∷ (codes "sll", words.Operate operations.Sll)
+    ∷ (codes "slt", words.Operate operations.Slt) ∷ (codes "sltu", words.Operate operations.Sltu) ∷ (codes "xor", words.Operate operations.Xor)
+    ∷ (codes "srl", words.Operate operations.Srl) ∷ (codes "sra", words.Operate operations.Sra) ∷ (codes "or", words.Operate operations.Or)
+    ∷ (codes "and", words.Operate operations.And) ∷ []
+
+abbrev immediate_names : Names
+immediate_names =
+    (codes "addi", words.OperateImmediate operations.Add) ∷ (codes "slti", words.OperateImmediate operations.Slt)
+    ∷ (codes "sltiu", words.OperateImmediate operations.Sltu) ∷ (codes "xori", words.OperateImmediate operations.Xor)
+    ∷ (codes "ori", words.OperateImmediate operations.Or) ∷ (codes "andi", words.OperateImmediate operations.And)
+    ∷ (codes "slli", words.ShiftImmediate operations.Sll) ∷ (codes "srli", words.ShiftImmediate operations.Srl)
+    ∷ (codes "srai", words.ShiftImmediate operations.Sra) ∷ []
+
+abbrev memory_names : Names
+memory_names =
+    (codes "lb", words.Load loads.Lb) ∷ (codes "lh", words.Load loads.Lh) ∷ (codes "lw", words.Load loads.Lw) ∷ (codes "lbu", words.Load loads.Lbu)
+    ∷ (codes "lhu", words.Load loads.Lhu) ∷ (codes "sb", words.Store widths.One) ∷ (codes "sh", words.Store widths.Two) ∷ (codes "sw", words.Store widths.Four) ∷ []
+
+abbrev branch_names : Names
+branch_names =
+    (codes "beq", words.Branch comparisons.Beq) ∷ (codes "bne", words.Branch comparisons.Bne) ∷ (codes "blt", words.Branch comparisons.Blt)
+    ∷ (codes "bge", words.Branch comparisons.Bge) ∷ (codes "bltu", words.Branch comparisons.Bltu) ∷ (codes "bgeu", words.Branch comparisons.Bgeu) ∷ []
+
+abbrev other_names : Names
+other_names =
+    (codes "jalr", words.Jalr) ∷ (codes "jal", words.Jal) ∷ (codes "lui", words.Lui) ∷ (codes "auipc", words.Auipc)
+    ∷ (codes "fence", words.Alone instructions_of.Fence) ∷ (codes "ecall", words.Alone instructions_of.Ecall) ∷ (codes "ebreak", words.Alone instructions_of.Ebreak) ∷ []
+
+abbrev directive_names : Names
+directive_names =
+    (codes "li", words.LoadImmediate) ∷ (codes ".segment", words.Segment) ∷ (codes ".entry", words.Entry) ∷ (codes ".stack", words.Stack)
+    ∷ (codes ".word", words.Word) ∷ (codes ".byte", words.Byte) ∷ (codes ".zero", words.Zero) ∷ []
+
+abbrev mnemonic_in : Names → List ℕ → Option Mnemonic
+mnemonic_in [] w = None
+mnemonic_in (e ∷ es) w = if bytes_eq w e.0 then Some e.1 else mnemonic_in es w
+
+abbrev mnemonic_for : List ℕ → Option Mnemonic
+mnemonic_for w = mnemonic_in (operation_names ++ (immediate_names ++ (memory_names ++ (branch_names ++ (other_names ++ directive_names))))) w
 
 else-step : (t : Bool) (m a b : Option Mnemonic) (x : Mnemonic) → a ≡ or_else m b → cond t (Some x) a ≡ or_else (cond t (Some x) m) b
 else-step true m a b x e = refl
@@ -32,7 +84,7 @@ in-both [] b w = refl
 in-both (e ∷ es) b w = else-step _ (mnemonic_in es w) (mnemonic_in (es ++ b) w) (mnemonic_in b w) e.1 (in-both es b w)
 
 named-same : (w : List ℕ) → mnemonic_of w ≡ or_fault kinds.Word (mnemonic_for w)
-unfolding mnemonic_of mnemonic_for operation_of immediate_of memory_of branch_of other_of directive_of same_text
+unfolding mnemonic_of operation_of immediate_of memory_of branch_of other_of directive_of same_text
 named-same w = ap (or_fault kinds.Word) (sym (
     in-both operation_names (immediate_names ++ (memory_names ++ (branch_names ++ (other_names ++ directive_names)))) w
     ∙ ap (or_else (mnemonic_in operation_names w)) (in-both immediate_names (memory_names ++ (branch_names ++ (other_names ++ directive_names))) w
@@ -40,34 +92,82 @@ named-same w = ap (or_fault kinds.Word) (sym (
     ∙ ap (or_else (mnemonic_in memory_names w)) (in-both branch_names (other_names ++ directive_names) w
     ∙ ap (or_else (mnemonic_in branch_names w)) (in-both other_names directive_names w))))))
 
+-- ---- forms
+
+abbrev form : List ℕ × Mnemonic → Form
+form e = record { name = e.0; parts = shape e.1; effect = effect e.1 }
+
+abbrev all_names : Names
+all_names = operation_names ++ (immediate_names ++ (memory_names ++ (branch_names ++ (other_names ++ directive_names))))
+
+forms-same : instructions ++ directives ≡ map form all_names
+forms-same = refl
+
+abbrev read_form : Option Form → List ℕ → Read
+read_form None text = Err kinds.Word
+read_form (Some f) text = read_by f.effect (words_of f.parts text)
+
+abbrev found : List Form → List ℕ → Option Form
+found fs w = find (λ f. bytes_eq w f.name) fs
+
+pick : (t : Bool) (m : Mnemonic) (o : Option Mnemonic) (f : Form) (q : Option Form) (text : List ℕ) → Alike (old.operands m text) (read_by f.effect (words_of f.parts text)) → Alike (or_fault kinds.Word o >>= λ m. old.operands m text) (read_form q text)
+    → Alike (or_fault kinds.Word (cond t (Some m) o) >>= λ m. old.operands m text) (read_form (cond t (Some f) q) text)
+pick true m o f q text a b = a
+pick false m o f q text a b = b
+
+lookup-same : (es : Names) (w text : List ℕ) → Alike (or_fault kinds.Word (mnemonic_in es w) >>= λ m. old.operands m text) (read_form (found (map form es) w) text)
+lookup-same [] w text = refl
+lookup-same (e ∷ es) w text = pick (bytes_eq w e.0) e.1 (mnemonic_in es w) (form e) (found (map form es) w) text (operands-same e.1 text) (lookup-same es w text)
+
+-- every form that is found has marks that are no blanks
+abbrev Sound : Option Form → Type 0
+Sound None = Unit {0}
+Sound (Some f) = AreSolid f.parts
+
+sound-step : (t : Bool) (f : Form) (q : Option Form) → AreSolid f.parts → Sound q → Sound (cond t (Some f) q)
+sound-step true f q a b = a
+sound-step false f q a b = b
+
+sound-in : (es : Names) (w : List ℕ) → Sound (found (map form es) w)
+sound-in [] w = tt
+sound-in (e ∷ es) w = sound-step (bytes_eq w e.0) (form e) (found (map form es) w) (shape-solid e.1) (sound-in es w)
+
+sound : (w : List ℕ) → Sound (found (instructions ++ directives) w)
+sound w = subst (λ (fs : List Form). Sound (found fs w)) (sym forms-same) (sound-in all_names w)
+
 -- ---- statements
 
-abbrev pub read_operands : Option Mnemonic → List ℕ → Read
-read_operands None operands = Err kinds.Word
-read_operands (Some m) operands = statement_of m (words_of (shape m) operands)
+abbrev nothing : Read
+nothing = Ok (with_values [] (λ v. bytes []))
 
 abbrev pub read_statement : List ℕ → Read
-read_statement text = cond (is_empty (from Solid text)) (Ok nothing) (read_operands (mnemonic_for (before Blank (from Solid text))) (from Blank (from Solid text)))
+read_statement text = cond (is_empty (from Solid text)) nothing (read_form (found (instructions ++ directives) (before Blank (from Solid text))) (from Blank (from Solid text)))
 
-read_operands-same : (o : Option Mnemonic) (operands : List ℕ) → read_view (or_fault kinds.Word o >>= λ m. old.operands m operands) ≡ cap_read (read_operands o operands)
-read_operands-same None operands = refl
-read_operands-same (Some m) operands = operands-same m operands
+read_statement-step : (t : Bool) (r : old.Read) (q : Read) → Alike r q → Alike (cond t (Ok (statements.Nothing, [])) r) (cond t nothing q)
+read_statement-step true r q h = nothing-same
+read_statement-step false r q h = h
 
-read_statement-step : (t : Bool) (o : Option Mnemonic) (operands : List ℕ) → read_view (cond t (Ok (statements.Nothing, [])) (or_fault kinds.Word o >>= λ m. old.operands m operands)) ≡ cap_read (cond t (Ok nothing) (read_operands o operands))
-read_statement-step true o operands = refl
-read_statement-step false o operands = read_operands-same o operands
-
-read_statement-same : (text : List ℕ) → read_view (old.statement_of text) ≡ cap_read (read_statement text)
+read_statement-same : (text : List ℕ) → Alike (old.statement_of text) (read_statement text)
 unfolding old.statement_of
-read_statement-same text = rw named-same (read_statement-step (is_empty (from Solid text)) (mnemonic_for (before Blank (from Solid text))) (from Blank (from Solid text)))
+read_statement-same text =
+    let start = from Solid text in
+    let w : List ℕ = before Blank start in
+    let rest : List ℕ = from Blank start in
+    rw named-same (read_statement-step (is_empty start) (or_fault kinds.Word (mnemonic_for w) >>= λ m. old.operands m rest) (read_form (found (instructions ++ directives) w) rest)
+    (subst (λ (fs : List Form). Alike (or_fault kinds.Word (mnemonic_for w) >>= λ m. old.operands m rest) (read_form (found fs w) rest)) (sym forms-same) (lookup-same all_names w rest)))
 
-asks-given : (o : Option Mnemonic) (operands : List ℕ) → Asks o operands (read_operands o operands)
-asks-given None operands = refl
-asks-given (Some m) operands = (words_of (shape m) operands, may-be (shape m) operands, refl)
+operands-given : (f : Form) (text : List ℕ) (o : Option Operands) → MayBeOperands f.parts text o → Asks (Some f) text (read_by f.effect o)
+operands-given f text None h = inr (h, refl)
+operands-given f text (Some os) h = inl (os, h, refl)
 
-asks-one : (o : Option Mnemonic) (operands : List ℕ) (r : Read) → Asks o operands r → r ≡ read_operands o operands
-asks-one None operands r h = h
-asks-one (Some m) operands r h = h.2 ∙ ap (statement_of m) (may-be-one (shape m) operands h.0 h.1)
+asks-given : (o : Option Form) (text : List ℕ) → Sound o → Asks o text (read_form o text)
+asks-given None text solid = refl
+asks-given (Some f) text solid = operands-given f text (words_of f.parts text) (may-be f.parts text solid)
+
+asks-one : (o : Option Form) (text : List ℕ) (r : Read) → Sound o → Asks o text r → r ≡ read_form o text
+asks-one None text r solid h = h
+asks-one (Some f) text r solid (inl h) = h.2 ∙ ap (read_by f.effect) (may-be-one f.parts text (Some h.0) solid h.1)
+asks-one (Some f) text r solid (inr h) = h.1 ∙ ap (read_by f.effect) (may-be-one f.parts text None solid h.0)
 
 nonempty-step : (text start : List ℕ) → from Solid text ≡ start → is_empty start ≡ false → is_empty (before Blank start) ≡ false
 unfolding before
@@ -80,9 +180,12 @@ nil-is : (t : List ℕ) → is_empty t ≡ true → t ≡ []
 nil-is [] h = refl
 nil-is (b ∷ bs) h = cc
 
-given-step : (body : List ℕ) (t : Bool) → is_empty (from Solid body) ≡ t → IsStatement body (cond t (Ok nothing) (read_operands (mnemonic_for (before Blank (from Solid body))) (from Blank (from Solid body))))
-given-step body true e = inl (all-blank body (nil-is (from Solid body) e), refl)
-given-step body false e = inr (before Blank (from Solid body), from Blank (from Solid body), word-given Blank body (nonempty-step body (from Solid body) refl e), asks-given (mnemonic_for (before Blank (from Solid body))) (from Blank (from Solid body)))
+given-step : (body : List ℕ) (t : Bool) → is_empty (from Solid body) ≡ t → IsStatement body (cond t nothing (read_form (found (instructions ++ directives) (before Blank (from Solid body))) (from Blank (from Solid body))))
+given-step body true e = inl (start-blank body (nil-is (from Solid body) e), refl)
+given-step body false e =
+    let w : List ℕ = before Blank (from Solid body) in
+    let rest : List ℕ = from Blank (from Solid body) in
+    inr (w, rest, word-given Blank body (nonempty-step body (from Solid body) refl e), asks-given (found (instructions ++ directives) w) rest (sound w))
 
 read_statement-given : (body : List ℕ) → IsStatement body (read_statement body)
 read_statement-given body = given-step body (is_empty (from Solid body)) refl
@@ -93,15 +196,16 @@ still-filled (b ∷ bs) rest h = refl
 
 read_statement-one : (body : List ℕ) (r : Read) → IsStatement body r → r ≡ read_statement body
 read_statement-one body r (inl h) =
-    let nil : from Solid body ≡ [] = blank-all body h.0 in
+    let nil : from Solid body ≡ [] = blank-start body h.0 in
     rw nil h.1
 read_statement-one body r (inr h) =
-    let found = word-found Blank blank-stops body h.0 h.1 h.2 in
-    let front : before Blank (from Solid body) ≡ h.0 = found.0 in
-    let back : from Blank (from Solid body) ≡ h.1 = found.1 in
+    let found_at = word-found Blank blank-stops body h.0 h.1 h.2 in
+    let front : before Blank (from Solid body) ≡ h.0 = found_at.0 in
+    let back : from Blank (from Solid body) ≡ h.1 = found_at.1 in
     let start : from Solid body ≡ h.0 ++ h.1 = parts Blank (from Solid body) ∙ (ap (λ (l : List ℕ). l ++ from Blank (from Solid body)) front ∙ ap (λ (l : List ℕ). h.0 ++ l) back) in
-    let nonempty : is_empty (from Solid body) ≡ false = ap is_empty start ∙ still-filled h.0 h.1 h.2.nonempty in
-    rw (nonempty, front, back) (asks-one (mnemonic_for h.0) h.1 r h.3)
+    let word = h.2 in
+    let nonempty : is_empty (from Solid body) ≡ false = ap is_empty start ∙ still-filled h.0 h.1 (not-empty h.0 word.3) in
+    rw (nonempty, front, back) (asks-one (found (instructions ++ directives) h.0) h.1 r (sound h.0) h.3)
 
 -- ---- labels
 
@@ -174,30 +278,28 @@ found-label name rest h =
 label-found : (text name rest : List ℕ) → HasLabel text name rest → label_at text ≡ Some (name, rest)
 unfolding label_at
 label-found text name rest h =
-    let start : from Solid text ≡ name ++ (h.space ++ 58 ∷ rest) = ap (from Solid) h.split ∙ (skip h.gap (name ++ (h.space ++ 58 ∷ rest)) h.first ∙ name-stays name (h.space ++ 58 ∷ rest) h.label) in
-    let all : list_all (λ c. not (contains Outside c)) name ≡ true = inside-same name ∙ label-inside name h.label in
-    let ending : ends (contains Outside) (h.space ++ 58 ∷ rest) ≡ true = space-ends h.space rest h.second in
-    let front : before Outside (from Solid text) ≡ name = ap (before Outside) start ∙ before-is Outside name (h.space ++ 58 ∷ rest) all ending in
-    let back : from Solid (from Outside (from Solid text)) ≡ 58 ∷ rest = ap (λ (l : List ℕ). from Solid (from Outside l)) start ∙ (ap (from Solid) (from-is Outside name (h.space ++ 58 ∷ rest) all ending) ∙ (skip h.space (58 ∷ rest) h.second ∙ stays 58 rest refl)) in
+    let gap = h.2 in
+    let space = h.3 in
+    let after : h.0 ≡ space.0 ++ 58 ∷ rest = space.2 in
+    let start : from Solid text ≡ name ++ h.0 = ap (from Solid) gap.2 ∙ (skip gap.0 (name ++ h.0) gap.1 ∙ name-stays name h.0 h.1) in
+    let all : list_all (λ c. not (contains Outside c)) name ≡ true = inside-same name ∙ label-inside name h.1 in
+    let ending : ends (contains Outside) h.0 ≡ true = ap (ends (contains Outside)) after ∙ space-ends space.0 rest space.1 in
+    let front : before Outside (from Solid text) ≡ name = ap (before Outside) start ∙ before-is Outside name h.0 all ending in
+    let back : from Solid (from Outside (from Solid text)) ≡ 58 ∷ rest = ap (λ (l : List ℕ). from Solid (from Outside l)) start ∙ (ap (from Solid) (from-is Outside name h.0 all ending) ∙ (ap (from Solid) after ∙ (skip space.0 (58 ∷ rest) space.1 ∙ stays 58 rest refl))) in
     let p : List ℕ × List ℕ = (before Outside (from Solid text), drop 1 (from Solid (from Outside (from Solid text)))) in
-    pair-same (has_first_letter (before Outside (from Solid text)) && begins 58 (from Solid (from Outside (from Solid text)))) p ∙ rw (front, back) (found-label name rest h.label)
+    pair-same (has_first_letter (before Outside (from Solid text)) && begins 58 (from Solid (from Outside (from Solid text)))) p ∙ rw (front, back) (found-label name rest h.1)
 
 label-made-of : (text : List ℕ) → (has_first_letter (before Outside (from Solid text)) && begins 58 (from Solid (from Outside (from Solid text)))) ≡ true → HasLabel text (before Outside (from Solid text)) (drop 1 (from Solid (from Outside (from Solid text))))
 label-made-of text e =
     let start = from Solid text in
     let after = from Outside start in
     let ok = both (has_first_letter (before Outside start)) (begins 58 (from Solid after)) e in
-    let colon : from Solid after ≡ 58 ∷ drop 1 (from Solid after) = mark-text 58 (from Solid after) ok.1 in
-    let tail : after ≡ before Solid after ++ 58 ∷ drop 1 (from Solid after) = parts Solid after ∙ ap (λ (l : List ℕ). before Solid after ++ l) colon in
-    let middle : start ≡ before Outside start ++ (before Solid after ++ 58 ∷ drop 1 (from Solid after)) = parts Outside start ∙ ap (λ (l : List ℕ). before Outside start ++ l) tail in
-    record {
-      gap = before Solid text;
-      space = before Solid after;
-      split = parts Solid text ∙ ap (λ (l : List ℕ). before Solid text ++ l) middle;
-      label = label-made (before Outside start) ok.0 (sym (inside-same (before Outside start)) ∙ inside Outside start);
-      first = gap-blank text;
-      second = gap-blank after;
-    }
+    let colon : from Solid after ≡ 58 ∷ drop 1 (from Solid after) = mark-text 58 (from Solid after) ok.1 in (
+      after,
+      label-made (before Outside start) ok.0 (sym (inside-same (before Outside start)) ∙ inside Outside start),
+      (before Solid text, gap-blank text, parts Solid text ∙ ap (λ (l : List ℕ). before Solid text ++ l) (parts Outside start)),
+      (before Solid after, gap-blank after, parts Solid after ∙ ap (λ (l : List ℕ). before Solid after ++ l) colon),
+    )
 
 pair-is : (t : Bool) (a b name rest : List ℕ) → pair_if t a b ≡ Some (name, rest) → (t ≡ true) × (a ≡ name) × (b ≡ rest)
 pair-is true a b name rest h =
@@ -219,7 +321,10 @@ label-given text name rest h =
 none-some : (x : List ℕ × List ℕ) (o : Option (List ℕ × List ℕ)) → o ≡ None → o ≡ Some x → ⊥
 none-some x o e f = cc
 
-lacks-from : (text : List ℕ) → label_at text ≡ None → LacksLabel text
+abbrev Lacks : List ℕ → Type 0
+Lacks text = (name rest : List ℕ) → HasLabel text name rest → ⊥
+
+lacks-from : (text : List ℕ) → label_at text ≡ None → Lacks text
 lacks-from text e = λ name rest h. let p : List ℕ × List ℕ = (name, rest) in none-some p (label_at text) e (label-found text name rest h)
 
 -- ---- the body behind a label
@@ -244,43 +349,53 @@ body-one code (Some p) (Some name) body e h =
 
 -- ---- what is read beside a label
 
+-- what a line is read as, whether it has a byte that is not ASCII, and what stands behind its label
 abbrev pub read_behind : Bool → List ℕ → Read
 read_behind foreign body = cond foreign (Err kinds.Word) (cond (is_some (label_at body)) (Err kinds.Word) (read_statement body))
 
-given-behind : (body : List ℕ) (q : Option (List ℕ × List ℕ)) → label_at body ≡ q → IsRead false body (cond (is_some q) (Err kinds.Word) (read_statement body))
-given-behind body None e = inr (lacks-from body e, read_statement-given body)
-given-behind body (Some p) e = inl (p.0, p.1, label-given body p.0 p.1 e, refl)
+abbrev read_rest : List ℕ → Option (List ℕ × List ℕ) → Bool → Read
+read_rest body q foreign = cond (foreign || is_some (name_in q)) (Err kinds.Word) (read_statement (rest_in body q))
 
-read-given : (foreign : Bool) (body : List ℕ) → IsRead foreign body (read_behind foreign body)
-read-given true body = refl
-read-given false body = given-behind body (label_at body) refl
+rest-same : (body : List ℕ) (q : Option (List ℕ × List ℕ)) (foreign : Bool) → read_rest body q foreign ≡ cond foreign (Err kinds.Word) (cond (is_some q) (Err kinds.Word) (read_statement body))
+rest-same body q true = refl
+rest-same body None false = refl
+rest-same body (Some p) false = refl
 
-one-behind : (body : List ℕ) (q : Option (List ℕ × List ℕ)) (r : Read) → label_at body ≡ q → IsRead false body r → r ≡ cond (is_some q) (Err kinds.Word) (read_statement body)
-one-behind body None r e (inl h) = absurd (lacks-from body e h.0 h.1 h.2)
-one-behind body None r e (inr h) = read_statement-one body r h.1
-one-behind body (Some p) r e (inl h) = h.3
-one-behind body (Some p) r e (inr h) = absurd (h.0 p.0 p.1 (label-given body p.0 p.1 e))
+read-step : (t : Bool) (rest : List ℕ) → IsRead t rest (cond t (Err kinds.Word) (read_statement rest))
+read-step true rest = refl
+read-step false rest = read_statement-given rest
 
-read-one : (foreign : Bool) (body : List ℕ) (r : Read) → IsRead foreign body r → r ≡ read_behind foreign body
-read-one true body r h = h
-read-one false body r h = one-behind body (label_at body) r refl h
+read-given : (foreign : Bool) (body : List ℕ) → IsRead (foreign || is_some (name_in (label_at body))) (rest_in body (label_at body)) (read_behind foreign body)
+read-given foreign body = subst (λ (r : Read). IsRead (foreign || is_some (name_in (label_at body))) (rest_in body (label_at body)) r) (rest-same body (label_at body) foreign) (read-step (foreign || is_some (name_in (label_at body))) (rest_in body (label_at body)))
+
+one-step : (t : Bool) (rest : List ℕ) (r : Read) → IsRead t rest r → r ≡ cond t (Err kinds.Word) (read_statement rest)
+one-step true rest r h = h
+one-step false rest r h = read_statement-one rest r h
+
+read-one : (foreign : Bool) (body : List ℕ) (second : Option (List ℕ)) (rest : List ℕ) (r : Read) → IsBody body second rest → IsRead (foreign || is_some second) rest r → r ≡ read_behind foreign body
+read-one foreign body second rest r other h =
+    let same = body-one body (label_at body) second rest refl other in
+    one-step (foreign || is_some second) rest r h
+    ∙ (ap (λ (o : Option (List ℕ)). cond (foreign || is_some o) (Err kinds.Word) (read_statement rest)) same.of_name
+    ∙ (ap (λ (l : List ℕ). cond (foreign || is_some (name_in (label_at body))) (Err kinds.Word) (read_statement l)) same.of_body ∙ rest-same body (label_at body) foreign))
 
 -- ---- lines
 
-abbrev pub line_in : List ℕ → Line
-line_in text = record { name = name_in (label_at (code_of text)); statement = read_behind (list_any is_foreign text) (rest_in (code_of text) (label_at (code_of text))) }
+unfoldable pub line_in : List ℕ → Line
+line_in text = record { name = label_of text; statement = read_behind (list_any is_foreign text) (body_of text) }
 
 pub line-given : (text : List ℕ) → IsLine text (line_in text)
-unfolding code_of
+unfolding line_in label_of body_of code_of without_return
 line-given text = record {
   code = code_of text;
   comment = from Comment (without_return text);
-  body = rest_in (code_of text) (label_at (code_of text));
-  split = parts Comment (without_return text);
-  inside = inside Comment (without_return text);
-  end = end Comment (without_return text);
+  body = body_of text;
+  second = name_in (label_at (body_of text));
+  rest = rest_in (body_of text) (label_at (body_of text));
+  cut = cut-given Comment (without_return text);
   label = body-at (code_of text) (label_at (code_of text)) refl;
-  statement = read-given (list_any is_foreign text) (rest_in (code_of text) (label_at (code_of text)));
+  other = body-at (body_of text) (label_at (body_of text)) refl;
+  statement = read-given (list_any is_foreign text) (body_of text);
 }
 
 abbrev line_at : Option (List ℕ) → Read → Line
@@ -290,19 +405,15 @@ same-line : (a b : Option (List ℕ)) (r s : Read) → a ≡ b → r ≡ s → l
 same-line a b r s e f = rw (e, f) refl
 
 pub line-one : (text : List ℕ) (line : Line) → IsLine text line → line ≡ line_in text
-unfolding code_of
+unfolding line_in label_of body_of code_of without_return
 line-one text line h =
-    let code : code_of text ≡ h.code = ap (before Comment) h.split ∙ before-is Comment h.code h.comment h.inside h.end in
+    let code : code_of text ≡ h.code = (cut-found Comment (without_return text) h.code h.comment h.cut).0 in
     let is : IsBody (code_of text) line.name h.body = subst (λ (c : List ℕ). IsBody c line.name h.body) (sym code) h.label in
     let same = body-one (code_of text) (label_at (code_of text)) line.name h.body refl is in
-    let r : line.statement ≡ read_behind (list_any is_foreign text) h.body = read-one (list_any is_foreign text) h.body line.statement h.statement in
-    same-line line.name (name_in (label_at (code_of text))) line.statement (read_behind (list_any is_foreign text) (rest_in (code_of text) (label_at (code_of text))))
-    same.of_name (r ∙ ap (read_behind (list_any is_foreign text)) same.of_body)
+    let r : line.statement ≡ read_behind (list_any is_foreign text) h.body = read-one (list_any is_foreign text) h.body h.second h.rest line.statement h.other h.statement in
+    same-line line.name (label_of text) line.statement (read_behind (list_any is_foreign text) (body_of text)) same.of_name (r ∙ ap (read_behind (list_any is_foreign text)) same.of_body)
 
--- ---- what is read is that line, with short numbers
-
-abbrev pub cap_line : Line → Line
-cap_line l = record { name = l.name; statement = cap_read l.statement }
+-- ---- what is read is that line
 
 foreign-step : (t u : Bool) (b : ℕ) (bs x : List ℕ) → not (is_empty x) ≡ u → not (is_empty (cond t (b ∷ bs) x)) ≡ (t || u)
 foreign-step true u b bs x e = refl
@@ -313,15 +424,15 @@ unfolding from
 foreign-same [] = refl
 foreign-same (b ∷ bs) = foreign-step (is_foreign b) (list_any is_foreign bs) b bs (from Foreign bs) (foreign-same bs)
 
-view-step : (t u : Bool) (r : old.Read) (s : Read) → read_view r ≡ cap_read s → read_view (cond t (Err kinds.Word) (cond u (Err kinds.Word) r)) ≡ cap_read (cond t (Err kinds.Word) (cond u (Err kinds.Word) s))
-view-step true u r s e = refl
-view-step false true r s e = refl
-view-step false false r s e = e
+alike-step : (t u : Bool) (r : old.Read) (s : Read) → Alike r s → Alike (cond t (Err kinds.Word) (cond u (Err kinds.Word) r)) (cond t (Err kinds.Word) (cond u (Err kinds.Word) s))
+alike-step true u r s e = refl
+alike-step false true r s e = refl
+alike-step false false r s e = e
 
-statement-same : (text : List ℕ) → read_view (statement_in text) ≡ cap_read (line_in text).statement
-unfolding statement_in body_of
-statement-same text = rw foreign-same (view-step (list_any is_foreign text) (is_some (label_at (rest_in (code_of text) (label_at (code_of text))))) (old.statement_of (rest_in (code_of text) (label_at (code_of text)))) (read_statement (rest_in (code_of text) (label_at (code_of text)))) (read_statement-same (rest_in (code_of text) (label_at (code_of text)))))
+pub statement-same : (text : List ℕ) → Alike (statement_in text) (line_in text).statement
+unfolding statement_in line_in
+statement-same text = rw foreign-same (alike-step (list_any is_foreign text) (is_some (label_at (body_of text))) (old.statement_of (body_of text)) (read_statement (body_of text)) (read_statement-same (body_of text)))
 
-pub view-same : (text : List ℕ) → line_view text ≡ cap_line (line_in text)
-unfolding line_view label_of
-view-same text = same-line (name_in (label_at (code_of text))) (name_in (label_at (code_of text))) (read_view (statement_in text)) (cap_read (line_in text).statement) refl (statement-same text)
+pub name-same : (text : List ℕ) → label_of text ≡ (line_in text).name
+unfolding line_in
+name-same text = refl

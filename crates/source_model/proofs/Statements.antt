@@ -1,8 +1,8 @@
--- A statement that is read from left to right is the one that its operands ask for. A permission above 3 is read as 4, and more than 2 ^ 32
--- zeros as 2 ^ 32 + 1.
-use Rattle.std.proofs.Common.{◌≡◌, ℕ, ◌+◌, ◌^◌, ◌*◌, Bool, true, false, cond, not, ◌&&◌, List, [], ◌∷◌, Option, Some, None, Result, Ok, Err, refl, sym, ◌∙◌, ap, arith}
-use Rattle.std.specs.Prelude.{min, ◌||◌, ◌-◌, ◌==◌, is_none, option_map, option_and_then}
+-- A statement that is read from left to right is the one that its operands ask for.
+use Rattle.std.proofs.Common.{◌≡◌, ℕ, ◌+◌, ◌^◌, ◌*◌, Bool, true, false, cond, not, ◌&&◌, List, [], ◌∷◌, ◌++◌, Option, Some, None, Result, Ok, Err, refl, sym, ◌∙◌, ap, subst, arith}
+use Rattle.std.specs.Prelude.{min, ◌||◌, ◌-◌, ◌==◌, is_none, option_map, option_and_then, replicate}
 use Rattle.std.specs.List.{list_all}
+use Rattle.std.specs.Int.{w32, to_le_bytes}
 use Rattle.instruction_model.specs.declared.Comparison.{Comparison}
 use Rattle.instruction_model.specs.declared.Instruction.{Instruction}
 use Rattle.instruction_model.specs.declared.Instruction.TheVariants as instructions
@@ -17,7 +17,7 @@ use Rattle.source_model.specs.declared.statement.Statement as read
 use Rattle.source_model.specs.declared.statement.Statement.TheVariants as statements
 use Rattle.source_model.specs.declared.statement.Value as values
 use Rattle.source_model.specs.declared.statement.Value.TheVariants as value_forms
-use Rattle.source_model.specs.Bytes.{is_empty, is_letter, is_digit}
+use Rattle.source_model.specs.Bytes.{is_empty, is_blank, is_letter, is_digit}
 use Rattle.source_model.specs.Text as texts
 use Rattle.source_model.specs.Text.{◌>>=◌, contains, from, one_word, two_apart, two_words, three_words, word_and_address}
 use Rattle.source_model.specs.Number.{number_of, in_range, natural_of}
@@ -26,21 +26,74 @@ use Rattle.source_model.specs.Register.{register_in}
 use Rattle.source_model.specs.Statement.{Read, operate, operate_immediate, shift_immediate, address_of, load, jump_to_register, store, branch, jump, upper, load_upper, add_upper, alone, load_immediate, segment, entry, stack, word, byte, zeros, operands}
 use Rattle.source_model.specs.Statement as old
 use Rattle.source_model.specs.Meaning as model
-use Rattle.source_model.specs.Meaning.{Value, Statement, number, label}
+use Rattle.source_model.specs.Meaning.{Value, number, label, distance, Effect, bytes, Labels, effect_of, worth_of, is_too_far}
 use Rattle.source_model.specs.Operand as parts
-use Rattle.source_model.specs.Operand.{Part, register, natural, value, is_label, shape, statement_with, Operands, or_number, statement_of}
-use Rattle.source_model.proofs.View.{value_view, statement_view, read_view}
-use Rattle.source_model.proofs.Words.{words_of}
+use Rattle.source_model.specs.Operand.{Part, mark, comma, left, right, register, natural, value, target, number_in, is_label, value_in, Operands, statement_of, instruction}
+use Rattle.source_model.proofs.Words.{Word, words_of, AreSolid}
 use Rattle.source_model.proofs.Shapes.{Agree, one, two, three, one-agrees, two-agrees, three-agrees, apart-agrees, address-agrees}
+use Rattle.source_model.proofs.Alike.{value_view, Same, Alike, with_values, plain, byte-same, loading, load-same, word-same, entry-same, stack-same, branch-same, jump-same, segment-same, zeros-same}
 
-abbrev pub cap : Statement → Statement
-cap (model.segment a p) = model.segment a (min p 4)
-cap (model.zeros n) = model.zeros (min n (2 ^ 32 + 1))
-cap s = s
+-- ---- forms, by what their first words ask for
 
-abbrev pub cap_read : Result Statement AsmErrorKind → Result Statement AsmErrorKind
-cap_read (Ok s) = Ok (cap s)
-cap_read (Err kind) = Err kind
+abbrev pub shape : Mnemonic → List Part
+shape (words.Operate o) = register ∷ comma ∷ register ∷ comma ∷ register ∷ []
+shape (words.OperateImmediate o) = register ∷ comma ∷ register ∷ comma ∷ parts.field 2048 2047 ∷ []
+shape (words.ShiftImmediate o) = register ∷ comma ∷ register ∷ comma ∷ parts.field 0 31 ∷ []
+shape (words.Load k) = register ∷ comma ∷ parts.field 2048 2047 ∷ left ∷ register ∷ right ∷ []
+shape (words.Store width) = register ∷ comma ∷ parts.field 2048 2047 ∷ left ∷ register ∷ right ∷ []
+shape words.Jalr = register ∷ comma ∷ parts.field 2048 2047 ∷ left ∷ register ∷ right ∷ []
+shape (words.Branch c) = register ∷ comma ∷ register ∷ comma ∷ target (2 ^ 12) ∷ []
+shape words.Jal = register ∷ comma ∷ target (2 ^ 20) ∷ []
+shape words.LoadImmediate = register ∷ comma ∷ value ∷ []
+shape words.Lui = register ∷ comma ∷ parts.field 0 (2 ^ 20 - 1) ∷ []
+shape words.Auipc = register ∷ comma ∷ parts.field 0 (2 ^ 20 - 1) ∷ []
+shape (words.Alone i) = []
+shape words.Segment = parts.field 0 (2 ^ 32 - 1) ∷ natural ∷ []
+shape words.Entry = value ∷ []
+shape words.Stack = value ∷ []
+shape words.Word = value ∷ []
+shape words.Byte = parts.field 0 255 ∷ []
+shape words.Zero = natural ∷ []
+
+pub shape-solid : (m : Mnemonic) → AreSolid (shape m)
+shape-solid (words.Operate o) = (refl, (refl, tt))
+shape-solid (words.OperateImmediate o) = (refl, (refl, tt))
+shape-solid (words.ShiftImmediate o) = (refl, (refl, tt))
+shape-solid (words.Load k) = (refl, (refl, (refl, tt)))
+shape-solid (words.Store width) = (refl, (refl, (refl, tt)))
+shape-solid words.Jalr = (refl, (refl, (refl, tt)))
+shape-solid (words.Branch c) = (refl, (refl, tt))
+shape-solid words.Jal = (refl, tt)
+shape-solid words.LoadImmediate = (refl, tt)
+shape-solid words.Lui = (refl, tt)
+shape-solid words.Auipc = (refl, tt)
+shape-solid (words.Alone i) = tt
+shape-solid words.Segment = tt
+shape-solid words.Entry = tt
+shape-solid words.Stack = tt
+shape-solid words.Word = tt
+shape-solid words.Byte = tt
+shape-solid words.Zero = tt
+
+abbrev pub effect : Mnemonic → (ℕ → ℕ) → Effect
+effect (words.Operate o) v = bytes (instruction (instructions.Operate o (v 0) (v 1) (v 2)))
+effect (words.OperateImmediate o) v = bytes (instruction (instructions.OperateImmediate o (v 0) (v 1) (v 2)))
+effect (words.ShiftImmediate o) v = bytes (instruction (instructions.OperateImmediate o (v 0) (v 1) (v 2)))
+effect (words.Load k) v = bytes (instruction (instructions.Load k (v 0) (v 2) (v 1)))
+effect (words.Store width) v = bytes (instruction (instructions.Store width (v 2) (v 0) (v 1)))
+effect words.Jalr v = bytes (instruction (instructions.Jalr (v 0) (v 2) (v 1)))
+effect (words.Branch c) v = bytes (instruction (instructions.Branch c (v 0) (v 1) (v 2)))
+effect words.Jal v = bytes (instruction (instructions.Jal (v 0) (v 1)))
+effect words.LoadImmediate v = bytes (loading (v 0) (v 1))
+effect words.Lui v = bytes (instruction (instructions.Lui (v 0) (4096 * v 1)))
+effect words.Auipc v = bytes (instruction (instructions.Auipc (v 0) (4096 * v 1)))
+effect (words.Alone i) v = bytes (instruction i)
+effect words.Segment v = model.segment (v 0) (v 1)
+effect words.Entry v = model.entry (v 0)
+effect words.Stack v = model.stack (v 0)
+effect words.Word v = bytes (to_le_bytes w32 (v 0))
+effect words.Byte v = bytes (v 0 ∷ [])
+effect words.Zero v = bytes (replicate (v 0) 0)
 
 -- ---- labels
 
@@ -65,20 +118,20 @@ label-same (b ∷ bs) = first-step b bs (is_letter b) refl ∙ ap (λ (t : Bool)
 
 -- ---- results
 
-abbrev result_of : Mnemonic → Bool → Option (List Value) → Result Statement AsmErrorKind
-result_of m lacks vs = cond lacks (Err kinds.Register) (or_number (option_map (statement_with m) vs))
-
-abbrev list1 : Option Value → Option (List Value)
-list1 a = option_and_then (λ v. option_map (λ vs. v ∷ vs) (Some [])) a
-
-abbrev list2 : Option Value → Option Value → Option (List Value)
-list2 a b = option_and_then (λ v. option_map (λ vs. v ∷ vs) (list1 b)) a
-
-abbrev list3 : Option Value → Option Value → Option Value → Option (List Value)
-list3 a b c = option_and_then (λ v. option_map (λ vs. v ∷ vs) (list2 b c)) a
+-- what operands or their absence ask for
+abbrev pub read_by : ((ℕ → ℕ) → Effect) → Option Operands → model.Read
+read_by f None = Err kinds.Operand
+read_by f (Some os) = statement_of f os
 
 abbrev num : Option ℕ → Option Value
 num o = option_map (λ n. number n) o
+
+-- operands: a register, and what is none
+abbrev r : Option ℕ → Bool × Option Value
+r o = (true, num o)
+
+abbrev n : Option ℕ → Bool × Option Value
+n o = (false, num o)
 
 abbrev reg : Option ℕ → Result ℕ AsmErrorKind
 reg o = or_fault kinds.Register o
@@ -86,9 +139,9 @@ reg o = or_fault kinds.Register o
 abbrev fit : Option ℕ → Result ℕ AsmErrorKind
 fit o = or_fault kinds.Number o
 
-by : {X : Type 0} (f : X → Operands) (r : Result X AsmErrorKind) (o : Option Operands) (g : X → Read) (m : Mnemonic) → Agree f r o → ((x : X) → read_view (g x) ≡ cap_read (statement_of m (Some (f x)))) → read_view (r >>= g) ≡ cap_read (statement_of m o)
-by f (Ok x) o g m e h = rw e (h x)
-by f (Err kind) o g m e h = rw (e.0, e.1) refl
+by : {X : Type 0} (f : X → Operands) (r : Result X AsmErrorKind) (o : Option Operands) (g : X → Read) (e : (ℕ → ℕ) → Effect) → Agree f r o → ((x : X) → Alike (g x) (statement_of e (f x))) → Alike (r >>= g) (read_by e o)
+by f (Ok x) o g e a h = subst (λ (q : Option Operands). Alike (g x) (read_by e q)) (sym a) (h x)
+by f (Err kind) o g e a h = subst (λ (q : Option Operands). Alike (Err kind) (read_by e q)) (sym a.1) a.0
 
 bind-twice : {X Y Z : Type 0} (r : Result X AsmErrorKind) (f : X → Result Y AsmErrorKind) (g : Y → Result Z AsmErrorKind) → ((r >>= f) >>= g) ≡ (r >>= λ x. f x >>= g)
 bind-twice (Ok x) f g = refl
@@ -96,19 +149,23 @@ bind-twice (Err kind) f g = refl
 
 -- ---- three words
 
-three-registers : (m : Mnemonic) (make : ℕ → ℕ → ℕ → Instruction) (a b c : Option ℕ) → ((x y z : ℕ) → cap (statement_with m (number x ∷ number y ∷ number z ∷ [])) ≡ model.plain (make x y z))
-    → read_view (reg a >>= λ x. reg b >>= λ y. reg c >>= λ z. old.plain (make x y z)) ≡ cap_read (result_of m (is_none a || (is_none b || (is_none c || false))) (list3 (num a) (num b) (num c)))
-three-registers m make None b c h = refl
-three-registers m make (Some x) None c h = refl
-three-registers m make (Some x) (Some y) None h = refl
-three-registers m make (Some x) (Some y) (Some z) h = rw (h x y z) refl
+-- an instruction of three numbers
+three-same : (make : ℕ → ℕ → ℕ → Instruction) (x y z : ℕ) → Same (statements.Plain (make x y z)) [] (with_values (number x ∷ number y ∷ number z ∷ []) (λ v. bytes (instruction (make (v 0) (v 1) (v 2)))))
+three-same make x y z = plain (make x y z) (with_values (number x ∷ number y ∷ number z ∷ []) (λ v. bytes (instruction (make (v 0) (v 1) (v 2))))) (λ labels here. refl) (λ labels here. refl) (λ labels here. refl)
 
-registers-number : (m : Mnemonic) (make : ℕ → ℕ → ℕ → Instruction) (a b c : Option ℕ) → ((x y z : ℕ) → cap (statement_with m (number x ∷ number y ∷ number z ∷ [])) ≡ model.plain (make x y z))
-    → read_view (reg a >>= λ x. reg b >>= λ y. fit c >>= λ z. old.plain (make x y z)) ≡ cap_read (result_of m (is_none a || (is_none b || (false || false))) (list3 (num a) (num b) (num c)))
-registers-number m make None b c h = refl
-registers-number m make (Some x) None c h = refl
-registers-number m make (Some x) (Some y) None h = refl
-registers-number m make (Some x) (Some y) (Some z) h = rw (h x y z) refl
+three-registers : (make : ℕ → ℕ → ℕ → Instruction) (a b c : Option ℕ)
+    → Alike (reg a >>= λ x. reg b >>= λ y. reg c >>= λ z. old.plain (make x y z)) (statement_of (λ v. bytes (instruction (make (v 0) (v 1) (v 2)))) (r a ∷ r b ∷ r c ∷ []))
+three-registers make None b c = refl
+three-registers make (Some x) None c = refl
+three-registers make (Some x) (Some y) None = refl
+three-registers make (Some x) (Some y) (Some z) = three-same make x y z
+
+registers-number : (make : ℕ → ℕ → ℕ → Instruction) (a b c : Option ℕ)
+    → Alike (reg a >>= λ x. reg b >>= λ y. fit c >>= λ z. old.plain (make x y z)) (statement_of (λ v. bytes (instruction (make (v 0) (v 1) (v 2)))) (r a ∷ r b ∷ n c ∷ []))
+registers-number make None b c = refl
+registers-number make (Some x) None c = refl
+registers-number make (Some x) (Some y) None = refl
+registers-number make (Some x) (Some y) (Some z) = three-same make x y z
 
 abbrev triple : ℕ → ℕ → ℕ → Result (ℕ × ℕ × ℕ) AsmErrorKind
 triple x y z = Ok (x, y, z)
@@ -116,44 +173,54 @@ triple x y z = Ok (x, y, z)
 abbrev pair : ℕ → ℕ → Result (ℕ × ℕ) AsmErrorKind
 pair x y = Ok (x, y)
 
-abbrev okay : Statement → Result Statement AsmErrorKind
-okay s = Ok s
+address-number : (make : ℕ → ℕ → ℕ → Instruction) (a c b : Option ℕ)
+    → Alike ((reg a >>= λ x. reg b >>= λ y. fit c >>= λ z. triple x y z) >>= λ t. old.plain (make t.0 t.1 t.2)) (statement_of (λ v. bytes (instruction (make (v 0) (v 2) (v 1)))) (r a ∷ n c ∷ r b ∷ []))
+address-number make None c b = refl
+address-number make (Some x) None None = refl
+address-number make (Some x) (Some z) None = refl
+address-number make (Some x) None (Some y) = refl
+address-number make (Some x) (Some z) (Some y) = plain (make x y z) (with_values (number x ∷ number z ∷ number y ∷ []) (λ v. bytes (instruction (make (v 0) (v 2) (v 1))))) (λ labels here. refl) (λ labels here. refl) (λ labels here. refl)
 
-address-number : (m : Mnemonic) (make : ℕ → ℕ → ℕ → Instruction) (a n b : Option ℕ) → ((x y z : ℕ) → cap (statement_with m (number x ∷ number z ∷ number y ∷ [])) ≡ model.plain (make x y z))
-    → read_view ((reg a >>= λ x. reg b >>= λ y. fit n >>= λ z. triple x y z) >>= λ t. old.plain (make t.0 t.1 t.2)) ≡ cap_read (result_of m (is_none a || (false || (is_none b || false))) (list3 (num a) (num n) (num b)))
-address-number m make None n b h = refl
-address-number m make (Some x) n None h = refl
-address-number m make (Some x) None (Some y) h = refl
-address-number m make (Some x) (Some z) (Some y) h = rw (h x y z) refl
-
+-- a label or a number, as it is read and as an operand is
 abbrev either : Bool → Option ℕ → Result values.Value AsmErrorKind
-either t n = cond t (Ok value_forms.Label) (fit n >>= λ n. Ok (value_forms.Number n))
+either t o = cond t (Ok value_forms.Label) (fit o >>= λ n. Ok (value_forms.Number n))
 
 abbrev either_value : List ℕ → Bool → Option ℕ → Option Value
-either_value w t n = cond t (Some (label w)) (num n)
+either_value w t o = cond t (Some (label w)) (num o)
 
-branch-is : (c : Comparison) (w : List ℕ) (a b : Option ℕ) (t : Bool) (n : Option ℕ)
-    → read_view (reg a >>= λ x. reg b >>= λ y. either t n >>= λ v. Ok (statements.Branch c x y v, w)) ≡ cap_read (result_of (words.Branch c) (is_none a || (is_none b || (false || false))) (list3 (num a) (num b) (either_value w t n)))
-branch-is c w None b t n = refl
-branch-is c w (Some x) None t n = refl
-branch-is c w (Some x) (Some y) true n = refl
+abbrev v : List ℕ → Bool → Option ℕ → Bool × Option Value
+v w t o = (false, either_value w t o)
+
+abbrev far : ℕ → List ℕ → Bool → Option ℕ → Bool × Option Value
+far reach w t o = (false, option_map (distance reach) (either_value w t o))
+
+branch-is : (c : Comparison) (w : List ℕ) (a b : Option ℕ) (t : Bool) (o : Option ℕ)
+    → Alike (reg a >>= λ x. reg b >>= λ y. either t o >>= λ z. Ok (statements.Branch c x y z, w)) (statement_of (effect (words.Branch c)) (r a ∷ r b ∷ far (2 ^ 12) w t o ∷ []))
+branch-is c w None b t o = refl
+branch-is c w (Some x) None t o = refl
+branch-is c w (Some x) (Some y) true o = branch-same c x y w value_forms.Label
 branch-is c w (Some x) (Some y) false None = refl
-branch-is c w (Some x) (Some y) false (Some n) = refl
+branch-is c w (Some x) (Some y) false (Some z) = branch-same c x y w (value_forms.Number z)
 
 -- ---- two words
 
-register-value : (m : Mnemonic) (make : ℕ → values.Value → read.Statement) (w : List ℕ) (a : Option ℕ) (t : Bool) (n : Option ℕ) → ((x : ℕ) (v : values.Value) → cap (statement_with m (number x ∷ value_view w v ∷ [])) ≡ statement_view w (make x v))
-    → read_view (reg a >>= λ x. either t n >>= λ v. Ok (make x v, w)) ≡ cap_read (result_of m (is_none a || (false || false)) (list2 (num a) (either_value w t n)))
-register-value m make w None t n h = refl
-register-value m make w (Some x) true n h = ap okay (sym (h x value_forms.Label))
-register-value m make w (Some x) false None h = refl
-register-value m make w (Some x) false (Some n) h = ap okay (sym (h x (value_forms.Number n)))
+jump-is : (w : List ℕ) (a : Option ℕ) (t : Bool) (o : Option ℕ) → Alike (reg a >>= λ x. either t o >>= λ z. Ok (statements.Jump x z, w)) (statement_of (effect words.Jal) (r a ∷ far (2 ^ 20) w t o ∷ []))
+jump-is w None t o = refl
+jump-is w (Some x) true o = jump-same x w value_forms.Label
+jump-is w (Some x) false None = refl
+jump-is w (Some x) false (Some z) = jump-same x w (value_forms.Number z)
 
-register-number : (m : Mnemonic) (make : ℕ → ℕ → Instruction) (a n : Option ℕ) → ((x y : ℕ) → cap (statement_with m (number x ∷ number y ∷ [])) ≡ model.plain (make x (4096 * y)))
-    → read_view ((reg a >>= λ x. fit n >>= λ y. pair x (4096 * y)) >>= λ u. old.plain (make u.0 u.1)) ≡ cap_read (result_of m (is_none a || (false || false)) (list2 (num a) (num n)))
-register-number m make None n h = refl
-register-number m make (Some x) None h = refl
-register-number m make (Some x) (Some y) h = ap okay (sym (h x y))
+load-is : (w : List ℕ) (a : Option ℕ) (t : Bool) (o : Option ℕ) → Alike (reg a >>= λ x. either t o >>= λ z. Ok (statements.LoadImmediate x z, w)) (statement_of (effect words.LoadImmediate) (r a ∷ v w t o ∷ []))
+load-is w None t o = refl
+load-is w (Some x) true o = load-same x w value_forms.Label
+load-is w (Some x) false None = refl
+load-is w (Some x) false (Some z) = load-same x w (value_forms.Number z)
+
+register-number : (make : ℕ → ℕ → Instruction) (a c : Option ℕ)
+    → Alike ((reg a >>= λ x. fit c >>= λ y. pair x (4096 * y)) >>= λ u. old.plain (make u.0 u.1)) (statement_of (λ v. bytes (instruction (make (v 0) (4096 * v 1)))) (r a ∷ n c ∷ []))
+register-number make None c = refl
+register-number make (Some x) None = refl
+register-number make (Some x) (Some y) = plain (make x (4096 * y)) (with_values (number x ∷ number y ∷ []) (λ v. bytes (instruction (make (v 0) (4096 * v 1))))) (λ labels here. refl) (λ labels here. refl) (λ labels here. refl)
 
 -- a number from 0 on, which is read up to one above a bound
 up-step : (bound n : ℕ) (t : Bool) → option_map (λ k. min k (bound + 1)) (cond t (Some 0) None) ≡ cond t (Some 0) None
@@ -168,89 +235,100 @@ up-of : (bound : ℕ) (k : Option Number) → option_and_then (up_to bound) k �
 up-of bound None = refl
 up-of bound (Some k) = up-same bound k
 
-segment-is : (a p : Option ℕ) → read_view (fit a >>= λ x. fit (option_map (λ n. min n (3 + 1)) p) >>= λ y. Ok (statements.Segment x y, [])) ≡ cap_read (result_of words.Segment (false || (false || false)) (list2 (num a) (num p)))
+segment-is : (a p : Option ℕ) → Alike (fit a >>= λ x. fit (option_map (λ n. min n (3 + 1)) p) >>= λ y. Ok (statements.Segment x y, [])) (statement_of (effect words.Segment) (n a ∷ n p ∷ []))
 segment-is None p = refl
 segment-is (Some x) None = refl
-segment-is (Some x) (Some y) = refl
+segment-is (Some x) (Some y) = segment-same x y
 
 -- ---- one word
 
-value-is : (m : Mnemonic) (make : values.Value → read.Statement) (w : List ℕ) (t : Bool) (n : Option ℕ) → ((v : values.Value) → cap (statement_with m (value_view w v ∷ [])) ≡ statement_view w (make v))
-    → read_view (either t n >>= λ v. Ok (make v, w)) ≡ cap_read (result_of m (false || false) (list1 (either_value w t n)))
-value-is m make w true n h = ap okay (sym (h value_forms.Label))
-value-is m make w false None h = refl
-value-is m make w false (Some n) h = ap okay (sym (h (value_forms.Number n)))
+value-is : (make : values.Value → read.Statement) (e : (ℕ → ℕ) → Effect) (w : List ℕ) (t : Bool) (o : Option ℕ) → ((z : values.Value) → Same (make z) w (with_values (value_view w z ∷ []) e))
+    → Alike (either t o >>= λ z. Ok (make z, w)) (statement_of e (v w t o ∷ []))
+value-is make e w true o h = h value_forms.Label
+value-is make e w false None h = refl
+value-is make e w false (Some z) h = h (value_forms.Number z)
 
-byte-is : (n : Option ℕ) → read_view (fit n >>= λ x. Ok (statements.Byte x, [])) ≡ cap_read (result_of words.Byte (false || false) (list1 (num n)))
+byte-is : (o : Option ℕ) → Alike (fit o >>= λ x. Ok (statements.Byte x, [])) (statement_of (effect words.Byte) (n o ∷ []))
 byte-is None = refl
-byte-is (Some x) = refl
+byte-is (Some x) = byte-same x
 
-zeros-is : (n : Option ℕ) → read_view (fit (option_map (λ k. min k (2 ^ 32 + 1)) n) >>= λ x. Ok (statements.Zero x, [])) ≡ cap_read (result_of words.Zero (false || false) (list1 (num n)))
+zeros-is : (o : Option ℕ) → Alike (fit (option_map (λ k. min k (2 ^ 32 + 1)) o) >>= λ x. Ok (statements.Zero x, [])) (statement_of (effect words.Zero) (n o ∷ []))
 zeros-is None = refl
-zeros-is (Some x) = refl
+zeros-is (Some x) = zeros-same x
 
-alone-is : (i : Instruction) (t : Bool) → read_view (cond t (old.plain i) (Err kinds.Operand)) ≡ cap_read (statement_of (words.Alone i) (cond t (Some []) None))
-alone-is i true = refl
+alone-is : (i : Instruction) (t : Bool) → Alike (cond t (old.plain i) (Err kinds.Operand)) (read_by (effect (words.Alone i)) (cond t (Some []) None))
+alone-is i true = plain i (with_values [] (λ v. bytes (instruction i))) (λ labels here. refl) (λ labels here. refl) (λ labels here. refl)
 alone-is i false = refl
 
 -- ---- each mnemonic
 
-abbrev immediate : Part
-immediate = parts.field 2048 2047
+abbrev a_register : Word
+a_register = (true, λ w. num (register_in w))
 
-address-is : (m : Mnemonic) (make : ℕ → ℕ → ℕ → Instruction) (text : List ℕ) (o : Option Operands) → Agree (three register immediate register) (word_and_address text) o
-    → ((w : List ℕ × List ℕ × List ℕ) → statement_of m (Some (three register immediate register w)) ≡ result_of m (is_none (register_in w.0) || (false || (is_none (register_in w.2) || false))) (list3 (num (register_in w.0)) (num (option_and_then (in_range 2048 2047) (number_of w.1))) (num (register_in w.2))))
-    → ((x y z : ℕ) → cap (statement_with m (number x ∷ number z ∷ number y ∷ [])) ≡ model.plain (make x y z))
-    → read_view (address_of text >>= λ a. old.plain (make a.0 a.1 a.2)) ≡ cap_read (statement_of m o)
+abbrev a_field : ℕ → ℕ → Word
+a_field below above = (false, number_in below above)
+
+abbrev a_natural : Word
+a_natural = (false, λ w. num (option_and_then natural_of (number_of w)))
+
+abbrev a_value : Word
+a_value = (false, value_in)
+
+abbrev a_target : ℕ → Word
+a_target reach = (false, λ w. option_map (distance reach) (value_in w))
+
+abbrev small : ℕ → ℕ → List ℕ → Option ℕ
+small below above w = option_and_then (in_range below above) (number_of w)
+
+abbrev word_value : List ℕ → Option ℕ
+word_value w = small (2 ^ 31) (2 ^ 32 - 1) w
+
+address-is : (make : ℕ → ℕ → ℕ → Instruction) (text : List ℕ) (o : Option Operands) → Agree (three a_register (a_field 2048 2047) a_register) (word_and_address text) o
+    → Alike (address_of text >>= λ a. old.plain (make a.0 a.1 a.2)) (read_by (λ v. bytes (instruction (make (v 0) (v 2) (v 1)))) o)
 unfolding address_of register_of field
-address-is m make text o agrees is h =
-    ap read_view (bind-twice (word_and_address text) (λ w. reg (register_in w.0) >>= λ x. reg (register_in w.2) >>= λ y. fit (option_and_then (in_range 2048 2047) (number_of w.1)) >>= λ z. triple x y z) (λ a. old.plain (make a.0 a.1 a.2)))
-    ∙ by (three register immediate register) (word_and_address text) o (λ w. (reg (register_in w.0) >>= λ x. reg (register_in w.2) >>= λ y. fit (option_and_then (in_range 2048 2047) (number_of w.1)) >>= λ z. triple x y z) >>= λ a. old.plain (make a.0 a.1 a.2)) m agrees
-    (λ w. address-number m make (register_in w.0) (option_and_then (in_range 2048 2047) (number_of w.1)) (register_in w.2) h ∙ ap cap_read (sym (is w)))
+address-is make text o agrees =
+    subst (λ (x : Read). Alike x (read_by (λ v. bytes (instruction (make (v 0) (v 2) (v 1)))) o))
+    (sym (bind-twice (word_and_address text) (λ w. reg (register_in w.0) >>= λ x. reg (register_in w.2) >>= λ y. fit (small 2048 2047 w.1) >>= λ z. triple x y z) (λ a. old.plain (make a.0 a.1 a.2))))
+    (by (three a_register (a_field 2048 2047) a_register) (word_and_address text) o (λ w. (reg (register_in w.0) >>= λ x. reg (register_in w.2) >>= λ y. fit (small 2048 2047 w.1) >>= λ z. triple x y z) >>= λ a. old.plain (make a.0 a.1 a.2)) (λ v. bytes (instruction (make (v 0) (v 2) (v 1)))) agrees
+    (λ w. address-number make (register_in w.0) (small 2048 2047 w.1) (register_in w.2)))
 
-upper-is : (m : Mnemonic) (make : ℕ → ℕ → Instruction) (text : List ℕ) (o : Option Operands) → Agree (two register (parts.field 0 (2 ^ 20 - 1))) (two_words text) o
-    → ((w : List ℕ × List ℕ) → statement_of m (Some (two register (parts.field 0 (2 ^ 20 - 1)) w)) ≡ result_of m (is_none (register_in w.0) || (false || false)) (list2 (num (register_in w.0)) (num (option_and_then (in_range 0 (2 ^ 20 - 1)) (number_of w.1)))))
-    → ((x y : ℕ) → cap (statement_with m (number x ∷ number y ∷ [])) ≡ model.plain (make x (4096 * y)))
-    → read_view (upper text >>= λ u. old.plain (make u.0 u.1)) ≡ cap_read (statement_of m o)
+upper-is : (make : ℕ → ℕ → Instruction) (text : List ℕ) (o : Option Operands) → Agree (two a_register (a_field 0 (2 ^ 20 - 1))) (two_words text) o
+    → Alike (upper text >>= λ u. old.plain (make u.0 u.1)) (read_by (λ v. bytes (instruction (make (v 0) (4096 * v 1)))) o)
 unfolding upper register_of field
-upper-is m make text o agrees is h =
-    ap read_view (bind-twice (two_words text) (λ w. reg (register_in w.0) >>= λ x. fit (option_and_then (in_range 0 (2 ^ 20 - 1)) (number_of w.1)) >>= λ n. pair x (4096 * n)) (λ u. old.plain (make u.0 u.1)))
-    ∙ by (two register (parts.field 0 (2 ^ 20 - 1))) (two_words text) o (λ w. (reg (register_in w.0) >>= λ x. fit (option_and_then (in_range 0 (2 ^ 20 - 1)) (number_of w.1)) >>= λ n. pair x (4096 * n)) >>= λ u. old.plain (make u.0 u.1)) m agrees
-    (λ w. register-number m make (register_in w.0) (option_and_then (in_range 0 (2 ^ 20 - 1)) (number_of w.1)) h ∙ ap cap_read (sym (is w)))
+upper-is make text o agrees =
+    subst (λ (x : Read). Alike x (read_by (λ v. bytes (instruction (make (v 0) (4096 * v 1)))) o))
+    (sym (bind-twice (two_words text) (λ w. reg (register_in w.0) >>= λ x. fit (small 0 (2 ^ 20 - 1) w.1) >>= λ n. pair x (4096 * n)) (λ a. old.plain (make a.0 a.1))))
+    (by (two a_register (a_field 0 (2 ^ 20 - 1))) (two_words text) o (λ w. (reg (register_in w.0) >>= λ x. fit (small 0 (2 ^ 20 - 1) w.1) >>= λ n. pair x (4096 * n)) >>= λ a. old.plain (make a.0 a.1)) (λ v. bytes (instruction (make (v 0) (4096 * v 1)))) agrees
+    (λ w. register-number make (register_in w.0) (small 0 (2 ^ 20 - 1) w.1)))
 
--- what a word that is a label or a number is
-abbrev small : List ℕ → Option ℕ
-small w = option_and_then (in_range (2 ^ 31) (2 ^ 32 - 1)) (number_of w)
-
-pub operands-same : (m : Mnemonic) (text : List ℕ) → read_view (operands m text) ≡ cap_read (statement_of m (words_of (shape m) text))
+pub operands-same : (m : Mnemonic) (text : List ℕ) → Alike (operands m text) (read_by (effect m) (words_of (shape m) text))
 unfolding operands operate operate_immediate shift_immediate load jump_to_register store branch jump load_upper add_upper alone load_immediate segment entry stack word byte zeros register_of field count value_of
-operands-same (words.Operate o) text = by (three register register register) (three_words text) (words_of (shape (words.Operate o)) text) _ (words.Operate o) (three-agrees register register register text)
-    (λ w. three-registers (words.Operate o) (λ x y z. instructions.Operate o x y z) (register_in w.0) (register_in w.1) (register_in w.2) (λ x y z. refl))
-operands-same (words.OperateImmediate o) text = by (three register register immediate) (three_words text) (words_of (shape (words.OperateImmediate o)) text) _ (words.OperateImmediate o) (three-agrees register register immediate text)
-    (λ w. registers-number (words.OperateImmediate o) (λ x y z. instructions.OperateImmediate o x y z) (register_in w.0) (register_in w.1) (option_and_then (in_range 2048 2047) (number_of w.2)) (λ x y z. refl))
-operands-same (words.ShiftImmediate o) text = by (three register register (parts.field 0 31)) (three_words text) (words_of (shape (words.ShiftImmediate o)) text) _ (words.ShiftImmediate o) (three-agrees register register (parts.field 0 31) text)
-    (λ w. registers-number (words.ShiftImmediate o) (λ x y z. instructions.OperateImmediate o x y z) (register_in w.0) (register_in w.1) (option_and_then (in_range 0 31) (number_of w.2)) (λ x y z. refl))
-operands-same (words.Load k) text = address-is (words.Load k) (λ x y z. instructions.Load k x y z) text (words_of (shape (words.Load k)) text) (address-agrees register immediate register text) (λ w. refl) (λ x y z. refl)
-operands-same (words.Store width) text = address-is (words.Store width) (λ x y z. instructions.Store width y x z) text (words_of (shape (words.Store width)) text) (address-agrees register immediate register text) (λ w. refl) (λ x y z. refl)
-operands-same words.Jalr text = address-is words.Jalr (λ x y z. instructions.Jalr x y z) text (words_of (shape words.Jalr) text) (address-agrees register immediate register text) (λ w. refl) (λ x y z. refl)
-operands-same (words.Branch c) text = by (three register register value) (three_words text) (words_of (shape (words.Branch c)) text) _ (words.Branch c) (three-agrees register register value text)
-    (λ w. rw label-same (branch-is c w.2 (register_in w.0) (register_in w.1) (is_label w.2) (small w.2)))
-operands-same words.Jal text = by (two register value) (two_words text) (words_of (shape words.Jal) text) _ words.Jal (two-agrees register value text)
-    (λ w. rw label-same (register-value words.Jal (λ x v. statements.Jump x v) w.1 (register_in w.0) (is_label w.1) (small w.1) (λ x v. refl)))
-operands-same words.LoadImmediate text = by (two register value) (two_words text) (words_of (shape words.LoadImmediate) text) _ words.LoadImmediate (two-agrees register value text)
-    (λ w. rw label-same (register-value words.LoadImmediate (λ x v. statements.LoadImmediate x v) w.1 (register_in w.0) (is_label w.1) (small w.1) (λ x v. refl)))
-operands-same words.Lui text = upper-is words.Lui (λ x y. instructions.Lui x y) text (words_of (shape words.Lui) text) (two-agrees register (parts.field 0 (2 ^ 20 - 1)) text) (λ w. refl) (λ x y. refl)
-operands-same words.Auipc text = upper-is words.Auipc (λ x y. instructions.Auipc x y) text (words_of (shape words.Auipc) text) (two-agrees register (parts.field 0 (2 ^ 20 - 1)) text) (λ w. refl) (λ x y. refl)
+operands-same (words.Operate o) text = by (three a_register a_register a_register) (three_words text) (words_of (shape (words.Operate o)) text) _ (effect (words.Operate o)) (three-agrees a_register a_register a_register text)
+    (λ w. three-registers (λ x y z. instructions.Operate o x y z) (register_in w.0) (register_in w.1) (register_in w.2))
+operands-same (words.OperateImmediate o) text = by (three a_register a_register (a_field 2048 2047)) (three_words text) (words_of (shape (words.OperateImmediate o)) text) _ (effect (words.OperateImmediate o)) (three-agrees a_register a_register (a_field 2048 2047) text)
+    (λ w. registers-number (λ x y z. instructions.OperateImmediate o x y z) (register_in w.0) (register_in w.1) (small 2048 2047 w.2))
+operands-same (words.ShiftImmediate o) text = by (three a_register a_register (a_field 0 31)) (three_words text) (words_of (shape (words.ShiftImmediate o)) text) _ (effect (words.ShiftImmediate o)) (three-agrees a_register a_register (a_field 0 31) text)
+    (λ w. registers-number (λ x y z. instructions.OperateImmediate o x y z) (register_in w.0) (register_in w.1) (small 0 31 w.2))
+operands-same (words.Load k) text = address-is (λ x y z. instructions.Load k x y z) text (words_of (shape (words.Load k)) text) (address-agrees a_register (a_field 2048 2047) a_register text)
+operands-same (words.Store width) text = address-is (λ x y z. instructions.Store width y x z) text (words_of (shape (words.Store width)) text) (address-agrees a_register (a_field 2048 2047) a_register text)
+operands-same words.Jalr text = address-is (λ x y z. instructions.Jalr x y z) text (words_of (shape words.Jalr) text) (address-agrees a_register (a_field 2048 2047) a_register text)
+operands-same (words.Branch c) text = by (three a_register a_register (a_target (2 ^ 12))) (three_words text) (words_of (shape (words.Branch c)) text) _ (effect (words.Branch c)) (three-agrees a_register a_register (a_target (2 ^ 12)) text)
+    (λ w. rw label-same (branch-is c w.2 (register_in w.0) (register_in w.1) (is_label w.2) (word_value w.2)))
+operands-same words.Jal text = by (two a_register (a_target (2 ^ 20))) (two_words text) (words_of (shape words.Jal) text) _ (effect words.Jal) (two-agrees a_register (a_target (2 ^ 20)) text)
+    (λ w. rw label-same (jump-is w.1 (register_in w.0) (is_label w.1) (word_value w.1)))
+operands-same words.LoadImmediate text = by (two a_register a_value) (two_words text) (words_of (shape words.LoadImmediate) text) _ (effect words.LoadImmediate) (two-agrees a_register a_value text)
+    (λ w. rw label-same (load-is w.1 (register_in w.0) (is_label w.1) (word_value w.1)))
+operands-same words.Lui text = upper-is (λ x y. instructions.Lui x y) text (words_of (shape words.Lui) text) (two-agrees a_register (a_field 0 (2 ^ 20 - 1)) text)
+operands-same words.Auipc text = upper-is (λ x y. instructions.Auipc x y) text (words_of (shape words.Auipc) text) (two-agrees a_register (a_field 0 (2 ^ 20 - 1)) text)
 operands-same (words.Alone i) text = alone-is i (is_empty (from Solid text))
-operands-same words.Segment text = by (two (parts.field 0 (2 ^ 32 - 1)) natural) (two_apart text) (words_of (shape words.Segment) text) _ words.Segment (apart-agrees (parts.field 0 (2 ^ 32 - 1)) natural text)
-    (λ w. rw (up-of 3 (number_of w.1)) (segment-is (option_and_then (in_range 0 (2 ^ 32 - 1)) (number_of w.0)) (option_and_then natural_of (number_of w.1))))
-operands-same words.Entry text = by (one value) (one_word text) (words_of (shape words.Entry) text) _ words.Entry (one-agrees value text)
-    (λ w. rw label-same (value-is words.Entry (λ v. statements.Entry v) w (is_label w) (small w) (λ v. refl)))
-operands-same words.Stack text = by (one value) (one_word text) (words_of (shape words.Stack) text) _ words.Stack (one-agrees value text)
-    (λ w. rw label-same (value-is words.Stack (λ v. statements.Stack v) w (is_label w) (small w) (λ v. refl)))
-operands-same words.Word text = by (one value) (one_word text) (words_of (shape words.Word) text) _ words.Word (one-agrees value text)
-    (λ w. rw label-same (value-is words.Word (λ v. statements.Word v) w (is_label w) (small w) (λ v. refl)))
-operands-same words.Byte text = by (one (parts.field 0 255)) (one_word text) (words_of (shape words.Byte) text) _ words.Byte (one-agrees (parts.field 0 255) text)
-    (λ w. byte-is (option_and_then (in_range 0 255) (number_of w)))
-operands-same words.Zero text = by (one natural) (one_word text) (words_of (shape words.Zero) text) _ words.Zero (one-agrees natural text)
+operands-same words.Segment text = by (two (a_field 0 (2 ^ 32 - 1)) a_natural) (two_apart text) (words_of (shape words.Segment) text) _ (effect words.Segment) (apart-agrees (a_field 0 (2 ^ 32 - 1)) a_natural text)
+    (λ w. rw (up-of 3 (number_of w.1)) (segment-is (small 0 (2 ^ 32 - 1) w.0) (option_and_then natural_of (number_of w.1))))
+operands-same words.Entry text = by (one a_value) (one_word text) (words_of (shape words.Entry) text) _ (effect words.Entry) (one-agrees a_value text)
+    (λ w. rw label-same (value-is (λ z. statements.Entry z) (effect words.Entry) w (is_label w) (word_value w) (entry-same w)))
+operands-same words.Stack text = by (one a_value) (one_word text) (words_of (shape words.Stack) text) _ (effect words.Stack) (one-agrees a_value text)
+    (λ w. rw label-same (value-is (λ z. statements.Stack z) (effect words.Stack) w (is_label w) (word_value w) (stack-same w)))
+operands-same words.Word text = by (one a_value) (one_word text) (words_of (shape words.Word) text) _ (effect words.Word) (one-agrees a_value text)
+    (λ w. rw label-same (value-is (λ z. statements.Word z) (effect words.Word) w (is_label w) (word_value w) (word-same w)))
+operands-same words.Byte text = by (one (a_field 0 255)) (one_word text) (words_of (shape words.Byte) text) _ (effect words.Byte) (one-agrees (a_field 0 255) text) (λ w. byte-is (small 0 255 w))
+operands-same words.Zero text = by (one a_natural) (one_word text) (words_of (shape words.Zero) text) _ (effect words.Zero) (one-agrees a_natural text)
     (λ w. rw (up-of (2 ^ 32) (number_of w)) (zeros-is (option_and_then natural_of (number_of w))))

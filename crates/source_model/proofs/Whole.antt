@@ -6,31 +6,40 @@ use Rattle.image_model.specs.Image.{Image}
 use Rattle.source_model.specs.declared.error.AsmError.{AsmError}
 use Rattle.source_model.specs.declared.error.AsmErrorKind.{AsmErrorKind}
 use Rattle.source_model.specs.Layout.{definitions}
-use Rattle.source_model.specs.Line.{label_of, statement_in}
+use Rattle.source_model.specs.Line.{statement_in}
 use Rattle.source_model.specs.Text.{◌>>=◌}
 use Rattle.source_model.specs.Bytes.{lines_of}
-use Rattle.source_model.specs.Statement.{Read}
-use Rattle.source_model.specs.Meaning.{Line, worth_in, segments_of, with_content, image_of, fault_in, fault_of}
+use Rattle.source_model.specs.Statement as old
+use Rattle.source_model.specs.Meaning.{Line, Read, with_read, draft_of, image_of, label_in, fault_in, fault_of}
 use Rattle.source_model.specs.Reading.{Draft, check_line, worth_of, operand_of, in_line, with_line, with_lines, blank, draft_image, image_in, source_of}
 use Rattle.source_model.specs.Source.{AreFaultless, HasFault}
-use Rattle.source_model.proofs.Drafts.{draft_image-same}
-use Rattle.source_model.proofs.Faults.{kind_or, draft_after, entry_after, stack_after, check-same}
+use Rattle.source_model.proofs.Drafts.{view, image-same}
+use Rattle.source_model.proofs.Alike.{Alike}
+use Rattle.source_model.proofs.Faults.{kind_or, draft_after, draft-more, check-same}
 use Rattle.source_model.proofs.Labels.{earlier-same, worth-of}
-use Rattle.source_model.proofs.View.{line_view, read_view}
+use Rattle.source_model.proofs.Lines.{line_in, name-same, statement-same}
 
 -- ---- one line
 
-read-same : (text : List ℕ) (before rest : List (List ℕ)) (at : ℕ) (name : Option (List ℕ)) (r : Read) → lines_of text ≡ before ++ rest → at ≡ length before + 1
-    → (r >>= λ s. check_line (definitions text) at (draft_after (map line_view (lines_of text)) (map line_view before)) name s.0 (worth_of (definitions text) s.1 (operand_of s.0)))
-    ≡ kind_or (fault_of (map line_view (lines_of text)) (map line_view before) (record { name = name; statement = read_view r }) (read_view r)) (draft_after (map line_view (lines_of text)) (map line_view before ++ record { name = name; statement = read_view r } ∷ []))
-read-same text before rest at name (Ok s) split e = check-same (map line_view (lines_of text)) (map line_view before) (definitions text) at name s.1 s.0 (worth-of text) (earlier-same at text before rest name split e)
-read-same text before rest at name (Err kind) split e = refl
+abbrev pub lines_in : List ℕ → List Line
+lines_in text = map line_in (lines_of text)
+
+read-same : (text : List ℕ) (before rest : List (List ℕ)) (at : ℕ) (name : Option (List ℕ)) (r : old.Read) (q : Read) → Alike r q → lines_of text ≡ before ++ rest → at ≡ length before + 1
+    → (r >>= λ s. check_line (definitions text) at (draft_after (lines_in text) (map line_in before)) name s.0 (worth_of (definitions text) s.1 (operand_of s.0)))
+    ≡ kind_or (fault_of (label_in (lines_in text)) (map line_in before) name q) (view (with_read (label_in (lines_in text)) (draft_of (label_in (lines_in text)) (map line_in before)) q))
+read-same text before rest at name (Ok x) (Ok s) same split e = check-same (label_in (lines_in text)) (map line_in before) (definitions text) at name x.1 x.0 s same (worth-of text) (earlier-same at text before rest name split e)
+read-same text before rest at name (Err k) (Err j) same split e = ap (λ (kind : AsmErrorKind). Err kind) same
+read-same text before rest at name (Ok x) (Err j) same split e = absurd same
+read-same text before rest at name (Err k) (Ok s) same split e = absurd same
 
 line-same : (text : List ℕ) (before rest : List (List ℕ)) (at : ℕ) (l : List ℕ) → lines_of text ≡ before ++ rest → at ≡ length before + 1
-    → with_line (definitions text) at (draft_after (map line_view (lines_of text)) (map line_view before)) l
-    ≡ kind_or (fault_in (map line_view (lines_of text)) (map line_view before) (line_view l)) (draft_after (map line_view (lines_of text)) (map line_view before ++ line_view l ∷ []))
-unfolding with_line fault_in line_view
-line-same text before rest at l split e = read-same text before rest at (label_of l) (statement_in l) split e
+    → with_line (definitions text) at (draft_after (lines_in text) (map line_in before)) l
+    ≡ kind_or (fault_in (lines_in text) (map line_in before) (line_in l)) (draft_after (lines_in text) (map line_in before ++ line_in l ∷ []))
+unfolding with_line fault_in
+line-same text before rest at l split e =
+    ap (λ (name : Option (List ℕ)). statement_in l >>= λ s. check_line (definitions text) at (draft_after (lines_in text) (map line_in before)) name s.0 (worth_of (definitions text) s.1 (operand_of s.0))) (name-same l)
+    ∙ (read-same text before rest at (line_in l).name (statement_in l) (line_in l).statement (statement-same l) split e
+    ∙ ap (kind_or (fault_of (label_in (lines_in text)) (map line_in before) (line_in l).name (line_in l).statement)) (sym (draft-more (lines_in text) (map line_in before) (line_in l))))
 
 -- ---- lines without a fault
 
@@ -49,41 +58,38 @@ abbrev Outcome : List Line → Result Draft AsmError → Type 0
 Outcome all (Ok d) = (d ≡ draft_after all all) × AreFaultless all [] all
 Outcome all (Err e) = HasFault all e
 
-abbrev pub lines_in : List ℕ → List Line
-lines_in text = map line_view (lines_of text)
+nothing-left : (text : List ℕ) (before : List (List ℕ)) → lines_of text ≡ before ++ [] → map line_in before ≡ lines_in text
+nothing-left text before split = ap (map line_in) (sym (split ∙ append-nil before))
 
-nothing-left : (text : List ℕ) (before : List (List ℕ)) → lines_of text ≡ before ++ [] → map line_view before ≡ lines_in text
-nothing-left text before split = ap (map line_view) (sym (split ∙ append-nil before))
+split-at : (text : List ℕ) (before : List (List ℕ)) (l : List ℕ) (ls : List (List ℕ)) → lines_of text ≡ before ++ l ∷ ls → lines_in text ≡ map line_in before ++ line_in l ∷ map line_in ls
+split-at text before l ls split = ap (map line_in) split ∙ map-append line_in before (l ∷ ls)
 
-split-at : (text : List ℕ) (before : List (List ℕ)) (l : List ℕ) (ls : List (List ℕ)) → lines_of text ≡ before ++ l ∷ ls → lines_in text ≡ map line_view before ++ line_view l ∷ map line_view ls
-split-at text before l ls split = ap (map line_view) split ∙ map-append line_view before (l ∷ ls)
-
-step : (text : List ℕ) (before : List (List ℕ)) (l : List ℕ) (ls : List (List ℕ)) (f : Option AsmErrorKind) (r : Result Draft AsmErrorKind) → fault_in (lines_in text) (map line_view before) (line_view l) ≡ f
-    → r ≡ kind_or f (draft_after (lines_in text) (map line_view before ++ line_view l ∷ []))
-    → lines_of text ≡ before ++ l ∷ ls → AreFaultless (lines_in text) [] (map line_view before)
-    → (AreFaultless (lines_in text) [] (map line_view (before ++ l ∷ [])) → Outcome (lines_in text) (with_lines (definitions text) (length before + 1 + 1) (draft_after (lines_in text) (map line_view (before ++ l ∷ []))) ls))
+step : (text : List ℕ) (before : List (List ℕ)) (l : List ℕ) (ls : List (List ℕ)) (f : Option AsmErrorKind) (r : Result Draft AsmErrorKind) → fault_in (lines_in text) (map line_in before) (line_in l) ≡ f
+    → r ≡ kind_or f (draft_after (lines_in text) (map line_in before ++ line_in l ∷ []))
+    → lines_of text ≡ before ++ l ∷ ls → AreFaultless (lines_in text) [] (map line_in before)
+    → (AreFaultless (lines_in text) [] (map line_in (before ++ l ∷ [])) → Outcome (lines_in text) (with_lines (definitions text) (length before + 1 + 1) (draft_after (lines_in text) (map line_in (before ++ l ∷ []))) ls))
     → Outcome (lines_in text) (in_line (length before + 1) r (λ d. with_lines (definitions text) (length before + 1 + 1) d ls))
 step text before l ls None r is e split fine others =
     let all : List Line = lines_in text in
-    let more : map line_view (before ++ l ∷ []) ≡ map line_view before ++ line_view l ∷ [] = map-append line_view before (l ∷ []) in
-    let good : AreFaultless all [] (map line_view (before ++ l ∷ [])) = rw more (faultless-more all [] (map line_view before) (line_view l) fine is) in
+    let more : map line_in (before ++ l ∷ []) ≡ map line_in before ++ line_in l ∷ [] = map-append line_in before (l ∷ []) in
+    let good : AreFaultless all [] (map line_in (before ++ l ∷ [])) = rw more (faultless-more all [] (map line_in before) (line_in l) fine is) in
     rw e (subst (λ (x : List Line). Outcome all (with_lines (definitions text) (length before + 1 + 1) (draft_after all x) ls)) more (others good))
 step text before l ls (Some kind) r is e split fine others =
-    rw e (record { before = map line_view before; line = line_view l; others = map line_view ls; split = split-at text before l ls split; earlier = fine; place = ap (λ (n : ℕ). n + 1) (sym (length-map before line_view)); kind = is })
+    rw e (record { before = map line_in before; line = line_in l; others = map line_in ls; split = split-at text before l ls split; earlier = fine; place = ap (λ (n : ℕ). n + 1) (sym (length-map before line_in)); kind = is })
 
-outcome-at : (text : List ℕ) (before rest : List (List ℕ)) → lines_of text ≡ before ++ rest → AreFaultless (lines_in text) [] (map line_view before) → Outcome (lines_in text) (with_lines (definitions text) (length before + 1) (draft_after (lines_in text) (map line_view before)) rest)
+outcome-at : (text : List ℕ) (before rest : List (List ℕ)) → lines_of text ≡ before ++ rest → AreFaultless (lines_in text) [] (map line_in before) → Outcome (lines_in text) (with_lines (definitions text) (length before + 1) (draft_after (lines_in text) (map line_in before)) rest)
 unfolding with_lines
 outcome-at text before [] split fine =
-    let same : map line_view before ≡ lines_in text = nothing-left text before split in
+    let same : map line_in before ≡ lines_in text = nothing-left text before split in
     (ap (draft_after (lines_in text)) same, subst (λ (x : List Line). AreFaultless (lines_in text) [] x) same fine)
 outcome-at text before (l ∷ ls) split fine =
-    step text before l ls (fault_in (lines_in text) (map line_view before) (line_view l)) (with_line (definitions text) (length before + 1) (draft_after (lines_in text) (map line_view before)) l) refl
+    step text before l ls (fault_in (lines_in text) (map line_in before) (line_in l)) (with_line (definitions text) (length before + 1) (draft_after (lines_in text) (map line_in before)) l) refl
     (line-same text before (l ∷ ls) (length before + 1) l split refl) split fine
-    (λ good. subst (λ (n : ℕ). Outcome (lines_in text) (with_lines (definitions text) n (draft_after (lines_in text) (map line_view (before ++ l ∷ []))) ls)) (ap (λ (n : ℕ). n + 1) (length-append before (l ∷ [])))
+    (λ good. subst (λ (n : ℕ). Outcome (lines_in text) (with_lines (definitions text) n (draft_after (lines_in text) (map line_in (before ++ l ∷ []))) ls)) (ap (λ (n : ℕ). n + 1) (length-append before (l ∷ [])))
     (outcome-at text (before ++ l ∷ []) ls (split ∙ sym (append_assoc before (l ∷ []) ls)) good))
 
 from-blank : (all : List Line) → draft_after all [] ≡ blank
-unfolding segments_of with_content
+unfolding draft_of
 from-blank all = refl
 
 outcome : (text : List ℕ) → Outcome (lines_in text) (with_lines (definitions text) 1 blank (lines_of text))
@@ -149,14 +155,14 @@ err-is d e h = cc
 ok-err : (x : Image) (e : AsmError) → answer (Ok x) ≡ Err e → ⊥
 ok-err x e h = cc
 
-whole-image : (all : List Line) → draft_image (draft_after all all) ≡ image_of (worth_in all) all
-whole-image all = draft_image-same (segments_of (worth_in all) all) (entry_after (worth_in all) all) (stack_after (worth_in all) all)
+whole-image : (all : List Line) → draft_image (draft_after all all) ≡ image_of (draft_of (label_in all) all)
+whole-image all = image-same (draft_of (label_in all) all)
 
-takes-image : (all : List Line) (r : Result Draft AsmError) (i : Image) → Outcome all r → image_in r ≡ Ok i → AreFaultless all [] all × (i ≡ image_of (worth_in all) all)
+takes-image : (all : List Line) (r : Result Draft AsmError) (i : Image) → Outcome all r → image_in r ≡ Ok i → AreFaultless all [] all × (i ≡ image_of (draft_of (label_in all) all))
 takes-image all (Ok d) i h e = (h.1, sym (ok-is (draft_image d) i e) ∙ (ap draft_image h.0 ∙ whole-image all))
 takes-image all (Err f) i h e = absurd (ok-err i f (sym e))
 
-gives-image : (all : List Line) (r : Result Draft AsmError) → Outcome all r → AreFaultless all [] all → image_in r ≡ Ok (image_of (worth_in all) all)
+gives-image : (all : List Line) (r : Result Draft AsmError) → Outcome all r → AreFaultless all [] all → image_in r ≡ Ok (image_of (draft_of (label_in all) all))
 gives-image all (Ok d) h fine = ap (λ (x : Image). answer (Ok x)) (ap draft_image h.0 ∙ whole-image all)
 gives-image all (Err f) h fine = absurd (not-both all f fine h)
 
@@ -168,11 +174,11 @@ gives-fault : (all : List Line) (r : Result Draft AsmError) (e : AsmError) → O
 gives-fault all (Ok d) e h f = absurd (not-both all e h.1 f)
 gives-fault all (Err g) e h f = ap (λ (x : AsmError). answer (Err x)) (one-fault all g e h f)
 
-pub image-takes : (text : List ℕ) (i : Image) → source_of text ≡ Ok i → AreFaultless (lines_in text) [] (lines_in text) × (i ≡ image_of (worth_in (lines_in text)) (lines_in text))
+pub image-takes : (text : List ℕ) (i : Image) → source_of text ≡ Ok i → AreFaultless (lines_in text) [] (lines_in text) × (i ≡ image_of (draft_of (label_in (lines_in text)) (lines_in text)))
 unfolding source_of
 image-takes text i e = takes-image (lines_in text) (with_lines (definitions text) 1 blank (lines_of text)) i (outcome text) e
 
-pub image-gives : (text : List ℕ) → AreFaultless (lines_in text) [] (lines_in text) → source_of text ≡ Ok (image_of (worth_in (lines_in text)) (lines_in text))
+pub image-gives : (text : List ℕ) → AreFaultless (lines_in text) [] (lines_in text) → source_of text ≡ Ok (image_of (draft_of (label_in (lines_in text)) (lines_in text)))
 unfolding source_of
 image-gives text fine = gives-image (lines_in text) (with_lines (definitions text) 1 blank (lines_of text)) (outcome text) fine
 

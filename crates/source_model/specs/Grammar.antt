@@ -1,102 +1,71 @@
 -- Lines: what a text of one line is read as.
 -- Source: RISC-V Assembly Programmer's Manual, for the look of a line.
 -- Our choice: the grammar. A byte that is not ASCII is a fault wherever it stands, and so is a second label.
-use Rattle.std.specs.Prelude.{◌≡◌, ℕ, Bool, true, false, not, List, [], ◌∷◌, ◌++◌, Option, Some, None, Result, Ok, Err, ◌⊎◌}
+use Rattle.std.specs.Prelude.{◌≡◌, ℕ, ◌<◌, Bool, true, false, not, ◌||◌, List, [], ◌∷◌, ◌++◌, length, take, find, Option, Some, None, is_some, Ok, Err, ◌⊎◌}
 use Rattle.std.specs.List.{list_any, list_all}
-use Rattle.source_model.specs.declared.error.AsmErrorKind.{AsmErrorKind}
+use Rattle.std.specs.Str.{bytes_eq}
+use Rattle.std.specs.Str.Lines.{strip_carriage_return}
 use Rattle.source_model.specs.declared.error.AsmErrorKind.TheVariants as kinds
-use Rattle.source_model.specs.declared.mnemonic.Mnemonic.{Mnemonic}
-use Rattle.source_model.specs.Bytes.{is_blank, is_comment, is_word_end, is_foreign, is_empty, without_return}
-use Rattle.source_model.specs.Meaning.{Line, Statement, nothing}
-use Rattle.source_model.specs.Operand.{Part, comma, left, right, shape, mnemonic_for, is_label, Operands, statement_of}
+use Rattle.source_model.specs.Bytes.{is_blank, is_comment, is_word_end, is_foreign}
+use Rattle.source_model.specs.Meaning.{Line, Read, bytes}
+use Rattle.source_model.specs.Operand.{Part, mark, word, is_label, Operands, statement_of, Form, instructions, directives}
 
 -- ---- parts of a text
 
-abbrev pub AreBlanks : List ℕ → Type 0
-AreBlanks text = list_all is_blank text ≡ true
+-- what stands behind blanks
+abbrev pub Starts : List ℕ → List ℕ → Type 0
+Starts text start = (gap : List ℕ) × (list_all is_blank gap ≡ true) × (text ≡ gap ++ start)
 
--- whether a text is empty or begins with a byte that passes the test
-abbrev pub ends : (ℕ → Bool) → List ℕ → Bool
-ends test [] = true
-ends test (b ∷ bs) = test b
+-- a text up to its first byte that passes the test, or to its end, and the rest
+pub record IsCut (stop : ℕ → Bool) (text front rest : List ℕ) : Type 0 where
+  pub split : text ≡ front ++ rest
+  pub inside : list_all (λ b. not (stop b)) front ≡ true
+  pub end : list_all stop (take 1 rest) ≡ true
+
+-- blanks, a word up to the first byte that passes the test, and the rest
+abbrev pub HasWord : (ℕ → Bool) → List ℕ → List ℕ → List ℕ → Type 0
+HasWord stop text w rest = (start : List ℕ) × Starts text start × IsCut stop start w rest × (0 < length w)
 
 -- blanks, a label, blanks, a colon, and the rest
-pub record HasLabel (text name rest : List ℕ) : Type 0 where
-  pub gap : List ℕ
-  pub space : List ℕ
-  pub split : text ≡ gap ++ (name ++ (space ++ 58 ∷ rest))
-  pub label : is_label name ≡ true
-  pub first : AreBlanks gap
-  pub second : AreBlanks space
-
--- blanks, a word up to the first byte that stops it, and the rest
-pub record HasWord (stop : ℕ → Bool) (text word rest : List ℕ) : Type 0 where
-  pub gap : List ℕ
-  pub split : text ≡ gap ++ (word ++ rest)
-  pub blanks : AreBlanks gap
-  pub nonempty : is_empty word ≡ false
-  pub inside : list_all (λ b. not (stop b)) word ≡ true
-  pub end : ends stop rest ≡ true
-
--- blanks, a mark, and the rest
-pub record HasMark (mark : ℕ) (text rest : List ℕ) : Type 0 where
-  pub gap : List ℕ
-  pub split : text ≡ gap ++ mark ∷ rest
-  pub blanks : AreBlanks gap
-
--- ---- operands
-
--- a part at the front of a text, the rest, and the words of the part and of the rest
-abbrev pub HasPart : Part → List ℕ → List ℕ → Operands → Operands → Type 0
-HasPart comma text rest words others = HasMark 44 text rest × (words ≡ others)
-HasPart left text rest words others = HasMark 40 text rest × (words ≡ others)
-HasPart right text rest words others = HasMark 41 text rest × (words ≡ others)
-HasPart p text rest words others = (w : List ℕ) × HasWord is_word_end text w rest × (words ≡ (p, w) ∷ others)
-
--- the text is these parts, one after the other, with these words
-abbrev pub AreOperands : List Part → List ℕ → Operands → Type 0
-AreOperands [] text words = AreBlanks text × (words ≡ [])
-AreOperands (p ∷ ps) text words = (rest : List ℕ) × (others : Operands) × HasPart p text rest words others × AreOperands ps rest others
-
-abbrev pub MayBeOperands : List Part → List ℕ → Option Operands → Type 0
-MayBeOperands parts text (Some words) = AreOperands parts text words
-MayBeOperands parts text None = (words : Operands) → AreOperands parts text words → ⊥
+abbrev pub HasLabel : List ℕ → List ℕ → List ℕ → Type 0
+HasLabel text name rest = (after : List ℕ) × (is_label name ≡ true) × Starts text (name ++ after) × Starts after (58 ∷ rest)
 
 -- ---- statements
 
-abbrev pub Read : Type 0
-Read = Result Statement AsmErrorKind
+-- the text is these parts, one after the other, with these operands
+abbrev pub AreOperands : List Part → List ℕ → Operands → Type 0
+AreOperands [] text os = Starts text [] × (os ≡ [])
+AreOperands (mark m ∷ ps) text os = (rest : List ℕ) × Starts text (m ∷ rest) × AreOperands ps rest os
+AreOperands (word r value ∷ ps) text os = (w : List ℕ) × (rest : List ℕ) × (others : Operands) × HasWord is_word_end text w rest × AreOperands ps rest others × (os ≡ (r, value w) ∷ others)
 
-abbrev pub Asks : Option Mnemonic → List ℕ → Read → Type 0
-Asks None operands r = r ≡ Err kinds.Word
-Asks (Some m) operands r = (words : Option Operands) × MayBeOperands (shape m) operands words × (r ≡ statement_of m words)
+-- what follows a first word is read by its form
+abbrev pub Asks : Option Form → List ℕ → Read → Type 0
+Asks None text r = r ≡ Err kinds.Word
+Asks (Some f) text r = ((os : Operands) × AreOperands f.parts text os × (r ≡ statement_of f.effect os)) ⊎ (((os : Operands) → AreOperands f.parts text os → ⊥) × (r ≡ Err kinds.Operand))
 
 -- nothing, or a first word up to a blank and its operands
 abbrev pub IsStatement : List ℕ → Read → Type 0
-IsStatement body r = (AreBlanks body × (r ≡ Ok nothing)) ⊎ ((name : List ℕ) × (operands : List ℕ) × HasWord is_blank body name operands × Asks (mnemonic_for name) operands r)
-
-abbrev pub LacksLabel : List ℕ → Type 0
-LacksLabel text = (name rest : List ℕ) → HasLabel text name rest → ⊥
-
--- what stands behind a line's label, or is all of its code
-abbrev pub IsBody : List ℕ → Option (List ℕ) → List ℕ → Type 0
-IsBody code None body = LacksLabel code × (body ≡ code)
-IsBody code (Some name) body = HasLabel code name body
-
--- what a line is read as beside its label
-abbrev pub IsRead : Bool → List ℕ → Read → Type 0
-IsRead true body r = r ≡ Err kinds.Word
-IsRead false body r = ((name : List ℕ) × (rest : List ℕ) × HasLabel body name rest × (r ≡ Err kinds.Word)) ⊎ (LacksLabel body × IsStatement body r)
+IsStatement body r = (Starts body [] × (r ≡ Ok (record { values = []; effect = λ v. bytes [] }))) ⊎ ((name : List ℕ) × (rest : List ℕ) × HasWord is_blank body name rest × Asks (find (λ f. bytes_eq name f.name) (instructions ++ directives)) rest r)
 
 -- ---- lines
 
--- a label or none, a statement or nothing, and a comment or none
+-- a label or none, and what stands behind it
+abbrev pub IsBody : List ℕ → Option (List ℕ) → List ℕ → Type 0
+IsBody code None body = ((name rest : List ℕ) → HasLabel code name rest → ⊥) × (body ≡ code)
+IsBody code (Some name) body = HasLabel code name body
+
+abbrev pub IsRead : Bool → List ℕ → Read → Type 0
+IsRead true body r = r ≡ Err kinds.Word
+IsRead false body r = IsStatement body r
+
+-- a label or none, no second one, a statement or nothing, and a comment or none
 pub record IsLine (text : List ℕ) (line : Line) : Type 0 where
   pub code : List ℕ
   pub comment : List ℕ
   pub body : List ℕ
-  pub split : without_return text ≡ code ++ comment
-  pub inside : list_all (λ b. not (is_comment b)) code ≡ true
-  pub end : ends is_comment comment ≡ true
+  pub second : Option (List ℕ)
+  pub rest : List ℕ
+  pub cut : IsCut is_comment (strip_carriage_return text) code comment
   pub label : IsBody code line.name body
-  pub statement : IsRead (list_any is_foreign text) body line.statement
+  pub other : IsBody body second rest
+  pub statement : IsRead (list_any is_foreign text || is_some second) rest line.statement

@@ -1,160 +1,132 @@
--- The statements: their first words, what follows each, and what it asks for.
+-- The statements: their first words, what follows each, and what it does.
 -- Source: RISC-V Unprivileged ISA, RV32I, the names of instructions; RISC-V Assembly Programmer's Manual, for operands and their order.
--- Our choice: the directives, and that a register's fault is named before a number's.
-use Rattle.std.specs.Prelude.{ℕ, ◌*◌, ◌-◌, ◌^◌, ◌&&◌, ◌||◌, Bool, false, List, [], ◌∷◌, ◌++◌, Option, Some, None, is_none, option_map, option_and_then, Result, Ok, Err, if◌then◌else◌, codes}
+-- Our choice: the directives, that `li` is always two words, and that a register's fault is named before a number's.
+use Rattle.std.specs.Prelude.{ℕ, ◌+◌, ◌*◌, ◌/◌, ◌%◌, ◌-◌, ◌^◌, ◌&&◌, ◌||◌, Bool, true, false, List, [], ◌∷◌, ◌++◌, map, replicate, filter_map, Option, Some, None, is_none, option_map, option_and_then, Ok, Err, if◌then◌else◌, codes}
+use Rattle.std.specs.Int.{w32, to_le_bytes}
 use Rattle.std.specs.List.{list_any, list_all}
-use Rattle.std.specs.Str.{bytes_eq}
-use Rattle.memory_model.specs.declared.Width.TheVariants as widths
-use Rattle.instruction_model.specs.declared.Comparison.TheVariants as comparisons
-use Rattle.instruction_model.specs.declared.LoadKind.TheVariants as loads
-use Rattle.instruction_model.specs.declared.Operation.TheVariants as operations
-use Rattle.instruction_model.specs.declared.Instruction.TheVariants as instructions
-use Rattle.source_model.specs.declared.error.AsmErrorKind.{AsmErrorKind}
+use Rattle.memory_model.specs.declared.Width.TheVariants.{One, Two, Four}
+use Rattle.instruction_model.specs.declared.Comparison.TheVariants.{Beq, Bne, Blt, Bge, Bltu, Bgeu}
+use Rattle.instruction_model.specs.declared.LoadKind.TheVariants.{Lb, Lh, Lw, Lbu, Lhu}
+use Rattle.instruction_model.specs.declared.Operation.TheVariants.{Add, Sub, Sll, Slt, Sltu, Xor, Srl, Sra, Or, And}
+use Rattle.instruction_model.specs.declared.Instruction.{Instruction}
+use Rattle.instruction_model.specs.declared.Instruction.TheVariants.{Lui, Auipc, Jal, Jalr, Branch, Load, Store, OperateImmediate, Operate, Fence, Ecall, Ebreak}
+use Rattle.instruction_model.specs.Encoding.{word_of}
+use Rattle.instruction_model.specs.Word.{sign_extended}
 use Rattle.source_model.specs.declared.error.AsmErrorKind.TheVariants as kinds
-use Rattle.source_model.specs.declared.mnemonic.Mnemonic.{Mnemonic}
-use Rattle.source_model.specs.declared.mnemonic.Mnemonic.TheVariants.{Operate, OperateImmediate, ShiftImmediate, Load, Store, Branch, Jalr, Jal, Lui, Auipc, Alone, LoadImmediate, Segment, Entry, Stack, Word, Byte, Zero}
 use Rattle.source_model.specs.Bytes.{is_letter, is_digit}
 use Rattle.source_model.specs.Number.{number_of, in_range, natural_of}
 use Rattle.source_model.specs.Register.{register_in}
-use Rattle.source_model.specs.Meaning.{Value, number, label, Statement, nothing, plain, branch, jump, load_immediate, segment, entry, stack, word, byte, zeros}
+use Rattle.source_model.specs.Meaning.{Value, number, label, distance, Effect, bytes, segment, entry, stack, Read}
 
--- ---- first words
+-- ---- operands
 
-abbrev pub Names : Type 0
-Names = List (List ℕ × Mnemonic)
-
-abbrev pub operation_names : Names
-operation_names =
-    (codes "add", Operate operations.Add) ∷ (codes "sub", Operate operations.Sub) ∷ (codes "sll", Operate operations.Sll)
-    ∷ (codes "slt", Operate operations.Slt) ∷ (codes "sltu", Operate operations.Sltu) ∷ (codes "xor", Operate operations.Xor)
-    ∷ (codes "srl", Operate operations.Srl) ∷ (codes "sra", Operate operations.Sra) ∷ (codes "or", Operate operations.Or)
-    ∷ (codes "and", Operate operations.And) ∷ []
-
-abbrev pub immediate_names : Names
-immediate_names =
-    (codes "addi", OperateImmediate operations.Add) ∷ (codes "slti", OperateImmediate operations.Slt)
-    ∷ (codes "sltiu", OperateImmediate operations.Sltu) ∷ (codes "xori", OperateImmediate operations.Xor)
-    ∷ (codes "ori", OperateImmediate operations.Or) ∷ (codes "andi", OperateImmediate operations.And)
-    ∷ (codes "slli", ShiftImmediate operations.Sll) ∷ (codes "srli", ShiftImmediate operations.Srl)
-    ∷ (codes "srai", ShiftImmediate operations.Sra) ∷ []
-
-abbrev pub memory_names : Names
-memory_names =
-    (codes "lb", Load loads.Lb) ∷ (codes "lh", Load loads.Lh) ∷ (codes "lw", Load loads.Lw) ∷ (codes "lbu", Load loads.Lbu)
-    ∷ (codes "lhu", Load loads.Lhu) ∷ (codes "sb", Store widths.One) ∷ (codes "sh", Store widths.Two) ∷ (codes "sw", Store widths.Four) ∷ []
-
-abbrev pub branch_names : Names
-branch_names =
-    (codes "beq", Branch comparisons.Beq) ∷ (codes "bne", Branch comparisons.Bne) ∷ (codes "blt", Branch comparisons.Blt)
-    ∷ (codes "bge", Branch comparisons.Bge) ∷ (codes "bltu", Branch comparisons.Bltu) ∷ (codes "bgeu", Branch comparisons.Bgeu) ∷ []
-
-abbrev pub other_names : Names
-other_names =
-    (codes "jalr", Jalr) ∷ (codes "jal", Jal) ∷ (codes "lui", Lui) ∷ (codes "auipc", Auipc)
-    ∷ (codes "fence", Alone instructions.Fence) ∷ (codes "ecall", Alone instructions.Ecall) ∷ (codes "ebreak", Alone instructions.Ebreak) ∷ []
-
--- what is no instruction of the listing
-abbrev pub directive_names : Names
-directive_names =
-    (codes "li", LoadImmediate) ∷ (codes ".segment", Segment) ∷ (codes ".entry", Entry) ∷ (codes ".stack", Stack)
-    ∷ (codes ".word", Word) ∷ (codes ".byte", Byte) ∷ (codes ".zero", Zero) ∷ []
-
-abbrev pub mnemonic_in : Names → List ℕ → Option Mnemonic
-mnemonic_in [] w = None
-mnemonic_in (e ∷ es) w = if bytes_eq w e.0 then Some e.1 else mnemonic_in es w
-
-unfoldable pub mnemonic_for : List ℕ → Option Mnemonic
-mnemonic_for w = mnemonic_in (operation_names ++ (immediate_names ++ (memory_names ++ (branch_names ++ (other_names ++ directive_names))))) w
-
--- ---- what follows them
-
--- a register; a number from minus the first to the second; a number from 0 on; a label or a number of 32 bits; a mark
+-- a mark, or a word: whether it is to be a register, and the value that it has
 pub data Part : Type 0 where
-  register : Part
-  field : ℕ → ℕ → Part
-  natural : Part
-  value : Part
-  comma : Part
-  left : Part
-  right : Part
+  mark : ℕ → Part
+  word : Bool → (List ℕ → Option Value) → Part
 
-abbrev pub shape : Mnemonic → List Part
-shape (Operate o) = register ∷ comma ∷ register ∷ comma ∷ register ∷ []
-shape (OperateImmediate o) = register ∷ comma ∷ register ∷ comma ∷ field 2048 2047 ∷ []
-shape (ShiftImmediate o) = register ∷ comma ∷ register ∷ comma ∷ field 0 31 ∷ []
-shape (Load k) = register ∷ comma ∷ field 2048 2047 ∷ left ∷ register ∷ right ∷ []
-shape (Store width) = register ∷ comma ∷ field 2048 2047 ∷ left ∷ register ∷ right ∷ []
-shape Jalr = register ∷ comma ∷ field 2048 2047 ∷ left ∷ register ∷ right ∷ []
-shape (Branch c) = register ∷ comma ∷ register ∷ comma ∷ value ∷ []
-shape Jal = register ∷ comma ∷ value ∷ []
-shape LoadImmediate = register ∷ comma ∷ value ∷ []
-shape Lui = register ∷ comma ∷ field 0 (2 ^ 20 - 1) ∷ []
-shape Auipc = register ∷ comma ∷ field 0 (2 ^ 20 - 1) ∷ []
-shape (Alone i) = []
-shape Segment = field 0 (2 ^ 32 - 1) ∷ natural ∷ []
-shape Entry = value ∷ []
-shape Stack = value ∷ []
-shape Word = value ∷ []
-shape Byte = field 0 255 ∷ []
-shape Zero = natural ∷ []
+abbrev pub comma : Part
+comma = mark 44
 
--- what a mnemonic asks for with these values; no others have its shape
-abbrev pub statement_with : Mnemonic → List Value → Statement
-statement_with (Operate o) (number rd ∷ number rs1 ∷ number rs2 ∷ []) = plain (instructions.Operate o rd rs1 rs2)
-statement_with (OperateImmediate o) (number rd ∷ number rs1 ∷ number n ∷ []) = plain (instructions.OperateImmediate o rd rs1 n)
-statement_with (ShiftImmediate o) (number rd ∷ number rs1 ∷ number n ∷ []) = plain (instructions.OperateImmediate o rd rs1 n)
-statement_with (Load k) (number rd ∷ number n ∷ number rs1 ∷ []) = plain (instructions.Load k rd rs1 n)
-statement_with (Store width) (number rs2 ∷ number n ∷ number rs1 ∷ []) = plain (instructions.Store width rs1 rs2 n)
-statement_with Jalr (number rd ∷ number n ∷ number rs1 ∷ []) = plain (instructions.Jalr rd rs1 n)
-statement_with (Branch c) (number rs1 ∷ number rs2 ∷ t ∷ []) = branch c rs1 rs2 t
-statement_with Jal (number rd ∷ t ∷ []) = jump rd t
-statement_with LoadImmediate (number rd ∷ v ∷ []) = load_immediate rd v
-statement_with Lui (number rd ∷ number n ∷ []) = plain (instructions.Lui rd (4096 * n))
-statement_with Auipc (number rd ∷ number n ∷ []) = plain (instructions.Auipc rd (4096 * n))
-statement_with (Alone i) [] = plain i
-statement_with Segment (number a ∷ number p ∷ []) = segment a p
-statement_with Entry (v ∷ []) = entry v
-statement_with Stack (v ∷ []) = stack v
-statement_with Word (v ∷ []) = word v
-statement_with Byte (number n ∷ []) = byte n
-statement_with Zero (number n ∷ []) = zeros n
-statement_with m vs = nothing
+abbrev pub left : Part
+left = mark 40
 
--- ---- their values
+abbrev pub right : Part
+right = mark 41
+
+abbrev pub register : Part
+register = word true (λ w. option_map (λ n. number n) (register_in w))
+
+-- a number from minus the first to the second
+abbrev pub number_in : ℕ → ℕ → List ℕ → Option Value
+number_in below above w = option_map (λ n. number n) (option_and_then (in_range below above) (number_of w))
+
+abbrev pub field : ℕ → ℕ → Part
+field below above = word false (number_in below above)
+
+-- a number from 0 on
+abbrev pub natural : Part
+natural = word false (λ w. option_map (λ n. number n) (option_and_then natural_of (number_of w)))
 
 -- letters and digits, a letter first
 abbrev pub is_label : List ℕ → Bool
 is_label [] = false
 is_label (b ∷ bs) = is_letter b && list_all (λ c. is_letter c || is_digit c) bs
 
-abbrev pub number_in : ℕ → ℕ → List ℕ → Option Value
-number_in below above w = option_map (λ n. number n) (option_and_then (in_range below above) (number_of w))
+abbrev pub value_in : List ℕ → Option Value
+value_in w = if is_label w then Some (label w) else number_in (2 ^ 31) (2 ^ 32 - 1) w
 
--- the value of a word at a part; none where it has none
-abbrev pub value_of : Part → List ℕ → Option Value
-value_of register w = option_map (λ n. number n) (register_in w)
-value_of (field below above) w = number_in below above w
-value_of natural w = option_map (λ n. number n) (option_and_then natural_of (number_of w))
-value_of value w = if is_label w then Some (label w) else number_in (2 ^ 31) (2 ^ 32 - 1) w
-value_of p w = None
+-- a label or a number of 32 bits
+abbrev pub value : Part
+value = word false value_in
 
-abbrev pub is_no_register : Part → List ℕ → Bool
-is_no_register register w = is_none (register_in w)
-is_no_register p w = false
+-- the distance to it
+abbrev pub target : ℕ → Part
+target reach = word false (λ w. option_map (distance reach) (value_in w))
 
--- words, each with its part
+-- of each word whether it is to be a register, and its value
 abbrev pub Operands : Type 0
-Operands = List (Part × List ℕ)
+Operands = List (Bool × Option Value)
 
-abbrev pub values_in : Operands → Option (List Value)
-values_in [] = Some []
-values_in (o ∷ os) = option_and_then (λ v. option_map (λ vs. v ∷ vs) (values_in os)) (value_of o.0 o.1)
+-- what these operands ask for, or the first kind of fault
+abbrev pub statement_of : ((ℕ → ℕ) → Effect) → Operands → Read
+statement_of effect os =
+    if list_any (λ o. o.0 && is_none o.1) os then Err kinds.Register
+    else if list_any (λ o. is_none o.1) os then Err kinds.Number
+    else Ok (record { values = filter_map (λ o. o.1) os; effect = effect })
 
-abbrev pub or_number : Option Statement → Result Statement AsmErrorKind
-or_number None = Err kinds.Number
-or_number (Some s) = Ok s
+-- ---- what statements do
 
--- the statement of a mnemonic and its operands, none where they have not its shape; or the first kind of fault
-abbrev pub statement_of : Mnemonic → Option Operands → Result Statement AsmErrorKind
-statement_of m None = Err kinds.Operand
-statement_of m (Some os) = if list_any (λ o. is_no_register o.0 o.1) os then Err kinds.Register else or_number (option_map (statement_with m) (values_in os))
+abbrev pub instruction : Instruction → List ℕ
+instruction i = to_le_bytes w32 (word_of i)
+
+-- the nearest multiple of 4,096 that is at most 2,048 above, modulo 2 ^ 32
+abbrev pub upper_part : ℕ → ℕ
+upper_part v = (v + 0x800) / 0x1000 % 2 ^ 20 * 0x1000
+
+-- what is left of it, from -2,048 to 2,047
+abbrev pub lower_part : ℕ → ℕ
+lower_part v = sign_extended 12 (v % 0x1000)
+
+-- a first word, what follows it, and what it does with the values of these
+pub record Form : Type 0 where
+  pub name : List ℕ
+  pub parts : List Part
+  pub effect : (ℕ → ℕ) → Effect
+
+-- forms that differ by one thing
+abbrev pub forms_of : {A : Type 0} → List Part → (A → (ℕ → ℕ) → Effect) → List (List ℕ × A) → List Form
+forms_of parts effect names = map (λ n. record { name = n.0; parts = parts; effect = effect n.1 }) names
+
+abbrev pub instructions : List Form
+instructions =
+    forms_of (register ∷ comma ∷ register ∷ comma ∷ register ∷ []) (λ o v. bytes (instruction (Operate o (v 0) (v 1) (v 2))))
+    ((codes "add", Add) ∷ (codes "sub", Sub) ∷ (codes "sll", Sll) ∷ (codes "slt", Slt) ∷ (codes "sltu", Sltu)
+    ∷ (codes "xor", Xor) ∷ (codes "srl", Srl) ∷ (codes "sra", Sra) ∷ (codes "or", Or) ∷ (codes "and", And) ∷ [])
+    ++ forms_of (register ∷ comma ∷ register ∷ comma ∷ field 2048 2047 ∷ []) (λ o v. bytes (instruction (OperateImmediate o (v 0) (v 1) (v 2))))
+    ((codes "addi", Add) ∷ (codes "slti", Slt) ∷ (codes "sltiu", Sltu) ∷ (codes "xori", Xor) ∷ (codes "ori", Or) ∷ (codes "andi", And) ∷ [])
+    ++ forms_of (register ∷ comma ∷ register ∷ comma ∷ field 0 31 ∷ []) (λ o v. bytes (instruction (OperateImmediate o (v 0) (v 1) (v 2))))
+    ((codes "slli", Sll) ∷ (codes "srli", Srl) ∷ (codes "srai", Sra) ∷ [])
+    ++ forms_of (register ∷ comma ∷ field 2048 2047 ∷ left ∷ register ∷ right ∷ []) (λ k v. bytes (instruction (Load k (v 0) (v 2) (v 1))))
+    ((codes "lb", Lb) ∷ (codes "lh", Lh) ∷ (codes "lw", Lw) ∷ (codes "lbu", Lbu) ∷ (codes "lhu", Lhu) ∷ [])
+    ++ forms_of (register ∷ comma ∷ field 2048 2047 ∷ left ∷ register ∷ right ∷ []) (λ width v. bytes (instruction (Store width (v 2) (v 0) (v 1))))
+    ((codes "sb", One) ∷ (codes "sh", Two) ∷ (codes "sw", Four) ∷ [])
+    ++ forms_of (register ∷ comma ∷ register ∷ comma ∷ target (2 ^ 12) ∷ []) (λ c v. bytes (instruction (Branch c (v 0) (v 1) (v 2))))
+    ((codes "beq", Beq) ∷ (codes "bne", Bne) ∷ (codes "blt", Blt) ∷ (codes "bge", Bge) ∷ (codes "bltu", Bltu) ∷ (codes "bgeu", Bgeu) ∷ [])
+    ++ record { name = codes "jalr"; parts = register ∷ comma ∷ field 2048 2047 ∷ left ∷ register ∷ right ∷ []; effect = λ v. bytes (instruction (Jalr (v 0) (v 2) (v 1))) }
+    ∷ record { name = codes "jal"; parts = register ∷ comma ∷ target (2 ^ 20) ∷ []; effect = λ v. bytes (instruction (Jal (v 0) (v 1))) }
+    ∷ forms_of (register ∷ comma ∷ field 0 (2 ^ 20 - 1) ∷ []) (λ (make : ℕ → ℕ → Instruction) v. bytes (instruction (make (v 0) (4096 * v 1))))
+    ((codes "lui", λ rd n. Lui rd n) ∷ (codes "auipc", λ rd n. Auipc rd n) ∷ [])
+    ++ forms_of [] (λ i v. bytes (instruction i)) ((codes "fence", Fence) ∷ (codes "ecall", Ecall) ∷ (codes "ebreak", Ebreak) ∷ [])
+
+-- what is no instruction of the listing
+abbrev pub directives : List Form
+directives =
+    record { name = codes "li"; parts = register ∷ comma ∷ value ∷ []; effect = λ v. bytes (instruction (Lui (v 0) (upper_part (v 1))) ++ instruction (OperateImmediate Add (v 0) (v 0) (lower_part (v 1)))) }
+    ∷ record { name = codes ".segment"; parts = field 0 (2 ^ 32 - 1) ∷ natural ∷ []; effect = λ v. segment (v 0) (v 1) }
+    ∷ record { name = codes ".entry"; parts = value ∷ []; effect = λ v. entry (v 0) }
+    ∷ record { name = codes ".stack"; parts = value ∷ []; effect = λ v. stack (v 0) }
+    ∷ record { name = codes ".word"; parts = value ∷ []; effect = λ v. bytes (to_le_bytes w32 (v 0)) }
+    ∷ record { name = codes ".byte"; parts = field 0 255 ∷ []; effect = λ v. bytes (v 0 ∷ []) }
+    ∷ record { name = codes ".zero"; parts = natural ∷ []; effect = λ v. bytes (replicate (v 0) 0) }
+    ∷ []

@@ -5,7 +5,7 @@ use Rattle.source_model.specs.declared.error.AsmError.{AsmError}
 use Rattle.image_model.specs.Image.{Image}
 use Rattle.source_model.specs.Bytes.{lines_of}
 use Rattle.source_model.specs.Grammar.{IsLine}
-use Rattle.source_model.specs.Meaning.{Line, fault_in, worth_in, image_of}
+use Rattle.source_model.specs.Meaning.{Line, label_in, draft_of, image_of, fault_in}
 
 -- each text is read as the line in its place
 abbrev pub AreLines : List (List ℕ) → List Line → Type 0
@@ -33,7 +33,7 @@ pub record SourceOf (text : List ℕ) (i : Image) : Type 0 where
   pub lines : List Line
   pub read : AreLines (lines_of text) lines
   pub faultless : AreFaultless lines [] lines
-  pub image : i ≡ image_of (worth_in lines) lines
+  pub image : i ≡ image_of (draft_of (label_in lines) lines)
 
 -- the text is refused with this fault
 pub record IsRefused (text : List ℕ) (e : AsmError) : Type 0 where
