@@ -23,7 +23,7 @@ use Rattle.source_model.specs.Reading as reading
 use Rattle.source_model.specs.Reading.{Draft, operand_of, draft_with}
 use Rattle.source_model.specs.Statement as old
 use Rattle.source_model.specs.Meaning as model
-use Rattle.source_model.specs.Meaning.{Value, number, label, distance, Effect, bytes, segment, entry, stack, Statement, Read, Labels, worth_of, effect_of, end_of, address_after, with_bytes, is_out_of_place, with_effect, is_out_of_reach, is_too_far}
+use Rattle.source_model.specs.Meaning.{Value, number, label, distance, Effect, bytes, segment, entry, stack, Statement, Read, Labels, worth_of, effect_of, end_of, address_after, with_content, is_out_of_place, with_effect, is_out_of_reach, is_too_far}
 use Rattle.source_model.specs.Operand.{instruction, upper_part, lower_part}
 use Rattle.source_model.proofs.Segments.{top_of, layout_of, address-same, room-same, more-layout, begun-layout}
 use Rattle.source_model.proofs.Drafts.{file_size, view, size-grown, grows, begins}
@@ -268,11 +268,11 @@ abbrev begun : ℕ → ℕ → Statement
 begun a p = with_values (number a ∷ number p ∷ []) (λ v. segment (v 0) (v 1))
 
 in-place : (d : model.Draft) (a p : ℕ) → is_out_of_place d.segments (segment a p) ≡ false → min p 4 ≡ p
-in-place d a p h = permission-stays p (or-none (nat_lt 3 p) (nat_lt (a / 4096 * 4096) (end_of (with_bytes d.segments))) (nat_le 64 (length d.segments)) h)
+in-place d a p h = permission-stays p (or-none (nat_lt 3 p) (nat_lt (a / 4096 * 4096) (end_of (with_content d.segments))) (nat_le 64 (length d.segments)) h)
 
 pub segment-same : (a p : ℕ) → Same (statements.Segment a (min p 4)) [] (begun a p)
 segment-same a p = record {
-  place = λ labels d. ap (λ (t : Bool). t || nat_lt (a / 4096 * 4096) (end_of (with_bytes d.segments)) || nat_le 64 (length d.segments)) (permission-same p);
+  place = λ labels d. ap (λ (t : Bool). t || nat_lt (a / 4096 * 4096) (end_of (with_content d.segments)) || nat_le 64 (length d.segments)) (permission-same p);
   layout = λ labels d h. begun-layout d.segments a p;
   size = λ labels d h. refl;
   draft = λ labels d v e h. ap (λ (n : ℕ). draft_with (view d) (statements.Segment a n) v) (in-place d a p h) ∙ begins d a p v;

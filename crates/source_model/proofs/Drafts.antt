@@ -11,7 +11,7 @@ use Rattle.source_model.specs.declared.statement.Statement.TheVariants as statem
 use Rattle.source_model.specs.Bytes.{is_empty}
 use Rattle.source_model.specs.Layout as layouts
 use Rattle.source_model.specs.Meaning as model
-use Rattle.source_model.specs.Meaning.{Effect, bytes, segment, entry, stack, with_bytes, extended, with_effect, is_out_of_place, image_of}
+use Rattle.source_model.specs.Meaning.{Effect, bytes, segment, entry, stack, with_content, with_bytes, with_effect, is_out_of_place, image_of}
 use Rattle.source_model.specs.Reading as reading
 use Rattle.source_model.specs.Reading.{Draft, all_segments, size_with, or_first, draft_with, draft_image}
 use Rattle.source_model.proofs.Segments.{top_of, layout_of, room-same, more-layout, begun-layout}
@@ -35,7 +35,7 @@ first_of (s ∷ t ∷ ss) = first_of (t ∷ ss)
 
 -- the segments that have bytes, the last one last
 abbrev pub in_order : List Segment → List Segment
-in_order ss = reverse (with_bytes ss)
+in_order ss = reverse (with_content ss)
 
 abbrev pub file_size : List Segment → ℕ
 file_size ss = 14 + length (flat_map segment_bytes (in_order ss))
@@ -56,7 +56,7 @@ last-step s ss false e = cc
 
 close-is : (a p : ℕ) (content : List ℕ) (ss : List Segment) → all_segments a p content (in_order ss) ≡ in_order (record { address = a; permission = p; content = content } ∷ ss)
 close-is a p [] ss = refl
-close-is a p (b ∷ bs) ss = last-step (record { address = a; permission = p; content = b ∷ bs }) (with_bytes ss) (nat_lt 0 (length (b ∷ bs))) (filled b bs (nat_lt 0 (length (b ∷ bs))) refl)
+close-is a p (b ∷ bs) ss = last-step (record { address = a; permission = p; content = b ∷ bs }) (with_content ss) (nat_lt 0 (length (b ∷ bs))) (filled b bs (nat_lt 0 (length (b ∷ bs))) refl)
 
 -- the segments with bytes, the last one among them
 pub all_segments-same : (ss : List Segment) → all_segments (head_of ss).address (head_of ss).permission (head_of ss).content (in_order (tail_of ss)) ≡ in_order ss
@@ -87,7 +87,7 @@ none-there [] h = refl
 none-there (b ∷ bs) h = let room : layouts.bytes_out_of_place None (length (b ∷ bs)) ≡ false = room-same [] (b ∷ bs) ∙ h in absurd (omega (arith, ltb-false 0 (length (b ∷ bs)) room))
 
 -- the size of the file with bytes more
-pub size-grown : (ss : List Segment) (e : Option ℕ) (k : ℕ) (b : List ℕ) (n : ℕ) → length b ≡ n → is_out_of_place ss (bytes b) ≡ false → size_with (draft_at ss e k) n ≡ file_size (extended ss b)
+pub size-grown : (ss : List Segment) (e : Option ℕ) (k : ℕ) (b : List ℕ) (n : ℕ) → length b ≡ n → is_out_of_place ss (bytes b) ≡ false → size_with (draft_at ss e k) n ≡ file_size (with_bytes ss b)
 size-grown [] e k b n counted room =
     let none : n ≡ 0 = sym counted ∙ none-there b room in
     rw none refl
@@ -97,14 +97,14 @@ nil-bytes : (b : List ℕ) → length b ≡ 0 → b ≡ []
 nil-bytes [] h = refl
 nil-bytes (b ∷ bs) h = absurd (omega (arith, h))
 
-pub grows : (ss : List Segment) (e : Option ℕ) (k : ℕ) (b : List ℕ) (n : ℕ) → length b ≡ n → is_out_of_place ss (bytes b) ≡ false → with_more (draft_at ss e k) n b ≡ draft_at (extended ss b) e k
+pub grows : (ss : List Segment) (e : Option ℕ) (k : ℕ) (b : List ℕ) (n : ℕ) → length b ≡ n → is_out_of_place ss (bytes b) ≡ false → with_more (draft_at ss e k) n b ≡ draft_at (with_bytes ss b) e k
 grows [] e k b n counted room =
     let none : n ≡ 0 = sym counted ∙ none-there b room in
     let nil : b ≡ [] = nil-bytes b (none-there b room) in
     rw (none, nil) refl
 grows (s ∷ ss) e k b n counted room =
-    same-draft s ss e k (layouts.further (top_of (s ∷ ss)) (layout_of (s ∷ ss)) n) (layout_of (extended (s ∷ ss) b)) (size_with (draft_at (s ∷ ss) e k) n) (file_size (extended (s ∷ ss) b)) (s.content ++ b) (more-layout (s ∷ ss) b n counted) (size-grown (s ∷ ss) e k b n counted room)
-    ∙ ap (λ (f : Option ℕ). record (draft_at (extended (s ∷ ss) b) e k) { first = f }) (first-kept s (record s { content = s.content ++ b }) ss refl)
+    same-draft s ss e k (layouts.further (top_of (s ∷ ss)) (layout_of (s ∷ ss)) n) (layout_of (with_bytes (s ∷ ss) b)) (size_with (draft_at (s ∷ ss) e k) n) (file_size (with_bytes (s ∷ ss) b)) (s.content ++ b) (more-layout (s ∷ ss) b n counted) (size-grown (s ∷ ss) e k b n counted room)
+    ∙ ap (λ (f : Option ℕ). record (draft_at (with_bytes (s ∷ ss) b) e k) { first = f }) (first-kept s (record s { content = s.content ++ b }) ss refl)
 
 -- ---- a segment begins
 

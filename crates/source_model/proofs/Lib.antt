@@ -6,6 +6,8 @@ pub mod Shapes
 pub mod Segments
 pub mod Drafts
 pub mod Alike
+pub mod Numerals
+pub mod Registers
 pub mod Statements
 pub mod Lines
 pub mod Labels

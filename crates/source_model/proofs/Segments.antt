@@ -6,14 +6,14 @@ use borrow.Author.Tests.{eqb-true, lt-ltb}
 use Rattle.image_model.specs.Image.{Segment}
 use Rattle.source_model.specs.declared.statement.Layout.{Layout}
 use Rattle.source_model.specs.Layout as layouts
-use Rattle.source_model.specs.Meaning.{bytes, Draft, end_of, address_after, with_bytes, is_out_of_place, extended}
+use Rattle.source_model.specs.Meaning.{bytes, Draft, end_of, address_after, with_content, is_out_of_place, with_bytes}
 
 abbrev pub top_of : List Segment → Option ℕ
 top_of [] = None
 top_of (s ∷ ss) = Some (s.address + length s.content)
 
 abbrev pub layout_of : List Segment → Layout
-layout_of ss = record { reached = top_of ss; used = end_of (with_bytes ss); begun = length ss }
+layout_of ss = record { reached = top_of ss; used = end_of (with_content ss); begun = length ss }
 
 address-in : (ss : List Segment) → layouts.address_in (top_of ss) ≡ layouts.address_in (Some (end_of ss))
 address-in [] = refl
@@ -56,23 +56,23 @@ used-step s ss true e = refl
 used-step s ss false e = cc
 
 more-step : (s : Segment) (ss : List Segment) (b : ℕ) (bs : List ℕ) (t : Bool) → (length (b ∷ bs) == 0) ≡ t
-    → cond t (layout_of (s ∷ ss)) (layout_at (Some (s.address + length s.content + length (b ∷ bs))) (s.address + length s.content + length (b ∷ bs)) (length (s ∷ ss))) ≡ layout_of (extended (s ∷ ss) (b ∷ bs))
+    → cond t (layout_of (s ∷ ss)) (layout_at (Some (s.address + length s.content + length (b ∷ bs))) (s.address + length s.content + length (b ∷ bs)) (length (s ∷ ss))) ≡ layout_of (with_bytes (s ∷ ss) (b ∷ bs))
 more-step s ss b bs true e = absurd (omega (arith, eqb-true (length (b ∷ bs)) 0 e))
 more-step s ss b bs false e =
     let longer : Segment = record s { content = s.content ++ b ∷ bs } in
     let end : s.address + length s.content + length (b ∷ bs) ≡ s.address + length (s.content ++ b ∷ bs) = omega (arith, length-append s.content (b ∷ bs)) in
-    let used : end_of (with_bytes (longer ∷ ss)) ≡ s.address + length (s.content ++ b ∷ bs) = used-step longer (with_bytes ss) (nat_lt 0 (length (s.content ++ b ∷ bs))) (some-left s.content b bs) in
-    same-layout (Some (s.address + length s.content + length (b ∷ bs))) (Some (s.address + length (s.content ++ b ∷ bs))) (s.address + length s.content + length (b ∷ bs)) (end_of (with_bytes (longer ∷ ss))) (length (s ∷ ss)) (ap (λ (n : ℕ). Some n) end) (end ∙ sym used)
+    let used : end_of (with_content (longer ∷ ss)) ≡ s.address + length (s.content ++ b ∷ bs) = used-step longer (with_content ss) (nat_lt 0 (length (s.content ++ b ∷ bs))) (some-left s.content b bs) in
+    same-layout (Some (s.address + length s.content + length (b ∷ bs))) (Some (s.address + length (s.content ++ b ∷ bs))) (s.address + length s.content + length (b ∷ bs)) (end_of (with_content (longer ∷ ss))) (length (s ∷ ss)) (ap (λ (n : ℕ). Some n) end) (end ∙ sym used)
 
-more-same : (ss : List Segment) (b : List ℕ) → layouts.further (top_of ss) (layout_of ss) (length b) ≡ layout_of (extended ss b)
+more-same : (ss : List Segment) (b : List ℕ) → layouts.further (top_of ss) (layout_of ss) (length b) ≡ layout_of (with_bytes ss b)
 more-same [] b = refl
 more-same (s ∷ ss) [] = rw append-nil refl
 more-same (s ∷ ss) (b ∷ bs) = more-step s ss b bs (length (b ∷ bs) == 0) refl
 
-pub more-layout : (ss : List Segment) (b : List ℕ) (n : ℕ) → length b ≡ n → layouts.further (top_of ss) (layout_of ss) n ≡ layout_of (extended ss b)
+pub more-layout : (ss : List Segment) (b : List ℕ) (n : ℕ) → length b ≡ n → layouts.further (top_of ss) (layout_of ss) n ≡ layout_of (with_bytes ss b)
 more-layout ss b n e = rw (← e) (more-same ss b)
 
-pub begun-layout : (ss : List Segment) (a p : ℕ) → layout_at (Some a) (end_of (with_bytes ss)) (length ss + 1) ≡ layout_of (record { address = a; permission = p; content = [] } ∷ ss)
+pub begun-layout : (ss : List Segment) (a p : ℕ) → layout_at (Some a) (end_of (with_content ss)) (length ss + 1) ≡ layout_of (record { address = a; permission = p; content = [] } ∷ ss)
 begun-layout ss a p =
     let count : length ss + 1 ≡ suc (length ss) = omega arith in
     let top : a ≡ a + 0 = omega arith in

@@ -20,15 +20,19 @@ use Rattle.source_model.specs.declared.statement.Value.TheVariants as value_form
 use Rattle.source_model.specs.Bytes.{is_empty, is_blank, is_letter, is_digit}
 use Rattle.source_model.specs.Text as texts
 use Rattle.source_model.specs.Text.{◌>>=◌, contains, from, one_word, two_apart, two_words, three_words, word_and_address}
-use Rattle.source_model.specs.Number.{number_of, in_range, natural_of}
+use Rattle.source_model.specs.Number as numbers
+use Rattle.source_model.specs.Numeral.{number_in, natural_in}
 use Rattle.source_model.specs.Field.{or_fault, field, up_to, count, value_of, register_of}
-use Rattle.source_model.specs.Register.{register_in}
+use Rattle.source_model.specs.Register as registers
+use Rattle.source_model.specs.RegisterNames.{register_in}
 use Rattle.source_model.specs.Statement.{Read, operate, operate_immediate, shift_immediate, address_of, load, jump_to_register, store, branch, jump, upper, load_upper, add_upper, alone, load_immediate, segment, entry, stack, word, byte, zeros, operands}
 use Rattle.source_model.specs.Statement as old
 use Rattle.source_model.specs.Meaning as model
 use Rattle.source_model.specs.Meaning.{Value, number, label, distance, Effect, bytes, Labels, effect_of, worth_of, is_too_far}
 use Rattle.source_model.specs.Operand as parts
-use Rattle.source_model.specs.Operand.{Part, mark, comma, left, right, register, natural, value, target, number_in, is_label, value_in, Operands, statement_of, instruction}
+use Rattle.source_model.specs.Operand.{Part, mark, comma, left, right, register, natural, value, target, is_label, value_in, Operands, statement_of, instruction}
+use Rattle.source_model.proofs.Numerals.{in-range-same, natural-same}
+use Rattle.source_model.proofs.Registers.{register-same}
 use Rattle.source_model.proofs.Words.{Word, words_of, AreSolid}
 use Rattle.source_model.proofs.Shapes.{Agree, one, two, three, one-agrees, two-agrees, three-agrees, apart-agrees, address-agrees}
 use Rattle.source_model.proofs.Alike.{value_view, Same, Alike, with_values, plain, byte-same, loading, load-same, word-same, entry-same, stack-same, branch-same, jump-same, segment-same, zeros-same}
@@ -227,13 +231,16 @@ up-step : (bound n : ℕ) (t : Bool) → option_map (λ k. min k (bound + 1)) (c
 up-step bound n true = ap (λ (k : ℕ). Some k) (omega arith)
 up-step bound n false = refl
 
-up-same : (bound : ℕ) (k : Number) → up_to bound k ≡ option_map (λ n. min n (bound + 1)) (natural_of k)
+up-same : (bound : ℕ) (k : Number) → up_to bound k ≡ option_map (λ n. min n (bound + 1)) (numbers.natural_of k)
 up-same bound (Plus n) = refl
 up-same bound (Minus n) = sym (up-step bound n (n == 0))
 
-up-of : (bound : ℕ) (k : Option Number) → option_and_then (up_to bound) k ≡ option_map (λ n. min n (bound + 1)) (option_and_then natural_of k)
+up-of : (bound : ℕ) (k : Option Number) → option_and_then (up_to bound) k ≡ option_map (λ n. min n (bound + 1)) (option_and_then numbers.natural_of k)
 up-of bound None = refl
 up-of bound (Some k) = up-same bound k
+
+count-same : (bound : ℕ) (w : List ℕ) → option_and_then (up_to bound) (numbers.number_of w) ≡ option_map (λ n. min n (bound + 1)) (natural_in w)
+count-same bound w = up-of bound (numbers.number_of w) ∙ ap (option_map (λ n. min n (bound + 1))) (natural-same w)
 
 segment-is : (a p : Option ℕ) → Alike (fit a >>= λ x. fit (option_map (λ n. min n (3 + 1)) p) >>= λ y. Ok (statements.Segment x y, [])) (statement_of (effect words.Segment) (n a ∷ n p ∷ []))
 segment-is None p = refl
@@ -266,10 +273,10 @@ abbrev a_register : Word
 a_register = (true, λ w. num (register_in w))
 
 abbrev a_field : ℕ → ℕ → Word
-a_field below above = (false, number_in below above)
+a_field below above = (false, λ w. num (number_in below above w))
 
 abbrev a_natural : Word
-a_natural = (false, λ w. num (option_and_then natural_of (number_of w)))
+a_natural = (false, λ w. num (natural_in w))
 
 abbrev a_value : Word
 a_value = (false, value_in)
@@ -277,58 +284,63 @@ a_value = (false, value_in)
 abbrev a_target : ℕ → Word
 a_target reach = (false, λ w. option_map (distance reach) (value_in w))
 
-abbrev small : ℕ → ℕ → List ℕ → Option ℕ
-small below above w = option_and_then (in_range below above) (number_of w)
-
 abbrev word_value : List ℕ → Option ℕ
-word_value w = small (2 ^ 31) (2 ^ 32 - 1) w
+word_value w = number_in (2 ^ 31) (2 ^ 32 - 1) w
+
+-- registers and numbers as they are read
+abbrev reg_of : List ℕ → Result ℕ AsmErrorKind
+reg_of w = reg (registers.register_in w)
+
+abbrev fit_of : ℕ → ℕ → List ℕ → Result ℕ AsmErrorKind
+fit_of below above w = fit (option_and_then (numbers.in_range below above) (numbers.number_of w))
 
 address-is : (make : ℕ → ℕ → ℕ → Instruction) (text : List ℕ) (o : Option Operands) → Agree (three a_register (a_field 2048 2047) a_register) (word_and_address text) o
     → Alike (address_of text >>= λ a. old.plain (make a.0 a.1 a.2)) (read_by (λ v. bytes (instruction (make (v 0) (v 2) (v 1)))) o)
 unfolding address_of register_of field
 address-is make text o agrees =
     subst (λ (x : Read). Alike x (read_by (λ v. bytes (instruction (make (v 0) (v 2) (v 1)))) o))
-    (sym (bind-twice (word_and_address text) (λ w. reg (register_in w.0) >>= λ x. reg (register_in w.2) >>= λ y. fit (small 2048 2047 w.1) >>= λ z. triple x y z) (λ a. old.plain (make a.0 a.1 a.2))))
-    (by (three a_register (a_field 2048 2047) a_register) (word_and_address text) o (λ w. (reg (register_in w.0) >>= λ x. reg (register_in w.2) >>= λ y. fit (small 2048 2047 w.1) >>= λ z. triple x y z) >>= λ a. old.plain (make a.0 a.1 a.2)) (λ v. bytes (instruction (make (v 0) (v 2) (v 1)))) agrees
-    (λ w. address-number make (register_in w.0) (small 2048 2047 w.1) (register_in w.2)))
+    (sym (bind-twice (word_and_address text) (λ w. reg_of w.0 >>= λ x. reg_of w.2 >>= λ y. fit_of 2048 2047 w.1 >>= λ z. triple x y z) (λ a. old.plain (make a.0 a.1 a.2))))
+    (by (three a_register (a_field 2048 2047) a_register) (word_and_address text) o (λ w. (reg_of w.0 >>= λ x. reg_of w.2 >>= λ y. fit_of 2048 2047 w.1 >>= λ z. triple x y z) >>= λ a. old.plain (make a.0 a.1 a.2)) (λ v. bytes (instruction (make (v 0) (v 2) (v 1)))) agrees
+    (λ w. rw (register-same w.0, register-same w.2, in-range-same 2048 2047 w.1) (address-number make (register_in w.0) (number_in 2048 2047 w.1) (register_in w.2))))
 
 upper-is : (make : ℕ → ℕ → Instruction) (text : List ℕ) (o : Option Operands) → Agree (two a_register (a_field 0 (2 ^ 20 - 1))) (two_words text) o
     → Alike (upper text >>= λ u. old.plain (make u.0 u.1)) (read_by (λ v. bytes (instruction (make (v 0) (4096 * v 1)))) o)
 unfolding upper register_of field
 upper-is make text o agrees =
     subst (λ (x : Read). Alike x (read_by (λ v. bytes (instruction (make (v 0) (4096 * v 1)))) o))
-    (sym (bind-twice (two_words text) (λ w. reg (register_in w.0) >>= λ x. fit (small 0 (2 ^ 20 - 1) w.1) >>= λ n. pair x (4096 * n)) (λ a. old.plain (make a.0 a.1))))
-    (by (two a_register (a_field 0 (2 ^ 20 - 1))) (two_words text) o (λ w. (reg (register_in w.0) >>= λ x. fit (small 0 (2 ^ 20 - 1) w.1) >>= λ n. pair x (4096 * n)) >>= λ a. old.plain (make a.0 a.1)) (λ v. bytes (instruction (make (v 0) (4096 * v 1)))) agrees
-    (λ w. register-number make (register_in w.0) (small 0 (2 ^ 20 - 1) w.1)))
+    (sym (bind-twice (two_words text) (λ w. reg_of w.0 >>= λ x. fit_of 0 (2 ^ 20 - 1) w.1 >>= λ n. pair x (4096 * n)) (λ a. old.plain (make a.0 a.1))))
+    (by (two a_register (a_field 0 (2 ^ 20 - 1))) (two_words text) o (λ w. (reg_of w.0 >>= λ x. fit_of 0 (2 ^ 20 - 1) w.1 >>= λ n. pair x (4096 * n)) >>= λ a. old.plain (make a.0 a.1)) (λ v. bytes (instruction (make (v 0) (4096 * v 1)))) agrees
+    (λ w. rw (register-same w.0, in-range-same 0 (2 ^ 20 - 1) w.1) (register-number make (register_in w.0) (number_in 0 (2 ^ 20 - 1) w.1))))
 
 pub operands-same : (m : Mnemonic) (text : List ℕ) → Alike (operands m text) (read_by (effect m) (words_of (shape m) text))
 unfolding operands operate operate_immediate shift_immediate load jump_to_register store branch jump load_upper add_upper alone load_immediate segment entry stack word byte zeros register_of field count value_of
 operands-same (words.Operate o) text = by (three a_register a_register a_register) (three_words text) (words_of (shape (words.Operate o)) text) _ (effect (words.Operate o)) (three-agrees a_register a_register a_register text)
-    (λ w. three-registers (λ x y z. instructions.Operate o x y z) (register_in w.0) (register_in w.1) (register_in w.2))
+    (λ w. rw (register-same w.0, register-same w.1, register-same w.2) (three-registers (λ x y z. instructions.Operate o x y z) (register_in w.0) (register_in w.1) (register_in w.2)))
 operands-same (words.OperateImmediate o) text = by (three a_register a_register (a_field 2048 2047)) (three_words text) (words_of (shape (words.OperateImmediate o)) text) _ (effect (words.OperateImmediate o)) (three-agrees a_register a_register (a_field 2048 2047) text)
-    (λ w. registers-number (λ x y z. instructions.OperateImmediate o x y z) (register_in w.0) (register_in w.1) (small 2048 2047 w.2))
+    (λ w. rw (register-same w.0, register-same w.1, in-range-same 2048 2047 w.2) (registers-number (λ x y z. instructions.OperateImmediate o x y z) (register_in w.0) (register_in w.1) (number_in 2048 2047 w.2)))
 operands-same (words.ShiftImmediate o) text = by (three a_register a_register (a_field 0 31)) (three_words text) (words_of (shape (words.ShiftImmediate o)) text) _ (effect (words.ShiftImmediate o)) (three-agrees a_register a_register (a_field 0 31) text)
-    (λ w. registers-number (λ x y z. instructions.OperateImmediate o x y z) (register_in w.0) (register_in w.1) (small 0 31 w.2))
+    (λ w. rw (register-same w.0, register-same w.1, in-range-same 0 31 w.2) (registers-number (λ x y z. instructions.OperateImmediate o x y z) (register_in w.0) (register_in w.1) (number_in 0 31 w.2)))
 operands-same (words.Load k) text = address-is (λ x y z. instructions.Load k x y z) text (words_of (shape (words.Load k)) text) (address-agrees a_register (a_field 2048 2047) a_register text)
 operands-same (words.Store width) text = address-is (λ x y z. instructions.Store width y x z) text (words_of (shape (words.Store width)) text) (address-agrees a_register (a_field 2048 2047) a_register text)
 operands-same words.Jalr text = address-is (λ x y z. instructions.Jalr x y z) text (words_of (shape words.Jalr) text) (address-agrees a_register (a_field 2048 2047) a_register text)
 operands-same (words.Branch c) text = by (three a_register a_register (a_target (2 ^ 12))) (three_words text) (words_of (shape (words.Branch c)) text) _ (effect (words.Branch c)) (three-agrees a_register a_register (a_target (2 ^ 12)) text)
-    (λ w. rw label-same (branch-is c w.2 (register_in w.0) (register_in w.1) (is_label w.2) (word_value w.2)))
+    (λ w. rw (register-same w.0, register-same w.1, label-same w.2, in-range-same (2 ^ 31) (2 ^ 32 - 1) w.2) (branch-is c w.2 (register_in w.0) (register_in w.1) (is_label w.2) (word_value w.2)))
 operands-same words.Jal text = by (two a_register (a_target (2 ^ 20))) (two_words text) (words_of (shape words.Jal) text) _ (effect words.Jal) (two-agrees a_register (a_target (2 ^ 20)) text)
-    (λ w. rw label-same (jump-is w.1 (register_in w.0) (is_label w.1) (word_value w.1)))
+    (λ w. rw (register-same w.0, label-same w.1, in-range-same (2 ^ 31) (2 ^ 32 - 1) w.1) (jump-is w.1 (register_in w.0) (is_label w.1) (word_value w.1)))
 operands-same words.LoadImmediate text = by (two a_register a_value) (two_words text) (words_of (shape words.LoadImmediate) text) _ (effect words.LoadImmediate) (two-agrees a_register a_value text)
-    (λ w. rw label-same (load-is w.1 (register_in w.0) (is_label w.1) (word_value w.1)))
+    (λ w. rw (register-same w.0, label-same w.1, in-range-same (2 ^ 31) (2 ^ 32 - 1) w.1) (load-is w.1 (register_in w.0) (is_label w.1) (word_value w.1)))
 operands-same words.Lui text = upper-is (λ x y. instructions.Lui x y) text (words_of (shape words.Lui) text) (two-agrees a_register (a_field 0 (2 ^ 20 - 1)) text)
 operands-same words.Auipc text = upper-is (λ x y. instructions.Auipc x y) text (words_of (shape words.Auipc) text) (two-agrees a_register (a_field 0 (2 ^ 20 - 1)) text)
 operands-same (words.Alone i) text = alone-is i (is_empty (from Solid text))
 operands-same words.Segment text = by (two (a_field 0 (2 ^ 32 - 1)) a_natural) (two_apart text) (words_of (shape words.Segment) text) _ (effect words.Segment) (apart-agrees (a_field 0 (2 ^ 32 - 1)) a_natural text)
-    (λ w. rw (up-of 3 (number_of w.1)) (segment-is (small 0 (2 ^ 32 - 1) w.0) (option_and_then natural_of (number_of w.1))))
+    (λ w. rw (in-range-same 0 (2 ^ 32 - 1) w.0, count-same 3 w.1) (segment-is (number_in 0 (2 ^ 32 - 1) w.0) (natural_in w.1)))
 operands-same words.Entry text = by (one a_value) (one_word text) (words_of (shape words.Entry) text) _ (effect words.Entry) (one-agrees a_value text)
-    (λ w. rw label-same (value-is (λ z. statements.Entry z) (effect words.Entry) w (is_label w) (word_value w) (entry-same w)))
+    (λ w. rw (label-same w, in-range-same (2 ^ 31) (2 ^ 32 - 1) w) (value-is (λ z. statements.Entry z) (effect words.Entry) w (is_label w) (word_value w) (entry-same w)))
 operands-same words.Stack text = by (one a_value) (one_word text) (words_of (shape words.Stack) text) _ (effect words.Stack) (one-agrees a_value text)
-    (λ w. rw label-same (value-is (λ z. statements.Stack z) (effect words.Stack) w (is_label w) (word_value w) (stack-same w)))
+    (λ w. rw (label-same w, in-range-same (2 ^ 31) (2 ^ 32 - 1) w) (value-is (λ z. statements.Stack z) (effect words.Stack) w (is_label w) (word_value w) (stack-same w)))
 operands-same words.Word text = by (one a_value) (one_word text) (words_of (shape words.Word) text) _ (effect words.Word) (one-agrees a_value text)
-    (λ w. rw label-same (value-is (λ z. statements.Word z) (effect words.Word) w (is_label w) (word_value w) (word-same w)))
-operands-same words.Byte text = by (one (a_field 0 255)) (one_word text) (words_of (shape words.Byte) text) _ (effect words.Byte) (one-agrees (a_field 0 255) text) (λ w. byte-is (small 0 255 w))
+    (λ w. rw (label-same w, in-range-same (2 ^ 31) (2 ^ 32 - 1) w) (value-is (λ z. statements.Word z) (effect words.Word) w (is_label w) (word_value w) (word-same w)))
+operands-same words.Byte text = by (one (a_field 0 255)) (one_word text) (words_of (shape words.Byte) text) _ (effect words.Byte) (one-agrees (a_field 0 255) text)
+    (λ w. rw (in-range-same 0 255 w) (byte-is (number_in 0 255 w)))
 operands-same words.Zero text = by (one a_natural) (one_word text) (words_of (shape words.Zero) text) _ (effect words.Zero) (one-agrees a_natural text)
-    (λ w. rw (up-of (2 ^ 32) (number_of w)) (zeros-is (option_and_then natural_of (number_of w))))
+    (λ w. rw (count-same (2 ^ 32) w) (zeros-is (natural_in w)))

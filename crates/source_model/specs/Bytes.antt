@@ -1,34 +1,8 @@
--- The bytes of a source, by their codes in ASCII, and its lines.
--- Our choice: which bytes are blanks, which stand in labels, and which begin a comment; what ends a line.
-use Rattle.std.specs.Prelude.{ℕ, ◌-◌, Bool, true, false, not, ◌&&◌, ◌||◌, ◌==◌, nat_lt, List, [], ◌∷◌, length, slice_index, take, if◌then◌else◌}
+-- The bytes of a source as they are read, beside what the definition says of them.
+-- Our choice: a restatement for proofs.
+use Rattle.std.specs.Prelude.{ℕ, ◌-◌, Bool, true, false, ◌==◌, List, [], ◌∷◌, length, slice_index, take, if◌then◌else◌}
 use Rattle.std.specs.Str.{bytes_eq}
-
-abbrev pub is_between : ℕ → ℕ → ℕ → Bool
-is_between low high b = not (nat_lt b low) && not (nat_lt high b)
-
--- 0 to 9
-abbrev pub is_digit : ℕ → Bool
-is_digit b = is_between 48 57 b
-
--- A to Z, a to z and _
-abbrev pub is_letter : ℕ → Bool
-is_letter b = is_between 65 90 b || is_between 97 122 b || (b == 95)
-
--- a space or a tab
-abbrev pub is_blank : ℕ → Bool
-is_blank b = (b == 32) || (b == 9)
-
--- ; or #
-abbrev pub is_comment : ℕ → Bool
-is_comment b = (b == 59) || (b == 35)
-
--- a blank, a comma or a parenthesis
-abbrev pub is_word_end : ℕ → Bool
-is_word_end b = is_blank b || (b == 44) || (b == 40) || (b == 41)
-
--- no byte of ASCII
-abbrev pub is_foreign : ℕ → Bool
-is_foreign b = nat_lt 127 b
+unfoldable pub use Rattle.source_model.specs.Ascii.{is_between, is_digit, is_letter, is_blank, is_comment, is_word_end, is_foreign, add_first, lines_of}
 
 abbrev pub is_empty : List ℕ → Bool
 is_empty [] = true
@@ -40,15 +14,6 @@ begins b (c ∷ cs) = c == b
 
 unfoldable pub same_text : List ℕ → List ℕ → Bool
 same_text a b = bytes_eq a b
-
-abbrev pub add_first : ℕ → List (List ℕ) → List (List ℕ)
-add_first b [] = (b ∷ []) ∷ []
-add_first b (l ∷ ls) = (b ∷ l) ∷ ls
-
--- a line feed ends a line, and the last line may lack it
-unfoldable pub lines_of : List ℕ → List (List ℕ)
-lines_of [] = []
-lines_of (b ∷ bs) = if b == 10 then [] ∷ lines_of bs else add_first b (lines_of bs)
 
 -- one carriage return at the end is no part of a line
 unfoldable pub without_return : List ℕ → List ℕ

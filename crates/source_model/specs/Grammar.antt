@@ -1,12 +1,12 @@
 -- Lines: what a text of one line is read as.
 -- Source: RISC-V Assembly Programmer's Manual, for the look of a line.
 -- Our choice: the grammar. A byte that is not ASCII is a fault wherever it stands, and so is a second label.
-use Rattle.std.specs.Prelude.{◌≡◌, ℕ, ◌<◌, Bool, true, false, not, ◌||◌, List, [], ◌∷◌, ◌++◌, length, take, find, Option, Some, None, is_some, Ok, Err, ◌⊎◌}
+use Rattle.std.specs.Prelude.{◌≡◌, ℕ, ◌<◌, Bool, true, false, not, ◌||◌, List, [], ◌∷◌, ◌++◌, length, take, find, Option, Some, None, is_some, Ok, Err, ◌⊎◌, codes}
 use Rattle.std.specs.List.{list_any, list_all}
 use Rattle.std.specs.Str.{bytes_eq}
 use Rattle.std.specs.Str.Lines.{strip_carriage_return}
 use Rattle.source_model.specs.declared.error.AsmErrorKind.TheVariants as kinds
-use Rattle.source_model.specs.Bytes.{is_blank, is_comment, is_word_end, is_foreign}
+use Rattle.source_model.specs.Ascii.{is_blank, is_comment, is_word_end, is_foreign}
 use Rattle.source_model.specs.Meaning.{Line, Read, bytes}
 use Rattle.source_model.specs.Operand.{Part, mark, word, is_label, Operands, statement_of, Form, instructions, directives}
 
@@ -28,7 +28,7 @@ HasWord stop text w rest = (start : List ℕ) × Starts text start × IsCut stop
 
 -- blanks, a label, blanks, a colon, and the rest
 abbrev pub HasLabel : List ℕ → List ℕ → List ℕ → Type 0
-HasLabel text name rest = (after : List ℕ) × (is_label name ≡ true) × Starts text (name ++ after) × Starts after (58 ∷ rest)
+HasLabel text name rest = (after : List ℕ) × (is_label name ≡ true) × Starts text (name ++ after) × Starts after (codes ":" ++ rest)
 
 -- ---- statements
 

@@ -1,3 +1,6 @@
+pub mod Ascii
+pub mod Numeral
+pub mod RegisterNames
 pub mod Bytes
 pub mod Names
 pub mod Text

@@ -68,22 +68,22 @@ end_of (s ∷ ss) = s.address + length s.content
 abbrev pub address_after : Draft → ℕ
 address_after d = end_of d.segments % 2 ^ 32
 
-abbrev pub with_bytes : List Segment → List Segment
-with_bytes ss = filter (λ s. nat_lt 0 (length s.content)) ss
+abbrev pub with_content : List Segment → List Segment
+with_content ss = filter (λ s. nat_lt 0 (length s.content)) ss
 
 -- bytes before any segment or past 2 ^ 32; a segment of a permission above 3, whose first page is not above the last one with
 -- bytes, or that follows 64 others
 abbrev pub is_out_of_place : List Segment → Effect → Bool
 is_out_of_place ss (bytes b) = nat_lt 0 (length b) && (length ss == 0 || nat_lt (2 ^ 32) (end_of ss + length b))
-is_out_of_place ss (segment a p) = nat_lt 3 p || nat_lt (a / 4096 * 4096) (end_of (with_bytes ss)) || nat_le 64 (length ss)
+is_out_of_place ss (segment a p) = nat_lt 3 p || nat_lt (a / 4096 * 4096) (end_of (with_content ss)) || nat_le 64 (length ss)
 is_out_of_place ss e = false
 
-abbrev pub extended : List Segment → List ℕ → List Segment
-extended [] b = []
-extended (s ∷ ss) b = record s { content = s.content ++ b } ∷ ss
+abbrev pub with_bytes : List Segment → List ℕ → List Segment
+with_bytes [] b = []
+with_bytes (s ∷ ss) b = record s { content = s.content ++ b } ∷ ss
 
 abbrev pub with_effect : Draft → Effect → Draft
-with_effect d (bytes b) = record d { segments = extended d.segments b }
+with_effect d (bytes b) = record d { segments = with_bytes d.segments b }
 with_effect d (segment a p) = record d { segments = record { address = a; permission = p; content = [] } ∷ d.segments }
 with_effect d (entry a) = record d { entry = Some a }
 with_effect d (stack a) = record d { stack = a }
@@ -101,7 +101,7 @@ draft_of labels lines = fold (λ d l. with_read labels d l.statement) blank line
 
 -- the segments that have bytes; the root begins at the first segment, where no line says more
 abbrev pub image_of : Draft → Image
-image_of d = record { entry = unwrap_or d.entry (fold (λ a s. s.address) 0 d.segments); stack = d.stack; segments = reverse (with_bytes d.segments) }
+image_of d = record { entry = unwrap_or d.entry (fold (λ a s. s.address) 0 d.segments); stack = d.stack; segments = reverse (with_content d.segments) }
 
 -- ---- labels
 

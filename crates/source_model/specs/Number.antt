@@ -1,5 +1,5 @@
--- Numbers: decimal with an optional minus, or 0x and hexadecimal digits.
--- Our choice: how numbers are written.
+-- Numbers as they are read, byte by byte.
+-- Our choice: a restatement for proofs.
 use Rattle.std.specs.Prelude.{ℕ, ◌+◌, ◌-◌, ◌*◌, ◌^◌, ◌%◌, not, ◌&&◌, ◌||◌, ◌==◌, nat_lt, List, [], ◌∷◌, drop, Option, Some, None, option_and_then, option_map, if◌then◌else◌}
 use Rattle.source_model.specs.declared.mnemonic.Base.{Base}
 use Rattle.source_model.specs.declared.mnemonic.Base.TheVariants.{Decimal, Hexadecimal}

@@ -13,9 +13,9 @@ use Rattle.instruction_model.specs.declared.Instruction.TheVariants.{Lui, Auipc,
 use Rattle.instruction_model.specs.Encoding.{word_of}
 use Rattle.instruction_model.specs.Word.{sign_extended}
 use Rattle.source_model.specs.declared.error.AsmErrorKind.TheVariants as kinds
-use Rattle.source_model.specs.Bytes.{is_letter, is_digit}
-use Rattle.source_model.specs.Number.{number_of, in_range, natural_of}
-use Rattle.source_model.specs.Register.{register_in}
+use Rattle.source_model.specs.Ascii.{is_letter, is_digit}
+use Rattle.source_model.specs.Numeral.{number_in, natural_in}
+use Rattle.source_model.specs.RegisterNames.{register_in}
 use Rattle.source_model.specs.Meaning.{Value, number, label, distance, Effect, bytes, segment, entry, stack, Read}
 
 -- ---- operands
@@ -38,15 +38,12 @@ abbrev pub register : Part
 register = word true (λ w. option_map (λ n. number n) (register_in w))
 
 -- a number from minus the first to the second
-abbrev pub number_in : ℕ → ℕ → List ℕ → Option Value
-number_in below above w = option_map (λ n. number n) (option_and_then (in_range below above) (number_of w))
-
 abbrev pub field : ℕ → ℕ → Part
-field below above = word false (number_in below above)
+field below above = word false (λ w. option_map (λ n. number n) (number_in below above w))
 
 -- a number from 0 on
 abbrev pub natural : Part
-natural = word false (λ w. option_map (λ n. number n) (option_and_then natural_of (number_of w)))
+natural = word false (λ w. option_map (λ n. number n) (natural_in w))
 
 -- letters and digits, a letter first
 abbrev pub is_label : List ℕ → Bool
@@ -54,7 +51,7 @@ is_label [] = false
 is_label (b ∷ bs) = is_letter b && list_all (λ c. is_letter c || is_digit c) bs
 
 abbrev pub value_in : List ℕ → Option Value
-value_in w = if is_label w then Some (label w) else number_in (2 ^ 31) (2 ^ 32 - 1) w
+value_in w = if is_label w then Some (label w) else option_map (λ n. number n) (number_in (2 ^ 31) (2 ^ 32 - 1) w)
 
 -- a label or a number of 32 bits
 abbrev pub value : Part

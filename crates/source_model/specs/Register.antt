@@ -1,5 +1,5 @@
--- Registers (RISC-V Assembly Programmer's Manual, "General registers").
--- Source: RISC-V Assembly Programmer's Manual, "General registers".
+-- Registers as they are read: a letter and a number, or a name of its own.
+-- Our choice: a restatement for proofs.
 use Rattle.std.specs.Prelude.{ℕ, ◌+◌, ◌*◌, ◌==◌, nat_lt, ◌&&◌, List, [], ◌∷◌, drop, slice_index, Option, Some, None, option_and_then, if◌then◌else◌, codes}
 use Rattle.source_model.specs.declared.mnemonic.Base.TheVariants.{Decimal}
 use Rattle.source_model.specs.Bytes.{same_text}

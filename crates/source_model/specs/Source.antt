@@ -3,7 +3,7 @@
 use Rattle.std.specs.Prelude.{◌≡◌, ℕ, ◌+◌, List, [], ◌∷◌, ◌++◌, length, Some, None}
 use Rattle.source_model.specs.declared.error.AsmError.{AsmError}
 use Rattle.image_model.specs.Image.{Image}
-use Rattle.source_model.specs.Bytes.{lines_of}
+use Rattle.source_model.specs.Ascii.{lines_of}
 use Rattle.source_model.specs.Grammar.{IsLine}
 use Rattle.source_model.specs.Meaning.{Line, label_in, draft_of, image_of, fault_in}
 
