@@ -1,6 +1,6 @@
 -- When a statement that is read along with the lines does what a statement of the definition does. A permission above 3 is read as 4, and
 -- more than 2 ^ 32 zeros as 2 ^ 32 + 1: neither can stand anywhere.
-use Rattle.std.proofs.Common.{◌≡◌, ℕ, ◌+◌, ◌^◌, ◌<◌, ◌≤◌, Bool, true, false, cond, List, [], ◌∷◌, ◌++◌, length, Option, Some, None, Result, Ok, Err, refl, sym, ◌∙◌, ap, subst, arith, inl, inr}
+use Rattle.std.proofs.Common.{◌≡◌, ℕ, ◌+◌, ◌^◌, ◌<◌, ◌≤◌, Bool, true, false, List, [], ◌∷◌, ◌++◌, length, Option, Some, None, Ok, Err, refl, sym, ◌∙◌, ap, subst, arith, inl, inr}
 use Rattle.std.specs.Prelude.{min, nat_lt, nat_le, ◌&&◌, ◌||◌, ◌-◌, ◌%◌, ◌/◌, ◌*◌, replicate, option_map, is_none, unwrap_or, option_to_list}
 use Rattle.std.specs.List.{list_any}
 use Rattle.std.proofs.lemmas.Bool.{cases_lt, le-ltb, ltb-false}
@@ -12,7 +12,6 @@ use Rattle.instruction_model.specs.declared.Instruction.TheVariants as instructi
 use Rattle.instruction_model.specs.declared.Operation.TheVariants.{Add}
 use Rattle.std.specs.Int.{w32, to_le_bytes}
 use Rattle.image_model.specs.Image.{Segment}
-use Rattle.source_model.specs.declared.error.AsmErrorKind.{AsmErrorKind}
 use Rattle.source_model.specs.declared.statement.Layout.{Layout}
 use Rattle.source_model.specs.declared.statement.Statement as read
 use Rattle.source_model.specs.declared.statement.Statement.TheVariants as statements
@@ -24,7 +23,7 @@ use Rattle.source_model.specs.Reading.{Draft, operand_of, draft_with}
 use Rattle.source_model.specs.Statement as old
 use Rattle.source_model.specs.Meaning as model
 use Rattle.source_model.specs.Meaning.{Value, number, label, distance, Effect, bytes, segment, entry, stack, Statement, Read, Labels, worth_of, effect_of, end_of, address_after, with_content, is_out_of_place, with_effect, is_out_of_reach, is_too_far}
-use Rattle.source_model.specs.Operand.{instruction, upper_part, lower_part}
+use Rattle.source_model.specs.Operand.{instruction_bytes, instruction, upper_part, lower_part}
 use Rattle.source_model.proofs.Segments.{top_of, layout_of, address-same, room-same, more-layout, begun-layout}
 use Rattle.source_model.proofs.Drafts.{file_size, view, size-grown, grows, begins}
 
@@ -116,9 +115,9 @@ pub nothing-same : Same statements.Nothing [] (with_values [] (λ v. bytes []))
 nothing-same = put statements.Nothing [] (with_values [] (λ v. bytes [])) (record { place = λ here. refl; layout = λ here. refl; draft = λ d v. refl })
     (record { content = λ labels here. []; is = λ labels here. refl; long = λ labels here. refl; same = λ labels here v e. refl }) (λ labels here. refl) (λ labels here. refl)
 
-pub plain : (i : Instruction) (s : Statement) → ((labels : Labels) (here : ℕ) → effect_of labels here s ≡ bytes (instruction i)) → Far (statements.Plain i) [] s → Lacks (statements.Plain i) [] s → Same (statements.Plain i) [] s
+pub plain : (i : Instruction) (s : Statement) → ((labels : Labels) (here : ℕ) → effect_of labels here s ≡ instruction i) → Far (statements.Plain i) [] s → Lacks (statements.Plain i) [] s → Same (statements.Plain i) [] s
 plain i s is far lacks = put (statements.Plain i) [] s (record { place = λ here. refl; layout = λ here. refl; draft = λ d v. refl })
-    (record { content = λ labels here. instruction i; is = is; long = λ labels here. refl; same = λ labels here v e. refl }) far lacks
+    (record { content = λ labels here. instruction_bytes i; is = is; long = λ labels here. refl; same = λ labels here v e. refl }) far lacks
 
 pub byte-same : (n : ℕ) → Same (statements.Byte n) [] (with_values (number n ∷ []) (λ v. bytes (v 0 ∷ [])))
 byte-same n = put (statements.Byte n) [] (with_values (number n ∷ []) (λ v. bytes (v 0 ∷ []))) (record { place = λ here. refl; layout = λ here. refl; draft = λ d v. refl })
@@ -169,7 +168,7 @@ far-word here v None = refl
 far-word here v (Some n) = refl
 
 abbrev pub loading : ℕ → ℕ → List ℕ
-loading r n = instruction (instructions.Lui r (upper_part n)) ++ instruction (instructions.OperateImmediate Add r r (lower_part n))
+loading r n = instruction_bytes (instructions.Lui r (upper_part n)) ++ instruction_bytes (instructions.OperateImmediate Add r r (lower_part n))
 
 pub load-same : (r : ℕ) (w : List ℕ) (v : values.Value) → Same (statements.LoadImmediate r v) w (with_values (number r ∷ value_view w v ∷ []) (λ v. bytes (loading (v 0) (v 1))))
 load-same r w v = put (statements.LoadImmediate r v) w (with_values (number r ∷ value_view w v ∷ []) (λ v. bytes (loading (v 0) (v 1)))) (record { place = λ here. refl; layout = λ here. refl; draft = λ d v. refl })
@@ -234,18 +233,18 @@ far-jump r here t None = refl
 far-jump r here t (Some n) = or-false _ ∙ or-false _
 
 abbrev branching : Comparison → ℕ → ℕ → ℕ → List ℕ
-branching c a b n = instruction (instructions.Branch c a b n)
+branching c a b n = instruction_bytes (instructions.Branch c a b n)
 
-pub branch-same : (c : Comparison) (a b : ℕ) (w : List ℕ) (t : values.Value) → Same (statements.Branch c a b t) w (with_values (number a ∷ number b ∷ distance (2 ^ 12) (value_view w t) ∷ []) (λ v. bytes (instruction (instructions.Branch c (v 0) (v 1) (v 2)))))
-branch-same c a b w t = put (statements.Branch c a b t) w (with_values (number a ∷ number b ∷ distance (2 ^ 12) (value_view w t) ∷ []) (λ v. bytes (instruction (instructions.Branch c (v 0) (v 1) (v 2))))) (record { place = λ here. refl; layout = λ here. refl; draft = λ d v. refl })
+pub branch-same : (c : Comparison) (a b : ℕ) (w : List ℕ) (t : values.Value) → Same (statements.Branch c a b t) w (with_values (number a ∷ number b ∷ distance (2 ^ 12) (value_view w t) ∷ []) (λ v. instruction (instructions.Branch c (v 0) (v 1) (v 2))))
+branch-same c a b w t = put (statements.Branch c a b t) w (with_values (number a ∷ number b ∷ distance (2 ^ 12) (value_view w t) ∷ []) (λ v. instruction (instructions.Branch c (v 0) (v 1) (v 2)))) (record { place = λ here. refl; layout = λ here. refl; draft = λ d v. refl })
     (record { content = λ labels here. branching c a b (unwrap_or (way here (worth_of labels here (value_view w t))) 0); is = λ labels here. refl; long = λ labels here. refl; same = λ labels here n e. ap (branching c a b) (way-is labels here w t n e) })
     (λ labels here. ap (reading.is_too_far here (statements.Branch c a b t)) (anywhere labels here w t) ∙ far-branch c a b here t (worth_of labels here (value_view w t))) (λ labels here. lacks-target labels here w t)
 
 abbrev jumping : ℕ → ℕ → List ℕ
-jumping r n = instruction (instructions.Jal r n)
+jumping r n = instruction_bytes (instructions.Jal r n)
 
-pub jump-same : (r : ℕ) (w : List ℕ) (t : values.Value) → Same (statements.Jump r t) w (with_values (number r ∷ distance (2 ^ 20) (value_view w t) ∷ []) (λ v. bytes (instruction (instructions.Jal (v 0) (v 1)))))
-jump-same r w t = put (statements.Jump r t) w (with_values (number r ∷ distance (2 ^ 20) (value_view w t) ∷ []) (λ v. bytes (instruction (instructions.Jal (v 0) (v 1))))) (record { place = λ here. refl; layout = λ here. refl; draft = λ d v. refl })
+pub jump-same : (r : ℕ) (w : List ℕ) (t : values.Value) → Same (statements.Jump r t) w (with_values (number r ∷ distance (2 ^ 20) (value_view w t) ∷ []) (λ v. instruction (instructions.Jal (v 0) (v 1))))
+jump-same r w t = put (statements.Jump r t) w (with_values (number r ∷ distance (2 ^ 20) (value_view w t) ∷ []) (λ v. instruction (instructions.Jal (v 0) (v 1)))) (record { place = λ here. refl; layout = λ here. refl; draft = λ d v. refl })
     (record { content = λ labels here. jumping r (unwrap_or (way here (worth_of labels here (value_view w t))) 0); is = λ labels here. refl; long = λ labels here. refl; same = λ labels here n e. ap (jumping r) (way-is labels here w t n e) })
     (λ labels here. ap (reading.is_too_far here (statements.Jump r t)) (anywhere labels here w t) ∙ far-jump r here t (worth_of labels here (value_view w t))) (λ labels here. lacks-target labels here w t)
 

@@ -2,7 +2,6 @@
 use Rattle.std.proofs.Common.{◌≡◌, ℕ, Bool, true, false, cond, not, ◌&&◌, List, [], ◌∷◌, ◌++◌, length, refl, sym, ◌∙◌, ap, subst, arith}
 use Rattle.std.specs.Prelude.{drop, take, ◌<◌, ◌==◌, ◌||◌}
 use Rattle.std.specs.List.{list_all}
-use Rattle.std.proofs.lemmas.List.{append-nil}
 use borrow.Author.Tests.{eqb-true}
 use Rattle.source_model.specs.declared.statement.Class.{Class}
 use Rattle.source_model.specs.declared.statement.Class.TheVariants.{Solid, Blank, WordEnd}

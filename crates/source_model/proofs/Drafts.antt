@@ -1,18 +1,15 @@
 -- The draft that is read along with the lines is that of what they do.
 use Rattle.std.proofs.Common.{◌≡◌, ℕ, ◌+◌, Bool, true, false, cond, List, [], ◌∷◌, ◌++◌, length, Option, Some, None, refl, sym, ◌∙◌, ap, arith}
-use Rattle.std.specs.Prelude.{◌==◌, nat_lt, unwrap_or, reverse, fold}
-use Rattle.std.proofs.lemmas.List.{append-nil, reverse-append}
-use borrow.Author.Tests.{ltb-false, ltb-true}
+use Rattle.std.specs.Prelude.{nat_lt, unwrap_or, reverse, fold}
+use Rattle.std.proofs.lemmas.List.{reverse-append}
+use borrow.Author.Tests.{ltb-false}
 use Rattle.std.specs.List.{flat_map}
-use Rattle.image_model.specs.Image.{Segment, Image, segment_bytes, image_bytes}
+use Rattle.image_model.specs.Image.{Segment, segment_bytes, image_bytes}
 use Rattle.source_model.specs.declared.statement.Layout.{Layout}
-use Rattle.source_model.specs.declared.statement.Statement as read
 use Rattle.source_model.specs.declared.statement.Statement.TheVariants as statements
-use Rattle.source_model.specs.Bytes.{is_empty}
 use Rattle.source_model.specs.Layout as layouts
 use Rattle.source_model.specs.Meaning as model
 use Rattle.source_model.specs.Meaning.{Effect, bytes, segment, entry, stack, with_content, with_bytes, with_effect, is_out_of_place, image_of}
-use Rattle.source_model.specs.Reading as reading
 use Rattle.source_model.specs.Reading.{Draft, all_segments, size_with, or_first, draft_with, draft_image}
 use Rattle.source_model.proofs.Segments.{top_of, layout_of, room-same, more-layout, begun-layout}
 use Rattle.source_model.proofs.Sizes.{IsSized, extend-size}

@@ -52,6 +52,9 @@ twice = codes "a:" ∷ codes "a: ecall" ∷ []
 abbrev none_defined : List (List ℕ)
 none_defined = codes ".segment 0x1000 1" ∷ codes ".word a0" ∷ []
 
+abbrev two_of_them : Image
+two_of_them = record { entry = 0x1000; stack = 0x2000; segments = record { address = 0x1000; permission = 1; content = 1 ∷ [] } ∷ record { address = 0x2000; permission = 3; content = 0x00 ∷ 0x20 ∷ 0x00 ∷ 0x00 ∷ [] } ∷ [] }
+
 record Reads : Type 0 where
   instructions : answer three_instructions ≡ Ok three_words_of_it
   -- a label is worth the address before its line's statement
@@ -59,6 +62,9 @@ record Reads : Type 0 where
   loads : answer (codes ".segment 0x1000 1" ∷ codes "li a0, end" ∷ codes "end:" ∷ []) ≡ Ok (one (0x37 ∷ 0x15 ∷ 0x00 ∷ 0x00 ∷ 0x13 ∷ 0x05 ∷ 0x85 ∷ 0x00 ∷ []))
   blanks : answer (codes ".segment 0x1000 1" ∷ codes "b : beq x0,x0 , b # back" ∷ []) ≡ Ok (one (0x63 ∷ 0x00 ∷ 0x00 ∷ 0x00 ∷ []))
   parentheses : answer (codes ".segment 0x1000 1" ∷ codes " lw a0, -4(sp); load" ∷ []) ≡ Ok (one (0x03 ∷ 0x25 ∷ 0xc1 ∷ 0xff ∷ []))
+  -- a label is worth the same before its line and after it
+  both_sides : answer (codes ".segment 0x1000 1" ∷ codes "jal x0, a" ∷ codes "a: jal x0, a" ∷ codes "jal x0, a" ∷ []) ≡ Ok (one (0x6f ∷ 0x00 ∷ 0x40 ∷ 0x00 ∷ 0x6f ∷ 0x00 ∷ 0x00 ∷ 0x00 ∷ 0x6f ∷ 0xf0 ∷ 0xdf ∷ 0xff ∷ []))
+  segments : answer (codes ".segment 0x1000 1" ∷ codes ".byte 1" ∷ codes ".segment 0x2000 3" ∷ codes "end: .word end" ∷ codes ".stack end" ∷ []) ≡ Ok two_of_them
   -- the first segment gives the entry, and is left out without bytes
   entry : answer (codes ".segment 0x5000 3" ∷ codes ".segment 0x1000 1" ∷ codes ".byte 1" ∷ []) ≡ Ok (record { entry = 0x5000; stack = 0; segments = record { address = 0x1000; permission = 1; content = 1 ∷ [] } ∷ [] })
   last : answer without_segments ≡ Ok (record { entry = 0; stack = 8; segments = [] })
@@ -69,8 +75,10 @@ record Reads : Type 0 where
   numbers : answer too_wide ≡ Err (fault 2 kinds.Number)
   reach : answer (codes ".segment 0x1000 1" ∷ codes "beq x0, x0, 0x2000" ∷ []) ≡ Err (fault 2 kinds.Number)
   definitions : answer twice ≡ Err (fault 2 kinds.Twice)
+  none_yet : answer (codes ".byte 1" ∷ []) ≡ Err (fault 1 kinds.Place)
   order : answer (codes ".segment 0x1000 1" ∷ codes ".byte 1" ∷ codes ".segment 0x1ffc 1" ∷ []) ≡ Err (fault 3 kinds.Place)
   permissions : answer (codes ".segment 0 7" ∷ []) ≡ Err (fault 1 kinds.Place)
+  sizes : answer (codes ".segment 0 1" ∷ codes ".zero 0x1000000" ∷ []) ≡ Err (fault 2 kinds.TooBig)
   undefined : answer none_defined ≡ Err (fault 2 kinds.Label)
 
 reads : Reads
@@ -81,6 +89,8 @@ reads = record {
   loads = refl;
   blanks = refl;
   parentheses = refl;
+  both_sides = refl;
+  segments = refl;
   entry = refl;
   last = refl;
   empty = refl;
@@ -90,8 +100,10 @@ reads = record {
   numbers = refl;
   reach = refl;
   definitions = refl;
+  none_yet = refl;
   order = refl;
   permissions = refl;
+  sizes = refl;
   undefined = refl;
 }
 

@@ -1,6 +1,6 @@
 -- The fault of a line that is read along with the lines is that of the line that follows others.
 use Rattle.std.proofs.Common.{◌≡◌, ℕ, Bool, true, false, cond, List, [], ◌∷◌, ◌++◌, length, Option, Some, None, Result, Ok, Err, refl, sym, ◌∙◌, ap}
-use Rattle.std.specs.Prelude.{nat_lt, is_none, is_some, option_map, option_and_then, fold}
+use Rattle.std.specs.Prelude.{nat_lt, is_none, is_some, option_map, option_and_then}
 use Rattle.std.specs.List.{list_any}
 use Rattle.std.proofs.lemmas.Grind.{fold-append}
 use Rattle.image_model.specs.Image.{image_bytes}

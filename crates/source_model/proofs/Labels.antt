@@ -16,7 +16,7 @@ use Rattle.source_model.specs.Bytes.{same_text, lines_of}
 use Rattle.source_model.specs.Meaning.{Statement, Read, Line, Labels, Draft, address_after, effect_of, is_out_of_place, with_effect, with_read, blank, draft_of, defines, label_in}
 use Rattle.source_model.specs.Reading.{is_earlier, is_defined_before}
 use Rattle.source_model.proofs.Segments.{layout_of, address-same}
-use Rattle.source_model.proofs.Alike.{Same, Alike}
+use Rattle.source_model.proofs.Alike.{Alike}
 use Rattle.source_model.proofs.Lines.{line_in, statement-same}
 
 -- ---- the layout after lines

@@ -20,12 +20,12 @@ use Rattle.source_model.specs.Field.{or_fault}
 use Rattle.source_model.specs.Mnemonic.{or_else, operation_of, immediate_of, memory_of, branch_of, other_of, directive_of, mnemonic_of}
 use Rattle.source_model.specs.Statement as old
 use Rattle.source_model.specs.Line.{name_in, rest_in, label_of, body_of, statement_in}
-use Rattle.source_model.specs.Meaning.{Line, Read, Effect, bytes}
-use Rattle.source_model.specs.Operand.{Part, Operands, is_label, Form, instructions, directives, statement_of}
-use Rattle.source_model.specs.Grammar.{Starts, HasLabel, AreOperands, Asks, IsStatement, IsBody, IsRead, IsLine}
-use Rattle.source_model.proofs.Cuts.{AreBlanks, ends, parts, inside, before-is, from-is, skip, stays, gap-blank, start-solid, both, and-both, mark-text, blank-stops, starts, cut-given, cut-found, word-given, word-found, not-empty, start-blank, blank-start}
+use Rattle.source_model.specs.Meaning.{Line, Read, bytes}
+use Rattle.source_model.specs.Operand.{Operands, is_label, Form, instructions, directives}
+use Rattle.source_model.specs.Grammar.{HasLabel, Asks, IsStatement, IsBody, IsRead, IsLine}
+use Rattle.source_model.proofs.Cuts.{AreBlanks, ends, parts, inside, before-is, from-is, skip, stays, gap-blank, start-solid, both, and-both, mark-text, blank-stops, cut-given, cut-found, word-given, word-found, not-empty, start-blank, blank-start}
 use Rattle.source_model.proofs.Words.{words_of, AreSolid, MayBeOperands, may-be, may-be-one}
-use Rattle.source_model.proofs.Alike.{Same, Alike, with_values, nothing-same}
+use Rattle.source_model.proofs.Alike.{Alike, with_values, nothing-same}
 use Rattle.source_model.proofs.Statements.{shape, shape-solid, effect, read_by, operands-same}
 
 -- ---- first words, with what they ask for

@@ -1,6 +1,6 @@
 -- A statement that is read from left to right is the one that its operands ask for.
-use Rattle.std.proofs.Common.{◌≡◌, ℕ, ◌+◌, ◌^◌, ◌*◌, Bool, true, false, cond, not, ◌&&◌, List, [], ◌∷◌, ◌++◌, Option, Some, None, Result, Ok, Err, refl, sym, ◌∙◌, ap, subst, arith}
-use Rattle.std.specs.Prelude.{min, ◌||◌, ◌-◌, ◌==◌, is_none, option_map, option_and_then, replicate}
+use Rattle.std.proofs.Common.{◌≡◌, ℕ, ◌+◌, ◌^◌, ◌*◌, Bool, true, false, cond, not, ◌&&◌, List, [], ◌∷◌, Option, Some, None, Result, Ok, Err, refl, sym, ◌∙◌, ap, subst, arith}
+use Rattle.std.specs.Prelude.{min, ◌||◌, ◌-◌, ◌==◌, option_map, option_and_then, replicate}
 use Rattle.std.specs.List.{list_all}
 use Rattle.std.specs.Int.{w32, to_le_bytes}
 use Rattle.instruction_model.specs.declared.Comparison.{Comparison}
@@ -17,7 +17,7 @@ use Rattle.source_model.specs.declared.statement.Statement as read
 use Rattle.source_model.specs.declared.statement.Statement.TheVariants as statements
 use Rattle.source_model.specs.declared.statement.Value as values
 use Rattle.source_model.specs.declared.statement.Value.TheVariants as value_forms
-use Rattle.source_model.specs.Bytes.{is_empty, is_blank, is_letter, is_digit}
+use Rattle.source_model.specs.Bytes.{is_empty, is_letter, is_digit}
 use Rattle.source_model.specs.Text as texts
 use Rattle.source_model.specs.Text.{◌>>=◌, contains, from, one_word, two_apart, two_words, three_words, word_and_address}
 use Rattle.source_model.specs.Number as numbers
@@ -80,18 +80,18 @@ shape-solid words.Byte = tt
 shape-solid words.Zero = tt
 
 abbrev pub effect : Mnemonic → (ℕ → ℕ) → Effect
-effect (words.Operate o) v = bytes (instruction (instructions.Operate o (v 0) (v 1) (v 2)))
-effect (words.OperateImmediate o) v = bytes (instruction (instructions.OperateImmediate o (v 0) (v 1) (v 2)))
-effect (words.ShiftImmediate o) v = bytes (instruction (instructions.OperateImmediate o (v 0) (v 1) (v 2)))
-effect (words.Load k) v = bytes (instruction (instructions.Load k (v 0) (v 2) (v 1)))
-effect (words.Store width) v = bytes (instruction (instructions.Store width (v 2) (v 0) (v 1)))
-effect words.Jalr v = bytes (instruction (instructions.Jalr (v 0) (v 2) (v 1)))
-effect (words.Branch c) v = bytes (instruction (instructions.Branch c (v 0) (v 1) (v 2)))
-effect words.Jal v = bytes (instruction (instructions.Jal (v 0) (v 1)))
+effect (words.Operate o) v = instruction (instructions.Operate o (v 0) (v 1) (v 2))
+effect (words.OperateImmediate o) v = instruction (instructions.OperateImmediate o (v 0) (v 1) (v 2))
+effect (words.ShiftImmediate o) v = instruction (instructions.OperateImmediate o (v 0) (v 1) (v 2))
+effect (words.Load k) v = instruction (instructions.Load k (v 0) (v 2) (v 1))
+effect (words.Store width) v = instruction (instructions.Store width (v 2) (v 0) (v 1))
+effect words.Jalr v = instruction (instructions.Jalr (v 0) (v 2) (v 1))
+effect (words.Branch c) v = instruction (instructions.Branch c (v 0) (v 1) (v 2))
+effect words.Jal v = instruction (instructions.Jal (v 0) (v 1))
 effect words.LoadImmediate v = bytes (loading (v 0) (v 1))
-effect words.Lui v = bytes (instruction (instructions.Lui (v 0) (4096 * v 1)))
-effect words.Auipc v = bytes (instruction (instructions.Auipc (v 0) (4096 * v 1)))
-effect (words.Alone i) v = bytes (instruction i)
+effect words.Lui v = instruction (instructions.Lui (v 0) (4096 * v 1))
+effect words.Auipc v = instruction (instructions.Auipc (v 0) (4096 * v 1))
+effect (words.Alone i) v = instruction i
 effect words.Segment v = model.segment (v 0) (v 1)
 effect words.Entry v = model.entry (v 0)
 effect words.Stack v = model.stack (v 0)
@@ -154,18 +154,18 @@ bind-twice (Err kind) f g = refl
 -- ---- three words
 
 -- an instruction of three numbers
-three-same : (make : ℕ → ℕ → ℕ → Instruction) (x y z : ℕ) → Same (statements.Plain (make x y z)) [] (with_values (number x ∷ number y ∷ number z ∷ []) (λ v. bytes (instruction (make (v 0) (v 1) (v 2)))))
-three-same make x y z = plain (make x y z) (with_values (number x ∷ number y ∷ number z ∷ []) (λ v. bytes (instruction (make (v 0) (v 1) (v 2))))) (λ labels here. refl) (λ labels here. refl) (λ labels here. refl)
+three-same : (make : ℕ → ℕ → ℕ → Instruction) (x y z : ℕ) → Same (statements.Plain (make x y z)) [] (with_values (number x ∷ number y ∷ number z ∷ []) (λ v. instruction (make (v 0) (v 1) (v 2))))
+three-same make x y z = plain (make x y z) (with_values (number x ∷ number y ∷ number z ∷ []) (λ v. instruction (make (v 0) (v 1) (v 2)))) (λ labels here. refl) (λ labels here. refl) (λ labels here. refl)
 
 three-registers : (make : ℕ → ℕ → ℕ → Instruction) (a b c : Option ℕ)
-    → Alike (reg a >>= λ x. reg b >>= λ y. reg c >>= λ z. old.plain (make x y z)) (statement_of (λ v. bytes (instruction (make (v 0) (v 1) (v 2)))) (r a ∷ r b ∷ r c ∷ []))
+    → Alike (reg a >>= λ x. reg b >>= λ y. reg c >>= λ z. old.plain (make x y z)) (statement_of (λ v. instruction (make (v 0) (v 1) (v 2))) (r a ∷ r b ∷ r c ∷ []))
 three-registers make None b c = refl
 three-registers make (Some x) None c = refl
 three-registers make (Some x) (Some y) None = refl
 three-registers make (Some x) (Some y) (Some z) = three-same make x y z
 
 registers-number : (make : ℕ → ℕ → ℕ → Instruction) (a b c : Option ℕ)
-    → Alike (reg a >>= λ x. reg b >>= λ y. fit c >>= λ z. old.plain (make x y z)) (statement_of (λ v. bytes (instruction (make (v 0) (v 1) (v 2)))) (r a ∷ r b ∷ n c ∷ []))
+    → Alike (reg a >>= λ x. reg b >>= λ y. fit c >>= λ z. old.plain (make x y z)) (statement_of (λ v. instruction (make (v 0) (v 1) (v 2))) (r a ∷ r b ∷ n c ∷ []))
 registers-number make None b c = refl
 registers-number make (Some x) None c = refl
 registers-number make (Some x) (Some y) None = refl
@@ -178,12 +178,12 @@ abbrev pair : ℕ → ℕ → Result (ℕ × ℕ) AsmErrorKind
 pair x y = Ok (x, y)
 
 address-number : (make : ℕ → ℕ → ℕ → Instruction) (a c b : Option ℕ)
-    → Alike ((reg a >>= λ x. reg b >>= λ y. fit c >>= λ z. triple x y z) >>= λ t. old.plain (make t.0 t.1 t.2)) (statement_of (λ v. bytes (instruction (make (v 0) (v 2) (v 1)))) (r a ∷ n c ∷ r b ∷ []))
+    → Alike ((reg a >>= λ x. reg b >>= λ y. fit c >>= λ z. triple x y z) >>= λ t. old.plain (make t.0 t.1 t.2)) (statement_of (λ v. instruction (make (v 0) (v 2) (v 1))) (r a ∷ n c ∷ r b ∷ []))
 address-number make None c b = refl
 address-number make (Some x) None None = refl
 address-number make (Some x) (Some z) None = refl
 address-number make (Some x) None (Some y) = refl
-address-number make (Some x) (Some z) (Some y) = plain (make x y z) (with_values (number x ∷ number z ∷ number y ∷ []) (λ v. bytes (instruction (make (v 0) (v 2) (v 1))))) (λ labels here. refl) (λ labels here. refl) (λ labels here. refl)
+address-number make (Some x) (Some z) (Some y) = plain (make x y z) (with_values (number x ∷ number z ∷ number y ∷ []) (λ v. instruction (make (v 0) (v 2) (v 1)))) (λ labels here. refl) (λ labels here. refl) (λ labels here. refl)
 
 -- a label or a number, as it is read and as an operand is
 abbrev either : Bool → Option ℕ → Result values.Value AsmErrorKind
@@ -221,10 +221,10 @@ load-is w (Some x) false None = refl
 load-is w (Some x) false (Some z) = load-same x w (value_forms.Number z)
 
 register-number : (make : ℕ → ℕ → Instruction) (a c : Option ℕ)
-    → Alike ((reg a >>= λ x. fit c >>= λ y. pair x (4096 * y)) >>= λ u. old.plain (make u.0 u.1)) (statement_of (λ v. bytes (instruction (make (v 0) (4096 * v 1)))) (r a ∷ n c ∷ []))
+    → Alike ((reg a >>= λ x. fit c >>= λ y. pair x (4096 * y)) >>= λ u. old.plain (make u.0 u.1)) (statement_of (λ v. instruction (make (v 0) (4096 * v 1))) (r a ∷ n c ∷ []))
 register-number make None c = refl
 register-number make (Some x) None = refl
-register-number make (Some x) (Some y) = plain (make x (4096 * y)) (with_values (number x ∷ number y ∷ []) (λ v. bytes (instruction (make (v 0) (4096 * v 1))))) (λ labels here. refl) (λ labels here. refl) (λ labels here. refl)
+register-number make (Some x) (Some y) = plain (make x (4096 * y)) (with_values (number x ∷ number y ∷ []) (λ v. instruction (make (v 0) (4096 * v 1)))) (λ labels here. refl) (λ labels here. refl) (λ labels here. refl)
 
 -- a number from 0 on, which is read up to one above a bound
 up-step : (bound n : ℕ) (t : Bool) → option_map (λ k. min k (bound + 1)) (cond t (Some 0) None) ≡ cond t (Some 0) None
@@ -264,7 +264,7 @@ zeros-is None = refl
 zeros-is (Some x) = zeros-same x
 
 alone-is : (i : Instruction) (t : Bool) → Alike (cond t (old.plain i) (Err kinds.Operand)) (read_by (effect (words.Alone i)) (cond t (Some []) None))
-alone-is i true = plain i (with_values [] (λ v. bytes (instruction i))) (λ labels here. refl) (λ labels here. refl) (λ labels here. refl)
+alone-is i true = plain i (with_values [] (λ v. instruction i)) (λ labels here. refl) (λ labels here. refl) (λ labels here. refl)
 alone-is i false = refl
 
 -- ---- each mnemonic
@@ -295,21 +295,21 @@ abbrev fit_of : ℕ → ℕ → List ℕ → Result ℕ AsmErrorKind
 fit_of below above w = fit (option_and_then (numbers.in_range below above) (numbers.number_of w))
 
 address-is : (make : ℕ → ℕ → ℕ → Instruction) (text : List ℕ) (o : Option Operands) → Agree (three a_register (a_field 2048 2047) a_register) (word_and_address text) o
-    → Alike (address_of text >>= λ a. old.plain (make a.0 a.1 a.2)) (read_by (λ v. bytes (instruction (make (v 0) (v 2) (v 1)))) o)
+    → Alike (address_of text >>= λ a. old.plain (make a.0 a.1 a.2)) (read_by (λ v. instruction (make (v 0) (v 2) (v 1))) o)
 unfolding address_of register_of field
 address-is make text o agrees =
-    subst (λ (x : Read). Alike x (read_by (λ v. bytes (instruction (make (v 0) (v 2) (v 1)))) o))
+    subst (λ (x : Read). Alike x (read_by (λ v. instruction (make (v 0) (v 2) (v 1))) o))
     (sym (bind-twice (word_and_address text) (λ w. reg_of w.0 >>= λ x. reg_of w.2 >>= λ y. fit_of 2048 2047 w.1 >>= λ z. triple x y z) (λ a. old.plain (make a.0 a.1 a.2))))
-    (by (three a_register (a_field 2048 2047) a_register) (word_and_address text) o (λ w. (reg_of w.0 >>= λ x. reg_of w.2 >>= λ y. fit_of 2048 2047 w.1 >>= λ z. triple x y z) >>= λ a. old.plain (make a.0 a.1 a.2)) (λ v. bytes (instruction (make (v 0) (v 2) (v 1)))) agrees
+    (by (three a_register (a_field 2048 2047) a_register) (word_and_address text) o (λ w. (reg_of w.0 >>= λ x. reg_of w.2 >>= λ y. fit_of 2048 2047 w.1 >>= λ z. triple x y z) >>= λ a. old.plain (make a.0 a.1 a.2)) (λ v. instruction (make (v 0) (v 2) (v 1))) agrees
     (λ w. rw (register-same w.0, register-same w.2, in-range-same 2048 2047 w.1) (address-number make (register_in w.0) (number_in 2048 2047 w.1) (register_in w.2))))
 
 upper-is : (make : ℕ → ℕ → Instruction) (text : List ℕ) (o : Option Operands) → Agree (two a_register (a_field 0 (2 ^ 20 - 1))) (two_words text) o
-    → Alike (upper text >>= λ u. old.plain (make u.0 u.1)) (read_by (λ v. bytes (instruction (make (v 0) (4096 * v 1)))) o)
+    → Alike (upper text >>= λ u. old.plain (make u.0 u.1)) (read_by (λ v. instruction (make (v 0) (4096 * v 1))) o)
 unfolding upper register_of field
 upper-is make text o agrees =
-    subst (λ (x : Read). Alike x (read_by (λ v. bytes (instruction (make (v 0) (4096 * v 1)))) o))
+    subst (λ (x : Read). Alike x (read_by (λ v. instruction (make (v 0) (4096 * v 1))) o))
     (sym (bind-twice (two_words text) (λ w. reg_of w.0 >>= λ x. fit_of 0 (2 ^ 20 - 1) w.1 >>= λ n. pair x (4096 * n)) (λ a. old.plain (make a.0 a.1))))
-    (by (two a_register (a_field 0 (2 ^ 20 - 1))) (two_words text) o (λ w. (reg_of w.0 >>= λ x. fit_of 0 (2 ^ 20 - 1) w.1 >>= λ n. pair x (4096 * n)) >>= λ a. old.plain (make a.0 a.1)) (λ v. bytes (instruction (make (v 0) (4096 * v 1)))) agrees
+    (by (two a_register (a_field 0 (2 ^ 20 - 1))) (two_words text) o (λ w. (reg_of w.0 >>= λ x. fit_of 0 (2 ^ 20 - 1) w.1 >>= λ n. pair x (4096 * n)) >>= λ a. old.plain (make a.0 a.1)) (λ v. instruction (make (v 0) (4096 * v 1))) agrees
     (λ w. rw (register-same w.0, in-range-same 0 (2 ^ 20 - 1) w.1) (register-number make (register_in w.0) (number_in 0 (2 ^ 20 - 1) w.1))))
 
 pub operands-same : (m : Mnemonic) (text : List ℕ) → Alike (operands m text) (read_by (effect m) (words_of (shape m) text))

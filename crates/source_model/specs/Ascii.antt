@@ -1,6 +1,6 @@
 -- The bytes of a source, by their codes in ASCII, and its lines.
 -- Our choice: which bytes are blanks, which stand in labels, and which begin a comment; what ends a line.
-use Rattle.std.specs.Prelude.{ℕ, Bool, true, not, ◌&&◌, ◌||◌, ◌==◌, nat_lt, List, [], ◌∷◌, if◌then◌else◌}
+use Rattle.std.specs.Prelude.{ℕ, Bool, not, ◌&&◌, ◌||◌, ◌==◌, nat_lt, List, [], ◌∷◌, if◌then◌else◌}
 
 abbrev pub is_between : ℕ → ℕ → ℕ → Bool
 is_between low high b = not (nat_lt b low) && not (nat_lt high b)

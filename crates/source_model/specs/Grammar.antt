@@ -36,16 +36,19 @@ HasLabel text name rest = (after : List ℕ) × (is_label name ≡ true) × Star
 abbrev pub AreOperands : List Part → List ℕ → Operands → Type 0
 AreOperands [] text os = Starts text [] × (os ≡ [])
 AreOperands (mark m ∷ ps) text os = (rest : List ℕ) × Starts text (m ∷ rest) × AreOperands ps rest os
-AreOperands (word r value ∷ ps) text os = (w : List ℕ) × (rest : List ℕ) × (others : Operands) × HasWord is_word_end text w rest × AreOperands ps rest others × (os ≡ (r, value w) ∷ others)
+AreOperands (word r value ∷ ps) text os = (w : List ℕ) × (rest : List ℕ) × (others : Operands)
+    × HasWord is_word_end text w rest × AreOperands ps rest others × (os ≡ (r, value w) ∷ others)
 
 -- what follows a first word is read by its form
 abbrev pub Asks : Option Form → List ℕ → Read → Type 0
 Asks None text r = r ≡ Err kinds.Word
-Asks (Some f) text r = ((os : Operands) × AreOperands f.parts text os × (r ≡ statement_of f.effect os)) ⊎ (((os : Operands) → AreOperands f.parts text os → ⊥) × (r ≡ Err kinds.Operand))
+Asks (Some f) text r = ((os : Operands) × AreOperands f.parts text os × (r ≡ statement_of f.effect os))
+    ⊎ (((os : Operands) → AreOperands f.parts text os → ⊥) × (r ≡ Err kinds.Operand))
 
 -- nothing, or a first word up to a blank and its operands
 abbrev pub IsStatement : List ℕ → Read → Type 0
-IsStatement body r = (Starts body [] × (r ≡ Ok (record { values = []; effect = λ v. bytes [] }))) ⊎ ((name : List ℕ) × (rest : List ℕ) × HasWord is_blank body name rest × Asks (find (λ f. bytes_eq name f.name) (instructions ++ directives)) rest r)
+IsStatement body r = (Starts body [] × (r ≡ Ok (record { values = []; effect = λ v. bytes [] })))
+    ⊎ ((name : List ℕ) × (rest : List ℕ) × HasWord is_blank body name rest × Asks (find (λ f. bytes_eq name f.name) (instructions ++ directives)) rest r)
 
 -- ---- lines
 

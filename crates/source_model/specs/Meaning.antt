@@ -16,14 +16,14 @@ pub data Value : Type 0 where
   label : List ℕ → Value
   distance : ℕ → Value → Value
 
--- bytes stand next; a segment begins, at an address and with a permission; the root begins at an address, or with a stack pointer
+-- bytes stand next; a segment begins, at an address and with a permission; the root is to begin at an address; its stack pointer is given
 pub data Effect : Type 0 where
   bytes : List ℕ → Effect
   segment : ℕ → ℕ → Effect
   entry : ℕ → Effect
   stack : ℕ → Effect
 
--- the values that a statement is written with, and what it does, by what they are worth
+-- the values that a statement is written with, and what it does where the n-th of them, counted from 0, is worth so much
 pub record Statement : Type 0 where
   pub values : List Value
   pub effect : (ℕ → ℕ) → Effect

@@ -23,7 +23,8 @@ number_of word =
 
 -- a number that is no farther below 0 nor above it, modulo 2 ^ 32
 abbrev pub number_in : ℕ → ℕ → List ℕ → Option ℕ
-number_in below above word = option_and_then (λ (n : ℕ × ℕ). if nat_lt below n.0 || nat_lt above n.1 then None else Some ((2 ^ 32 - n.0) % 2 ^ 32 + n.1)) (number_of word)
+number_in below above word = option_and_then (λ (n : ℕ × ℕ).
+    if nat_lt below n.0 || nat_lt above n.1 then None else Some ((2 ^ 32 - n.0) % 2 ^ 32 + n.1)) (number_of word)
 
 -- a number from 0 on
 abbrev pub natural_in : List ℕ → Option ℕ
