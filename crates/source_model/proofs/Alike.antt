@@ -35,9 +35,6 @@ value_view w value_forms.Label = label w
 abbrev pub worth_at : Labels → List ℕ → read.Statement → Option ℕ
 worth_at labels w x = worth_of labels 0 (value_view w (operand_of x))
 
-abbrev pub value_at : Labels → List ℕ → read.Statement → ℕ
-value_at labels w x = unwrap_or (worth_at labels w x) 0
-
 -- of the same places, as long, with the same outcome where its value has a worth, as far from its target, and as much in want of labels
 pub record Same (x : read.Statement) (w : List ℕ) (s : Statement) : Type 0 where
   pub place : (labels : Labels) (d : model.Draft) → layouts.is_out_of_place (layout_of d.segments) x ≡ is_out_of_place d.segments (effect_of labels (address_after d) s)

@@ -36,10 +36,6 @@ not-true : (x : Bool) → not x ≡ true → x ≡ false
 not-true true h = cc
 not-true false h = refl
 
-not-false : (x : Bool) → x ≡ false → not x ≡ true
-not-false true h = cc
-not-false false h = refl
-
 apart : (x : Bool) → x ≡ true → x ≡ false → ⊥
 apart x e f = cc
 

@@ -247,10 +247,6 @@ and-true : (t : Bool) → t ≡ (t && true)
 and-true true = refl
 and-true false = refl
 
-and-false : (t : Bool) → (t && false) ≡ false
-and-false true = refl
-and-false false = refl
-
 longer : (b : ℕ) (bs : List ℕ) → not (is_empty bs) ≡ nat_lt 1 (length (b ∷ bs))
 longer b [] = refl
 longer b (c ∷ cs) = sym (lt-ltb 1 (length (b ∷ c ∷ cs)) (omega arith))

@@ -68,6 +68,7 @@ end_of (s ∷ ss) = s.address + length s.content
 abbrev pub address_after : Draft → ℕ
 address_after d = end_of d.segments % 2 ^ 32
 
+-- those that have bytes
 abbrev pub with_content : List Segment → List Segment
 with_content ss = filter (λ s. nat_lt 0 (length s.content)) ss
 
@@ -78,6 +79,7 @@ is_out_of_place ss (bytes b) = nat_lt 0 (length b) && (length ss == 0 || nat_lt 
 is_out_of_place ss (segment a p) = nat_lt 3 p || nat_lt (a / 4096 * 4096) (end_of (with_content ss)) || nat_le 64 (length ss)
 is_out_of_place ss e = false
 
+-- bytes come to the last segment
 abbrev pub with_bytes : List Segment → List ℕ → List Segment
 with_bytes [] b = []
 with_bytes (s ∷ ss) b = record s { content = s.content ++ b } ∷ ss
@@ -99,7 +101,7 @@ blank = record { segments = []; entry = None; stack = 0 }
 unfoldable pub draft_of : Labels → List Line → Draft
 draft_of labels lines = fold (λ d l. with_read labels d l.statement) blank lines
 
--- the segments that have bytes; the root begins at the first segment, where no line says more
+-- the segments that have bytes, the last one last; the root begins at the first that has begun, the last of the list, where no line says more
 abbrev pub image_of : Draft → Image
 image_of d = record { entry = unwrap_or d.entry (fold (λ a s. s.address) 0 d.segments); stack = d.stack; segments = reverse (with_content d.segments) }
 
@@ -108,7 +110,7 @@ image_of d = record { entry = unwrap_or d.entry (fold (λ a s. s.address) 0 d.se
 abbrev pub defines : List ℕ → Line → Bool
 defines name l = list_any (λ n. bytes_eq n name) (option_to_list l.name)
 
--- a label is worth the address that is reached before the first line that defines it
+-- a label is worth the address that is reached before the first line that defines it, whatever labels are worth
 unfoldable pub label_in : List Line → Labels
 label_in lines name = if list_any (defines name) lines then Some (address_after (draft_of (λ n. None) (take_while (λ l. not (defines name l)) lines))) else None
 
