@@ -8,6 +8,7 @@ use Rattle.source_model.specs.declared.statement.Class.TheVariants.{Solid, Blank
 use Rattle.source_model.specs.Bytes.{is_blank, is_empty, begins}
 use Rattle.source_model.specs.Text.{contains, before, from}
 use Rattle.source_model.specs.Grammar.{Starts, IsCut, HasWord}
+use Rattle.source_model.proofs.Below.{both}
 
 abbrev pub AreBlanks : List ℕ → Type 0
 AreBlanks text = list_all is_blank text ≡ true
@@ -23,10 +24,6 @@ and-true false = refl
 pub ends-is : (test : ℕ → Bool) (text : List ℕ) → list_all test (take 1 text) ≡ ends test text
 ends-is test [] = refl
 ends-is test (b ∷ bs) = and-true (test b)
-
-pub both : (x y : Bool) → (x && y) ≡ true → (x ≡ true) × (y ≡ true)
-both true y h = (refl, h)
-both false y h = cc
 
 pub and-both : (x y : Bool) → x ≡ true → y ≡ true → (x && y) ≡ true
 and-both true y e f = f

@@ -1,5 +1,6 @@
 pub mod Definitions
 pub mod Sizes
+pub mod Below
 pub mod Cuts
 pub mod Words
 pub mod Shapes

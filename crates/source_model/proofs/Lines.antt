@@ -23,7 +23,8 @@ use Rattle.source_model.specs.Line.{name_in, rest_in, label_of, body_of, stateme
 use Rattle.source_model.specs.Meaning.{Line, Read, bytes}
 use Rattle.source_model.specs.Operand.{Operands, is_label, Form, instructions, directives}
 use Rattle.source_model.specs.Grammar.{HasLabel, Asks, IsStatement, IsBody, IsRead, IsLine}
-use Rattle.source_model.proofs.Cuts.{AreBlanks, ends, parts, inside, before-is, from-is, skip, stays, gap-blank, start-solid, both, and-both, mark-text, blank-stops, cut-given, cut-found, word-given, word-found, not-empty, start-blank, blank-start}
+use Rattle.source_model.proofs.Below.{both}
+use Rattle.source_model.proofs.Cuts.{AreBlanks, ends, parts, inside, before-is, from-is, skip, stays, gap-blank, start-solid, and-both, mark-text, blank-stops, cut-given, cut-found, word-given, word-found, not-empty, start-blank, blank-start}
 use Rattle.source_model.proofs.Words.{words_of, AreSolid, MayBeOperands, may-be, may-be-one}
 use Rattle.source_model.proofs.Alike.{Alike, with_values, nothing-same}
 use Rattle.source_model.proofs.Statements.{shape, shape-solid, effect, read_by, operands-same}

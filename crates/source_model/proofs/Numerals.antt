@@ -14,6 +14,7 @@ use Rattle.source_model.specs.declared.mnemonic.Number.TheVariants.{Plus, Minus}
 use Rattle.source_model.specs.Bytes.{is_empty, begins}
 use Rattle.source_model.specs.Number as read
 use Rattle.source_model.specs.Number.{digit_of, times, value_from, decimal, hexadecimal}
+use Rattle.source_model.proofs.Below.{all_below, each-below}
 use Rattle.source_model.specs.Numeral.{digits_in, decimal_in, number_of, number_in, natural_in}
 
 -- ---- digits
@@ -26,76 +27,25 @@ radix Hexadecimal = 16
 abbrev below_base : ℕ → ℕ → Option ℕ
 below_base base v = cond (nat_lt v base) (Some v) None
 
-small : (base v : ℕ) → v < base → below_base base v ≡ Some v
-small base v lt = let is : nat_lt v base ≡ true = lt-ltb v base lt in rw is refl
+-- whether two values are the same
+abbrev is_same : Option ℕ → Option ℕ → Bool
+is_same None None = true
+is_same (Some m) (Some n) = m == n
+is_same o q = false
 
-large : (base v : ℕ) → base ≤ v → below_base base v ≡ None
-large base v le = let is : nat_lt v base ≡ false = le-ltb v base le in rw is refl
+same-is : (o q : Option ℕ) → is_same o q ≡ true → o ≡ q
+same-is None None h = refl
+same-is (Some m) (Some n) h = ap (λ (k : ℕ). Some k) (eqb-true m n h)
+same-is None (Some n) h = cc
+same-is (Some m) None h = cc
 
-under : (b : ℕ) → b < 48 → (base : Base) → digit_of base b ≡ below_base (radix base) (digit_value b)
-under b lt Decimal = let e : nat_lt b 48 ≡ true = lt-ltb b 48 lt in rw e refl
-under b lt Hexadecimal =
-    let e : nat_lt b 48 ≡ true = lt-ltb b 48 lt in
-    let f : nat_lt b 97 ≡ true = lt-ltb b 97 (omega (arith, lt)) in
-    let g : nat_lt b 65 ≡ true = lt-ltb b 65 (omega (arith, lt)) in
-    rw (e, f, g) refl
+abbrev is_digit_same : Base → ℕ → Bool
+is_digit_same base b = is_same (digit_of base b) (below_base (radix base) (digit_value b))
 
-digit : (b : ℕ) → 48 ≤ b → b < 58 → (base : Base) → digit_of base b ≡ below_base (radix base) (digit_value b)
-digit b low high Decimal =
-    let e : nat_lt b 48 ≡ false = le-ltb b 48 low in
-    let f : nat_lt 57 b ≡ false = le-ltb 57 b (omega (arith, high)) in
-    let g : nat_lt b 58 ≡ true = lt-ltb b 58 high in
-    let small_one : nat_lt (b - 48) 10 ≡ true = lt-ltb (b - 48) 10 (omega (arith, low, high)) in
-    rw (e, f, g, small_one) refl
-digit b low high Hexadecimal =
-    let e : nat_lt b 48 ≡ false = le-ltb b 48 low in
-    let f : nat_lt 57 b ≡ false = le-ltb 57 b (omega (arith, high)) in
-    let g : nat_lt b 58 ≡ true = lt-ltb b 58 high in
-    let small_one : nat_lt (b - 48) 16 ≡ true = lt-ltb (b - 48) 16 (omega (arith, low, high)) in
-    rw (e, f, g, small_one) refl
-
--- no decimal digit
-past : (b v : ℕ) → 58 ≤ b → digit_value b ≡ v → 10 ≤ v → digit_of Decimal b ≡ below_base 10 (digit_value b)
-past b v low is le =
-    let e : nat_lt b 48 ≡ false = le-ltb b 48 (omega (arith, low)) in
-    let f : nat_lt 57 b ≡ true = lt-ltb 57 b (omega (arith, low)) in
-    let none : digit_of Decimal b ≡ None = rw (e, f) refl in
-    none ∙ (sym (large 10 v le) ∙ ap (below_base 10) (sym is))
-
--- what letters and other bytes are worth
-gap-value : (b : ℕ) → 58 ≤ b → b < 65 → digit_value b ≡ 36
-gap-value b low high =
-    let e : nat_lt b 48 ≡ false = le-ltb b 48 (omega (arith, low)) in
-    let f : nat_lt b 58 ≡ false = le-ltb b 58 low in
-    let g : nat_lt b 65 ≡ true = lt-ltb b 65 high in
-    rw (e, f, g) refl
-
-upper-value : (b : ℕ) → 65 ≤ b → b < 91 → digit_value b ≡ b - 55
-upper-value b low high =
-    let e : nat_lt b 48 ≡ false = le-ltb b 48 (omega (arith, low)) in
-    let f : nat_lt b 58 ≡ false = le-ltb b 58 (omega (arith, low)) in
-    let g : nat_lt b 65 ≡ false = le-ltb b 65 low in
-    let h : nat_lt b 91 ≡ true = lt-ltb b 91 high in
-    rw (e, f, g, h) refl
-
-middle-value : (b : ℕ) → 91 ≤ b → b < 97 → digit_value b ≡ 36
-middle-value b low high =
-    let e : nat_lt b 48 ≡ false = le-ltb b 48 (omega (arith, low)) in
-    let f : nat_lt b 58 ≡ false = le-ltb b 58 (omega (arith, low)) in
-    let g : nat_lt b 65 ≡ false = le-ltb b 65 (omega (arith, low)) in
-    let h : nat_lt b 91 ≡ false = le-ltb b 91 low in
-    let i : nat_lt b 97 ≡ true = lt-ltb b 97 high in
-    rw (e, f, g, h, i) refl
-
-lower-value : (b : ℕ) → 97 ≤ b → b < 123 → digit_value b ≡ b - 87
-lower-value b low high =
-    let e : nat_lt b 48 ≡ false = le-ltb b 48 (omega (arith, low)) in
-    let f : nat_lt b 58 ≡ false = le-ltb b 58 (omega (arith, low)) in
-    let g : nat_lt b 65 ≡ false = le-ltb b 65 (omega (arith, low)) in
-    let h : nat_lt b 91 ≡ false = le-ltb b 91 (omega (arith, low)) in
-    let i : nat_lt b 97 ≡ false = le-ltb b 97 low in
-    let j : nat_lt b 123 ≡ true = lt-ltb b 123 high in
-    rw (e, f, g, h, i, j) refl
+-- by computing all bytes up to the letters
+all-small : (base : Base) → all_below 123 (is_digit_same base) ≡ true
+all-small Decimal = refl
+all-small Hexadecimal = refl
 
 end-value : (b : ℕ) → 123 ≤ b → digit_value b ≡ 36
 end-value b low =
@@ -107,102 +57,26 @@ end-value b low =
     let j : nat_lt b 123 ≡ false = le-ltb b 123 low in
     rw (e, f, g, h, i, j) refl
 
--- a hexadecimal letter, or none
-hex-lower : (b : ℕ) → 97 ≤ b → b < 103 → digit_of Hexadecimal b ≡ Some (b - 87)
-hex-lower b low high =
+no-digit : (base : Base) (b : ℕ) → 123 ≤ b → digit_of base b ≡ below_base (radix base) (digit_value b)
+no-digit Decimal b low =
     let e : nat_lt b 48 ≡ false = le-ltb b 48 (omega (arith, low)) in
     let f : nat_lt 57 b ≡ true = lt-ltb 57 b (omega (arith, low)) in
-    let g : nat_lt b 97 ≡ false = le-ltb b 97 low in
-    let h : nat_lt 102 b ≡ false = le-ltb 102 b (omega (arith, high)) in
-    rw (e, f, g, h) refl
-
-hex-upper : (b : ℕ) → 65 ≤ b → b < 71 → digit_of Hexadecimal b ≡ Some (b - 55)
-hex-upper b low high =
-    let e : nat_lt b 48 ≡ false = le-ltb b 48 (omega (arith, low)) in
-    let f : nat_lt 57 b ≡ true = lt-ltb 57 b (omega (arith, low)) in
-    let g : nat_lt b 97 ≡ true = lt-ltb b 97 (omega (arith, high)) in
-    let h : nat_lt b 65 ≡ false = le-ltb b 65 low in
-    let i : nat_lt 70 b ≡ false = le-ltb 70 b (omega (arith, high)) in
-    rw (e, f, g, h, i) refl
-
-hex-gap : (b : ℕ) → 58 ≤ b → b < 65 → digit_of Hexadecimal b ≡ None
-hex-gap b low high =
-    let e : nat_lt b 48 ≡ false = le-ltb b 48 (omega (arith, low)) in
-    let f : nat_lt 57 b ≡ true = lt-ltb 57 b (omega (arith, low)) in
-    let g : nat_lt b 97 ≡ true = lt-ltb b 97 (omega (arith, high)) in
-    let h : nat_lt b 65 ≡ true = lt-ltb b 65 high in
-    rw (e, f, g, h) refl
-
-hex-middle : (b : ℕ) → 71 ≤ b → b < 97 → digit_of Hexadecimal b ≡ None
-hex-middle b low high =
-    let e : nat_lt b 48 ≡ false = le-ltb b 48 (omega (arith, low)) in
-    let f : nat_lt 57 b ≡ true = lt-ltb 57 b (omega (arith, low)) in
-    let g : nat_lt b 97 ≡ true = lt-ltb b 97 high in
-    let h : nat_lt b 65 ≡ false = le-ltb b 65 (omega (arith, low)) in
-    let i : nat_lt 70 b ≡ true = lt-ltb 70 b (omega (arith, low)) in
-    rw (e, f, g, h, i) refl
-
-hex-end : (b : ℕ) → 103 ≤ b → digit_of Hexadecimal b ≡ None
-hex-end b low =
+    let value : digit_value b ≡ 36 = end-value b low in
+    rw value (rw (e, f) refl)
+no-digit Hexadecimal b low =
     let e : nat_lt b 48 ≡ false = le-ltb b 48 (omega (arith, low)) in
     let f : nat_lt 57 b ≡ true = lt-ltb 57 b (omega (arith, low)) in
     let g : nat_lt b 97 ≡ false = le-ltb b 97 (omega (arith, low)) in
     let h : nat_lt 102 b ≡ true = lt-ltb 102 b (omega (arith, low)) in
     let i : nat_lt b 65 ≡ false = le-ltb b 65 (omega (arith, low)) in
     let j : nat_lt 70 b ≡ true = lt-ltb 70 b (omega (arith, low)) in
-    rw (e, f, g, h, i, j) refl
-
-is-small : (b v : ℕ) → digit_of Hexadecimal b ≡ Some v → digit_value b ≡ v → v < 16 → digit_of Hexadecimal b ≡ below_base 16 (digit_value b)
-is-small b v is value lt = is ∙ (sym (small 16 v lt) ∙ ap (below_base 16) (sym value))
-
-is-large : (b v : ℕ) → digit_of Hexadecimal b ≡ None → digit_value b ≡ v → 16 ≤ v → digit_of Hexadecimal b ≡ below_base 16 (digit_value b)
-is-large b v is value le = is ∙ (sym (large 16 v le) ∙ ap (below_base 16) (sym value))
-
-gap : (b : ℕ) → 58 ≤ b → b < 65 → (base : Base) → digit_of base b ≡ below_base (radix base) (digit_value b)
-gap b low high Decimal = past b 36 low (gap-value b low high) (omega arith)
-gap b low high Hexadecimal = is-large b 36 (hex-gap b low high) (gap-value b low high) (omega arith)
-
-upper : (b : ℕ) → 65 ≤ b → b < 91 → (base : Base) → digit_of base b ≡ below_base (radix base) (digit_value b)
-upper b low high Decimal = past b (b - 55) (omega (arith, low)) (upper-value b low high) (omega (arith, low))
-upper b low high Hexadecimal = elim (cases_lt b 71) [
-  | inl lt ↦ is-small b (b - 55) (hex-upper b low lt) (upper-value b low high) (omega (arith, low, lt))
-  | inr le ↦ is-large b (b - 55) (hex-middle b le (omega (arith, high))) (upper-value b low high) (omega (arith, le))
-]
-
-middle : (b : ℕ) → 91 ≤ b → b < 97 → (base : Base) → digit_of base b ≡ below_base (radix base) (digit_value b)
-middle b low high Decimal = past b 36 (omega (arith, low)) (middle-value b low high) (omega arith)
-middle b low high Hexadecimal = is-large b 36 (hex-middle b (omega (arith, low)) high) (middle-value b low high) (omega arith)
-
-lower : (b : ℕ) → 97 ≤ b → b < 123 → (base : Base) → digit_of base b ≡ below_base (radix base) (digit_value b)
-lower b low high Decimal = past b (b - 87) (omega (arith, low)) (lower-value b low high) (omega (arith, low))
-lower b low high Hexadecimal = elim (cases_lt b 103) [
-  | inl lt ↦ is-small b (b - 87) (hex-lower b low lt) (lower-value b low high) (omega (arith, low, lt))
-  | inr le ↦ is-large b (b - 87) (hex-end b le) (lower-value b low high) (omega (arith, le))
-]
-
-end : (b : ℕ) → 123 ≤ b → (base : Base) → digit_of base b ≡ below_base (radix base) (digit_value b)
-end b low Decimal = past b 36 (omega (arith, low)) (end-value b low) (omega arith)
-end b low Hexadecimal = is-large b 36 (hex-end b (omega (arith, low))) (end-value b low) (omega arith)
+    let value : digit_value b ≡ 36 = end-value b low in
+    rw value (rw (e, f, g, h, i, j) refl)
 
 digit-same : (base : Base) (b : ℕ) → digit_of base b ≡ below_base (radix base) (digit_value b)
-digit-same base b = elim (cases_lt b 48) [
-  | inl lt ↦ under b lt base
-  | inr a ↦ elim (cases_lt b 58) [
-    | inl lt ↦ digit b a lt base
-    | inr c ↦ elim (cases_lt b 65) [
-      | inl lt ↦ gap b c lt base
-      | inr d ↦ elim (cases_lt b 91) [
-        | inl lt ↦ upper b d lt base
-        | inr e ↦ elim (cases_lt b 97) [
-          | inl lt ↦ middle b e lt base
-          | inr f ↦ elim (cases_lt b 123) [
-            | inl lt ↦ lower b f lt base
-            | inr g ↦ end b g base
-          ]
-        ]
-      ]
-    ]
-  ]
+digit-same base b = elim (cases_lt b 123) [
+  | inl lt ↦ same-is (digit_of base b) (below_base (radix base) (digit_value b)) (each-below 123 (is_digit_same base) (all-small base) b lt)
+  | inr le ↦ no-digit base b le
 ]
 
 -- ---- numbers of digits

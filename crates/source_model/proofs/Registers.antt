@@ -1,9 +1,9 @@
 -- Registers that are read by a letter and a number are those that the definition names.
-use Rattle.std.proofs.Common.{◌≡◌, ℕ, zero, suc, not, ◌+◌, ◌*◌, ◌/◌, ◌%◌, ◌<◌, ◌≤◌, Bool, true, false, cond, List, [], ◌∷◌, Option, Some, None, refl, sym, ◌∙◌, ap, subst, arith, inl, inr}
+use Rattle.std.proofs.Common.{◌≡◌, ℕ, not, ◌+◌, ◌*◌, ◌/◌, ◌%◌, ◌<◌, ◌≤◌, Bool, true, false, cond, List, [], ◌∷◌, Option, Some, None, refl, sym, ◌∙◌, ap, arith}
 use Rattle.std.specs.Prelude.{map, ◌-◌, ◌&&◌, ◌==◌, nat_lt, drop, slice_index, is_some, option_map, option_and_then, codes}
 use Rattle.std.specs.List.{position_from}
 use Rattle.std.specs.Str.{bytes_eq}
-use Rattle.std.proofs.lemmas.Bool.{cases_lt, le-ltb}
+use Rattle.std.proofs.lemmas.Bool.{le-ltb}
 use Rattle.std.proofs.lemmas.Slice.Eq.{bytes_eq-Decides}
 use borrow.Author.Tests.{lt-ltb, ltb-true, ltb-false, eqb-true, eqb-false}
 use Rattle.source_model.specs.declared.mnemonic.Base.TheVariants.{Decimal}
@@ -12,6 +12,7 @@ use Rattle.source_model.specs.Number.{digit_of}
 use Rattle.source_model.specs.Register as read
 use Rattle.source_model.specs.Register.{index_of, letter_register}
 use Rattle.source_model.specs.RegisterNames.{register_names, register_in}
+use Rattle.source_model.proofs.Below.{both, all_below, each-below}
 
 -- ---- a name that is found is read as its register
 
@@ -50,10 +51,6 @@ found-same i (n ∷ ns) w j e h = found-step (bytes_eq w n) i j w n (position_fr
 -- one or two digits
 abbrev digits_of : ℕ → List ℕ
 digits_of n = cond (nat_lt n 10) ((48 + n) ∷ []) ((48 + n / 10) ∷ (48 + n % 10) ∷ [])
-
-both : (x y : Bool) → (x && y) ≡ true → (x ≡ true) × (y ≡ true)
-both true y h = (refl, h)
-both false y h = cc
 
 not-true : (x : Bool) → not x ≡ true → x ≡ false
 not-true true h = cc
@@ -110,17 +107,6 @@ index-is (a ∷ b ∷ []) n h = first-step a b n (a == 48) (digit_of Decimal a) 
 index-is (a ∷ b ∷ c ∷ bs) n h = cc
 
 -- ---- letters
-
-abbrev all_below : ℕ → (ℕ → Bool) → Bool
-all_below zero f = true
-all_below (suc m) f = f m && all_below m f
-
-each-below : (m : ℕ) (f : ℕ → Bool) → all_below m f ≡ true → (n : ℕ) → n < m → f n ≡ true
-each-below zero f h n lt = absurd (omega (arith, lt))
-each-below (suc m) f h n lt = elim (cases_lt n m) [
-  | inl less ↦ each-below m f (both (f m) (all_below m f) h).1 n less
-  | inr le ↦ let same : m ≡ n = omega (arith, lt, le) in subst (λ (k : ℕ). f k ≡ true) same (both (f m) (all_below m f) h).0
-]
 
 abbrev is_name : List ℕ → Bool
 is_name w = is_some (position_from (bytes_eq w) 0 register_names)
