@@ -12,7 +12,7 @@ use Rattle.file_image.specs.Lookup.{HasFile}
 use Rattle.file_image.proofs.Bases.{bases_pass, bases_end}
 use Rattle.space_mem.specs.Held.{Held, AllZero}
 use Rattle.space_model.specs.Files.{file_bytes, with_file_bytes, with_file_bases}
-use Rattle.memory_files.specs.Slots.{KeepsRest, HasBits, has_slot}
+use Rattle.memory_files.specs.Slots.{KeepsRest, HasBits, has_slot, first_page, slot_page}
 use Rattle.memory_files.specs.Laws.{keeps_itself}
 use Rattle.memory_files.proofs.Results.{memory_is}
 
@@ -48,7 +48,7 @@ used_has (Ok slots) m n bits same told has = λ (k : ℕ) file. has k file.withi
 
 -- ---- no bytes of slots
 
-zero_byte : (m : Memory) (a : ℕ) → AllZero m 786432 787456 → a < all_slots_size → file_bytes m a ≡ 0
+zero_byte : (m : Memory) (a : ℕ) → AllZero m first_page (slot_page slot_count) → a < all_slots_size → file_bytes m a ≡ 0
 zero_byte m a none within =
     let e : first_address + a ≡ 4096 * ((first_address + a) / 4096) + (first_address + a) % 4096 = omega arith in
     ap (byte_at m) e ∙ none ((first_address + a) / 4096) ((first_address + a) % 4096) (omega arith) (omega arith) (omega arith)
@@ -61,7 +61,7 @@ zero_number b at p q r s =
 no_mark : (n : ℕ) (p q r s : Bool) → n ≡ 0 → (n == from_le_bytes w32 (codes "DTF1") && p && q && r && s) ≡ false
 no_mark n p q r s e = ap (λ k. k == from_le_bytes w32 (codes "DTF1") && p && q && r && s) e
 
-pub none_used : (m : Memory) (k : ℕ) → AllZero m 786432 787456 → k < slot_count → is_in_use (file_bytes m) (slot_start k) ≡ false
+pub none_used : (m : Memory) (k : ℕ) → AllZero m first_page (slot_page slot_count) → k < slot_count → is_in_use (file_bytes m) (slot_start k) ≡ false
 none_used m k none below =
     no_mark (number_at (file_bytes m) (slot_start k)) _ _ _ _
     (zero_number (file_bytes m) (slot_start k) (zero_byte m (slot_start k) none (omega arith)) (zero_byte m (slot_start k + 1) none (omega arith))
@@ -71,7 +71,7 @@ no_bases : (b : ℕ → ℕ) (d k : ℕ) → k + d ≡ 64 → ((j : ℕ) → j <
 no_bases b zero k e free = bases_end b k 64 (omega arith)
 no_bases b (suc d) k e free = bases_pass b k 64 (omega arith) (ap not (free k (omega arith))) ∙ no_bases b d (k + 1) (omega arith) free
 
-pub none_based : (h : Held) → AllZero h.memory 786432 787456 → h.memory ≡ with_file_bases h.memory
+pub none_based : (h : Held) → AllZero h.memory first_page (slot_page slot_count) → h.memory ≡ with_file_bases h.memory
 unfolding with_file_bases
 none_based h none =
     memory_is h h (file_bytes h.memory) (keeps_itself h) refl

@@ -12,7 +12,7 @@ use Rattle.file_image.specs.Outcomes.{AreReady, is_shown}
 use Rattle.file_image.proofs.LaterFiles.{later, later_hidden, nothing_left, none_left_out}
 use Rattle.space_mem.specs.Held.{Held, AllZero}
 use Rattle.space_model.specs.Files.{file_bytes, files_in, with_file_bytes, with_files_of, files_left_out}
-use Rattle.memory_files.specs.Slots.{KeepsRest, HasBits, has_slot}
+use Rattle.memory_files.specs.Slots.{KeepsRest, HasBits, has_slot, first_page, slot_page}
 use Rattle.memory_files.specs.Laws.{keeps_itself}
 use Rattle.memory_files.proofs.Bases.{none_used}
 use Rattle.memory_files.proofs.Results.{memory_is}
@@ -44,18 +44,18 @@ none_later : (d : ℕ → ℕ) (n k : ℕ) → k + n ≡ 64 → ((j : ℕ) → j
 none_later d zero k e free = let same : k ≡ 64 = omega arith in ap (later d) same
 none_later d (suc n) k e free = later_hidden d k (omega arith) (none_shown d k (free k (omega arith))) ∙ none_later d n (k + 1) (omega arith) free
 
-no_files : (c : Held) → AllZero c.memory 786432 787456 → later (file_bytes c.memory) 0 ≡ later (file_bytes c.memory) 64
+no_files : (c : Held) → AllZero c.memory first_page (slot_page slot_count) → later (file_bytes c.memory) 0 ≡ later (file_bytes c.memory) 64
 no_files c none = none_later (file_bytes c.memory) 64 0 (omega arith) (λ j below. none_used c.memory j none below)
 
 same_entries : (b d : ℕ → ℕ) → later d 0 ≡ later d 64 → reconciled_bytes b d ≡ b
 same_entries b d e = ap (λ cs. with_entries b (rest (slots_of b) cs).edits) e ∙ nothing_left b d 64 (omega arith)
 
-pub nothing_taken : (h c : Held) → AllZero c.memory 786432 787456 → h.memory ≡ with_files_of c.memory h.memory
+pub nothing_taken : (h c : Held) → AllZero c.memory first_page (slot_page slot_count) → h.memory ≡ with_files_of c.memory h.memory
 unfolding with_files_of
 nothing_taken h c none =
     memory_is h h (file_bytes h.memory) (keeps_itself h) refl ∙ ap (with_file_bytes h.memory) (sym (same_entries (file_bytes h.memory) (file_bytes c.memory) (no_files c none)))
 
-pub nothing_left_out : (h c : Held) → AllZero c.memory 786432 787456 → 0 ≡ files_left_out c.memory h.memory
+pub nothing_left_out : (h c : Held) → AllZero c.memory first_page (slot_page slot_count) → 0 ≡ files_left_out c.memory h.memory
 unfolding files_left_out
 nothing_left_out h c none =
     sym (ap (λ cs. (rest (files_in h.memory) cs).left_out) (no_files c none) ∙ none_left_out (files_in h.memory) (file_bytes c.memory) 64 (omega arith))

@@ -5,9 +5,17 @@ use Rattle.memory_model.specs.Memory.{Memory, byte_at}
 use Rattle.file_model.specs.Sizes.{first_address, slot_count, all_slots_size}
 use Rattle.space_mem.specs.Held.{Held, Owns, Marks}
 
+-- the page that the first slot begins with, at the first address of the slots
+abbrev pub first_page : ℕ
+first_page = 0xC0000
+
+-- the pages of a slot: one of its header, and those of its content
+abbrev pub slot_pages : ℕ
+slot_pages = 16
+
 -- the page that slot k begins with
 abbrev pub slot_page : ℕ → ℕ
-slot_page k = 786432 + 16 * k
+slot_page k = first_page + slot_pages * k
 
 -- the memory owns n pages from the start of slot k on
 abbrev pub OwnsSlot : Held → ℕ → ℕ → Type 0

@@ -2,10 +2,11 @@ ghost use Rattle.std.specs.Prelude.{◌≡◌, ℕ, ◌+◌, ◌<◌, true, IfOk
 ghost use Rattle.file_image.specs.Lookup.{HasFile};
 ghost use Rattle.space_mem.specs.Held.{AllZero, Marks};
 ghost use Rattle.space_model.specs.Files.{file_bytes, with_file_bases};
-ghost use Rattle.memory_files.specs.Slots.{OwnsSlots, has_slot};
+ghost use Rattle.file_model.specs.Sizes.{slot_count};
+ghost use Rattle.memory_files.specs.Slots.{OwnsSlots, first_page, has_slot, slot_page};
 
 use crate::files::Files;
-use crate::owning::{FIRST_PAGE, HEADER_PAGES, own_slots};
+use crate::owning::{FIRST_PAGE, HEADER_PAGES, SLOT_COUNT, SLOT_PAGES, own_slots};
 use crate::slots::Slots;
 use file_image::used;
 use space_mem::Mem;
@@ -13,10 +14,10 @@ use std::alloc::AllocError;
 
 // Whether bytes are kept of the slots of files; where none are, they are all 0.
 pub(crate) fn are_kept(memory: &Mem) -> bool
-    ensures { IsFalse result → AllZero memory.now.memory 786432 787456 }
+    ensures { IsFalse result → AllZero memory.now.memory first_page (slot_page slot_count) }
 {
     match memory.next_kept(FIRST_PAGE) {
-        Some(page) => page < FIRST_PAGE + 1024,
+        Some(page) => page < FIRST_PAGE + SLOT_PAGES * SLOT_COUNT,
         None => false,
     }
 }

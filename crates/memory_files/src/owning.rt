@@ -1,12 +1,14 @@
 ghost use Rattle.std.specs.Prelude.{◌≡◌, ℕ, ◌<◌, ◌≤◌, true, false, List, Bool, Some, None, length, slice_set, IfOk, OnOk};
 ghost use Rattle.file_model.specs.Sizes.{slot_count};
 ghost use Rattle.space_mem.specs.Held.{Marks, Owns};
-ghost use Rattle.memory_files.specs.Slots.{OwnsSlot, OwnsSlots, has_slot, HasBits};
+ghost use Rattle.memory_files.specs.Slots.{OwnsSlot, OwnsSlots, has_slot, slot_pages, HasBits};
 
 use space_mem::{Mem, Pages};
 use std::alloc::AllocError;
 
-// The page that slot 0 begins with, and how many pages a header and a slot have.
+// How many slots there are, the page that slot 0 begins with, and how many pages a header and a slot have.
+pub(crate) const SLOT_COUNT: u32 = 64;
+
 pub(crate) const FIRST_PAGE: u32 = 0xC0000;
 
 pub(crate) const HEADER_PAGES: u32 = 1;
@@ -16,7 +18,7 @@ pub(crate) const SLOT_PAGES: u32 = 16;
 // Owns some pages from the start of a slot on. The one error is want of memory.
 fn own_pages(memory: &mut Mem, slot: u32, count: u32) -> Result<(), AllocError>
     requires slot { slot < slot_count }
-    requires count { count ≤ 16 }
+    requires count { count ≤ slot_pages }
     ensures same { memory.new.memory ≡ memory.old.memory }
     ensures owned { OnOk result (OwnsSlot memory.new count slot) }
     ensures stays { (page : ℕ) → Owns memory.old page → Owns memory.new page }
@@ -37,7 +39,7 @@ fn own_if(
     is_wanted: bool,
 ) -> Result<(), AllocError>
     requires slot { slot < slot_count }
-    requires count { count ≤ 16 }
+    requires count { count ≤ slot_pages }
     ensures same { memory.new.memory ≡ memory.old.memory }
     ensures owned { OnOk result (OwnsSlots memory.old count slots.old → OwnsSlots memory.new count slots.new) }
     ensures slots { OnOk result (slots.new ≡ slice_set slots.old slot is_wanted) }
@@ -57,7 +59,7 @@ pub(crate) fn own_slot(
     count: u32,
 ) -> Result<[bool; 64], AllocError>
     requires slot { (k : ℕ) → slot ≡ Some k → k < slot_count }
-    requires count { count ≤ 16 }
+    requires count { count ≤ slot_pages }
     ensures same { memory.new.memory ≡ memory.old.memory }
     ensures owned { IfOk result (λ slots. OwnsSlots memory.new count slots) }
     ensures slots { IfOk result (λ slots. (k : ℕ) → slot ≡ Some k → has_slot slots k ≡ true) }
