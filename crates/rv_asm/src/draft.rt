@@ -76,7 +76,10 @@ pub(crate) fn is_too_far(here: u32, statement: Statement, value: Option<u32>) ->
     }
 }
 
-fn put_instruction(content: &mut Vec<u8>, instruction: Instruction) -> Result<(), AllocError>
+pub(crate) fn put_instruction(
+    content: &mut Vec<u8>,
+    instruction: Instruction,
+) -> Result<(), AllocError>
     requires { HasFields instruction }
     ensures { OnOk result (content.new.items ≡ content.old.items ++ sources.instruction_bytes instruction) }
 {
