@@ -8,7 +8,7 @@ use Rattle.clap.specs.ValueTests.{accepts}
 use Rattle.clap.specs.declared.builder.value_parser.ValueParser.TheVariants as vp
 use Rattle.clap.proofs.ValueTestLemmas.{accepts-Accepts}
 use Rattle.command_line.specs.declared.command.Command.{Command}
-use Rattle.command_line.specs.Line.{IsInRange, asm, asm_line, Line, command_line, line_of, number_in, number_of, run_line, run_of}
+use Rattle.command_line.specs.Line.{IsInRange, asm, asm_line, bench, bench_line, Line, command_line, fuel_of, greatest_number, has_flag, line_of, number_in, run_line, run_of, seed_of, walk_line, walk_of}
 
 pub number_bounds : (low high : ℕ) (t : List ℕ) (n : ℕ) → number_in low high t ≡ Some n → (low ≤ n) × (n ≤ high)
 unfolding number_in
@@ -29,30 +29,58 @@ number_of_bounds low high (Some t) n is = number_bounds low high t n is
 abbrev AllInRange : Option Line → Type 0
 AllInRange o = IfSome o IsInRange
 
-run_in_range : (fuel : Option ℕ) (image script : Option Text) → ((n : ℕ) → fuel ≡ Some n → (1 ≤ n) × (n ≤ 4294967295)) → AllInRange (run_of fuel image script)
-run_in_range (Some n) (Some i) (Some s) h =
+abbrev IsFuel : Option ℕ → Type 0
+IsFuel fuel = (n : ℕ) → fuel ≡ Some n → (1 ≤ n) × (n ≤ greatest_number)
+
+run_in_range : (fuel : Option ℕ) (digest : Bool) (image script : Option Text) → IsFuel fuel → AllInRange (run_of fuel digest image script)
+run_in_range (Some n) d (Some i) (Some s) h =
     let b = h n refl in
     (b.0, omega arith)
-run_in_range (Some n) (Some i) None h = tt
-run_in_range (Some n) None s h = tt
-run_in_range None i s h = tt
+run_in_range (Some n) d (Some i) None h = tt
+run_in_range (Some n) d None s h = tt
+run_in_range None d i s h = tt
+
+walk_in_range : (fuel : Option ℕ) (image script schedule : Option Text) → IsFuel fuel → AllInRange (walk_of fuel image script schedule)
+walk_in_range (Some n) (Some i) (Some s) (Some l) h =
+    let b = h n refl in
+    (b.0, omega arith)
+walk_in_range (Some n) (Some i) (Some s) None h = tt
+walk_in_range (Some n) (Some i) None l h = tt
+walk_in_range (Some n) None s l h = tt
+walk_in_range None i s l h = tt
+
+bench_in_range : (seed : Option ℕ) → ((n : ℕ) → seed ≡ Some n → (0 ≤ n) × (n ≤ greatest_number)) → AllInRange (option_map bench seed)
+bench_in_range None h = tt
+bench_in_range (Some n) h =
+    let b = h n refl in
+    omega arith
+
+asm_in_range : (o : Option Text) → AllInRange (option_map asm o)
+asm_in_range None = tt
+asm_in_range (Some t) = tt
 
 line_of_run : (rows : List Row) → AllInRange (run_line rows)
 unfolding run_line
-line_of_run rows = run_in_range (number_of 1 4294967295 (codes "limit") rows) (first_of (codes "image") rows) (first_of (codes "script") rows) (number_of_bounds 1 4294967295 (one_of (codes "limit") rows))
+line_of_run rows = run_in_range (fuel_of rows) (has_flag (codes "digest") rows) (first_of (codes "image") rows) (first_of (codes "script") rows) (number_of_bounds 1 greatest_number (one_of (codes "limit") rows))
 
-line_of_asm : (o : Option Text) → AllInRange (option_map asm o)
-line_of_asm None = tt
-line_of_asm (Some t) = tt
+line_of_walk : (rows : List Row) → AllInRange (walk_line rows)
+unfolding walk_line
+line_of_walk rows = walk_in_range (fuel_of rows) (first_of (codes "image") rows) (first_of (codes "script") rows) (first_of (codes "schedule") rows) (number_of_bounds 1 greatest_number (one_of (codes "limit") rows))
 
-chosen : (a b : Bool) (o p : Option Line) → AllInRange o → AllInRange p → AllInRange (cond a o (cond b p None))
-chosen true b o p h k = h
-chosen false true o p h k = k
-chosen false false o p h k = tt
+line_of_bench : (rows : List Row) → AllInRange (bench_line rows)
+line_of_bench rows = bench_in_range (seed_of rows) (number_of_bounds 0 greatest_number (one_of (codes "seed") rows))
+
+chosen : (b : Bool) (o p : Option Line) → AllInRange o → AllInRange p → AllInRange (cond b o p)
+chosen true o p h k = h
+chosen false o p h k = k
 
 line_of_rows : (o : Option (Text × List Row)) → AllInRange (option_and_then command_line o)
 line_of_rows None = tt
-line_of_rows (Some p) = chosen (bytes_eq p.0 (codes "run")) (bytes_eq p.0 (codes "asm")) (run_line p.1) (asm_line p.1) (line_of_run p.1) (line_of_asm (first_of (codes "source") p.1))
+line_of_rows (Some p) =
+    chosen (bytes_eq p.0 (codes "run")) (run_line p.1) _ (line_of_run p.1)
+    (chosen (bytes_eq p.0 (codes "walk")) (walk_line p.1) _ (line_of_walk p.1)
+    (chosen (bytes_eq p.0 (codes "asm")) (asm_line p.1) _ (asm_in_range (first_of (codes "source") p.1))
+    (chosen (bytes_eq p.0 (codes "bench")) (bench_line p.1) None (line_of_bench p.1) tt)))
 
 of_command : (c : Option Command) → AllInRange (option_map line_of c) → IfSome c (λ x. IsInRange (line_of x))
 of_command None h = tt

@@ -15,14 +15,14 @@ use Rattle.clap.specs.Simple.{subcommand_rows}
 use Rattle.std.specs.Prelude.{Box}
 use Rattle.clap.specs.declared.builder.command.Command.{Command}
 use Rattle.clap.proofs.OnLiterals.{clap_on_literals}
-use Rattle.command_line.specs.Line.{IsApp, asm_app, Line, command_line, program_app, line, run_app}
+use Rattle.command_line.specs.Line.{IsApp, asm_app, bench_app, Line, command_line, program_app, line, run_app, walk_app}
 
 pub is_simple_app : is_simple_and_free program_app ≡ true
-unfolding clap_on_literals program_app run_app asm_app
+unfolding clap_on_literals program_app run_app walk_app asm_app bench_app
 is_simple_app = refl
 
 is_simple_program : is_simple program_app ≡ true
-unfolding clap_on_literals program_app run_app asm_app
+unfolding clap_on_literals program_app run_app walk_app asm_app bench_app
 is_simple_program = refl
 
 taken : (k : Kinds) (o : Option Line) → k ≡ [] → cond (is_empty k) o None ≡ o

@@ -1,7 +1,9 @@
 -- What the typed getters read of rows.
-use Rattle.std.proofs.Common.{◌≡◌, ◌∙◌, ◌≤◌, ◌<◌, ◌^◌, ap, ℕ, Bool, true, false, List, Option, Some, None, refl, sym, cond, arith}
-use Rattle.std.specs.Prelude.{Result, Ok, Err, option_and_then, nat_le, ◌&&◌}
-use Rattle.std.specs.Str.Parse.{ParsesUnsigned, digits_value, without_leading_plus}
+use Rattle.std.proofs.Common.{◌≡◌, ◌≢◌, ◌∙◌, ◌≤◌, ◌<◌, ◌^◌, ap, ℕ, Bool, true, false, List, Option, Some, None, refl, sym, cond, arith}
+use Rattle.std.specs.Prelude.{Result, Ok, Err, option_and_then, option_map, unwrap_or, nat_le, ◌&&◌}
+use Rattle.std.specs.Str.{bytes_eq}
+use Rattle.std.proofs.lemmas.Slice.Eq.{bytes_eq-Decides}
+use Rattle.std.specs.Str.Parse.{ParsesBool, ParsesUnsigned, true_text, digits_value, without_leading_plus}
 use Rattle.std.proofs.lemmas.Bool.{le-leb, leb-true}
 use Rattle.clap.specs.Matches.{ReadsOne, one_text}
 use Rattle.clap.specs.Walk.{one_of, rows_of}
@@ -11,7 +13,7 @@ use Rattle.clap.specs.declared.builder.value_parser.ValueParser.TheVariants as v
 use Rattle.clap.specs.declared.parser.matches.Found.{Found}
 use Rattle.clap.proofs.ValueTestLemmas.{accepts-Accepts, Accepts-accepts}
 use Rattle.clap.proofs.WalkLemmas.{both, one_text-rows}
-use Rattle.command_line.specs.Line.{number_in}
+use Rattle.command_line.specs.Line.{has_flag, number_in}
 
 abbrev pub within : ℕ → ℕ → Option ℕ → Option ℕ
 within low high None = None
@@ -87,3 +89,23 @@ pub number_reads : (E : Type 0) (G : List ℕ → Result ℕ E → Type 0) (low 
     → within low high r ≡ option_and_then (number_in low high) (one_of id (rows_of f))
 number_reads E G low high f id r small only none value =
     number_read E G low high (one_text f id) r small only none value ∙ ap (option_and_then (number_in low high)) (one_text-rows f id)
+
+-- ---- a flag
+
+named : (t : List ℕ) (b : Bool) → bytes_eq t true_text ≡ b → (t ≡ true_text → b ≡ true) × (t ≢ true_text → b ≡ false)
+named t true e = (λ _. refl, λ not_so. absurd (not_so ((bytes_eq-Decides t true_text).0 e)))
+named t false e = (λ is. sym e ∙ (bytes_eq-Decides t true_text).1 is, λ _. refl)
+
+flag_at : (E : Type 0) (t : List ℕ) (r : Option Bool) → ReadsOne (ParsesBool {E = E}) t r → unwrap_or r false ≡ bytes_eq t true_text
+flag_at E t (Some true) read = sym ((named t (bytes_eq t true_text) refl).0 read)
+flag_at E t (Some false) read = sym ((named t (bytes_eq t true_text) refl).1 (λ is. let both = sym read ∙ is in absurd cc))
+flag_at E t None read = sym ((named t (bytes_eq t true_text) refl).1 read.1.0)
+
+flag_read : (E : Type 0) (o : Option (List ℕ)) (r : Option Bool) → (o ≡ None → r ≡ None) → ((t : List ℕ) → o ≡ Some t → ReadsOne (ParsesBool {E = E}) t r)
+    → unwrap_or r false ≡ unwrap_or (option_map (λ t. bytes_eq t true_text) o) false
+flag_read E None r none value = ap (λ x. unwrap_or x false) (none refl)
+flag_read E (Some t) r none value = flag_at E t r (value t refl)
+
+pub flag_reads : (E : Type 0) (f : Found) (id : List ℕ) (r : Option Bool) → (one_text f id ≡ None → r ≡ None) → ((t : List ℕ) → one_text f id ≡ Some t → ReadsOne (ParsesBool {E = E}) t r)
+    → unwrap_or r false ≡ has_flag id (rows_of f)
+flag_reads E f id r none value = flag_read E (one_text f id) r none value ∙ ap (λ o. unwrap_or (option_map (λ t. bytes_eq t true_text) o) false) (one_text-rows f id)

@@ -2,14 +2,15 @@
 -- for simple commands, or none where it refuses them.
 -- Source: the crate `clap`, whose definition of a command line this cites.
 -- Our choice: the commands, their options and ranges.
-use Rattle.std.specs.Prelude.{◌≡◌, ◌≤◌, ◌<◌, ◌^◌, ℕ, true, false, List, [], ◌∷◌, Option, Some, None, codes, if◌then◌else◌}
-use Rattle.std.specs.Prelude.{option_and_then, option_map}
+use Rattle.std.specs.Prelude.{◌≡◌, ◌≤◌, ◌<◌, ◌^◌, ℕ, Bool, true, false, List, [], ◌∷◌, Option, Some, None, codes, if◌then◌else◌}
+use Rattle.std.specs.Prelude.{option_and_then, option_map, unwrap_or}
 use Rattle.std.specs.Str.{bytes_eq}
 use Rattle.std.specs.Str.Parse.{digits_value, without_leading_plus}
 use Rattle.clap.specs.Words.{App, app_of, Row, Rule, Text, first_of, fault_of, new_app, new_rule, one_of, rule_of, subcommand_of, with_rule, with_subcommand}
 use Rattle.clap.specs.Simple.{on_top}
 use Rattle.clap.specs.Walk.{is_empty}
 use Rattle.clap.specs.ValueTests.{accepts}
+use Rattle.clap.specs.declared.builder.action.ArgAction.TheVariants.{SetTrue}
 use Rattle.clap.specs.declared.builder.value_parser.ValueParser.TheVariants as vp
 use Rattle.clap.specs.declared.builder.arg.Arg.{Arg}
 use Rattle.clap.specs.declared.builder.command.Command as clap
@@ -19,13 +20,25 @@ use Rattle.command_line.specs.declared.command.Command.TheVariants as command
 
 -- ---- the commands
 
+-- the greatest fuel, and the greatest seed
+abbrev pub greatest_number : ℕ
+greatest_number = 4294967295
+
 -- `--id`, a number in a range, with a default
 abbrev pub number : Text → ℕ → ℕ → Text → Rule
 number id low high value = record (new_rule id) { long = Some id; defaults = value ∷ []; parser = Some (vp.Unsigned low high) }
 
+-- `--id`, which is there or not
+abbrev pub flag : Text → Rule
+flag id = record (new_rule id) { long = Some id; action = Some SetTrue }
+
 -- a word that has to be there
 abbrev pub required_rule : Text → Rule
 required_rule id = record (new_rule id) { required = true }
+
+-- a number in a range that has to be there
+abbrev pub required_number : Text → ℕ → ℕ → Rule
+required_number id low high = record (required_rule id) { parser = Some (vp.Unsigned low high) }
 
 abbrev pub with_rules : App → List Rule → App
 with_rules a [] = a
@@ -33,20 +46,30 @@ with_rules a (r ∷ rs) = with_rules (with_rule a r) rs
 
 -- the fuel: how many events a space may take
 abbrev pub fuel_rule : Rule
-fuel_rule = number (codes "limit") 1 4294967295 (codes "1000000")
+fuel_rule = number (codes "limit") 1 greatest_number (codes "1000000")
+
+-- the number from which a large image is made
+abbrev pub seed_rule : Rule
+seed_rule = required_number (codes "seed") 0 greatest_number
 
 unfoldable pub run_app : App
-run_app = with_rules (new_app (codes "run")) (fuel_rule ∷ required_rule (codes "image") ∷ required_rule (codes "script") ∷ [])
+run_app = with_rules (new_app (codes "run")) (fuel_rule ∷ flag (codes "digest") ∷ required_rule (codes "image") ∷ required_rule (codes "script") ∷ [])
+
+unfoldable pub walk_app : App
+walk_app = with_rules (new_app (codes "walk")) (fuel_rule ∷ required_rule (codes "image") ∷ required_rule (codes "script") ∷ required_rule (codes "schedule") ∷ [])
 
 unfoldable pub asm_app : App
 asm_app = with_rules (new_app (codes "asm")) (required_rule (codes "source") ∷ [])
+
+unfoldable pub bench_app : App
+bench_app = with_rules (new_app (codes "bench")) (seed_rule ∷ [])
 
 -- a command has to follow the program's name, and none of them is called `help`
 abbrev pub start : App
 start = on_top (λ s. record s { subcommand_required = true; disable_help_subcommand = true }) (new_app (codes "det"))
 
 unfoldable pub program_app : App
-program_app = with_subcommand (with_subcommand start run_app.top) asm_app.top
+program_app = with_subcommand (with_subcommand (with_subcommand (with_subcommand start run_app.top) walk_app.top) asm_app.top) bench_app.top
 
 -- an argument and a command that are read as these
 abbrev pub IsRule : Arg → Rule → Type 0
@@ -57,20 +80,27 @@ IsApp c a = (app_of c ≡ a) × ((out-Command c).has_globals ≡ false)
 
 -- ---- the line
 
--- `run` with its fuel, an image's file name and a script's; `asm` with a source's
+-- `run` with its fuel, whether digests are asked for, an image's file name and a script's; `walk` with its fuel and the file names of
+-- an image, a script and a schedule; `asm` with a source's; `bench` with its seed
 pub data Line : Type 0 where
-  run : ℕ → Text → Text → Line
+  run : ℕ → Bool → Text → Text → Line
+  walk : ℕ → Text → Text → Text → Line
   asm : Text → Line
+  bench : ℕ → Line
 
 -- the names of the files, in the order of the words
 abbrev pub files_of : Line → List Text
-files_of (run fuel image script) = image ∷ script ∷ []
+files_of (run fuel digest image script) = image ∷ script ∷ []
+files_of (walk fuel image script schedule) = image ∷ script ∷ schedule ∷ []
 files_of (asm source) = source ∷ []
+files_of (bench seed) = []
 
 -- numbers are in their ranges
 abbrev pub IsInRange : Line → Type 0
-IsInRange (run fuel image script) = (1 ≤ fuel) × (fuel < 2 ^ 32)
+IsInRange (run fuel digest image script) = (1 ≤ fuel) × (fuel < 2 ^ 32)
+IsInRange (walk fuel image script schedule) = (1 ≤ fuel) × (fuel < 2 ^ 32)
 IsInRange (asm source) = Unit {0}
+IsInRange (bench seed) = seed < 2 ^ 32
 
 -- the number of a text that such an argument takes
 unfoldable pub number_in : ℕ → ℕ → Text → Option ℕ
@@ -80,20 +110,43 @@ number_in low high text = if accepts false (vp.Unsigned low high) text
 abbrev pub number_of : ℕ → ℕ → Text → List Row → Option ℕ
 number_of low high id rows = option_and_then (number_in low high) (one_of id rows)
 
+-- a flag was there
+abbrev pub has_flag : Text → List Row → Bool
+has_flag id rows = unwrap_or (option_map (λ text. bytes_eq text (codes "true")) (one_of id rows)) false
+
+abbrev pub fuel_of : List Row → Option ℕ
+fuel_of = number_of 1 greatest_number (codes "limit")
+
+abbrev pub seed_of : List Row → Option ℕ
+seed_of = number_of 0 greatest_number (codes "seed")
+
 -- the parts, where all are there
-abbrev pub run_of : Option ℕ → Option Text → Option Text → Option Line
-run_of (Some fuel) (Some image) (Some script) = Some (run fuel image script)
-run_of _ _ _ = None
+abbrev pub run_of : Option ℕ → Bool → Option Text → Option Text → Option Line
+run_of (Some fuel) digest (Some image) (Some script) = Some (run fuel digest image script)
+run_of _ _ _ _ = None
 
 unfoldable pub run_line : List Row → Option Line
-run_line rows = run_of (number_of 1 4294967295 (codes "limit") rows) (first_of (codes "image") rows) (first_of (codes "script") rows)
+run_line rows = run_of (fuel_of rows) (has_flag (codes "digest") rows) (first_of (codes "image") rows) (first_of (codes "script") rows)
+
+abbrev pub walk_of : Option ℕ → Option Text → Option Text → Option Text → Option Line
+walk_of (Some fuel) (Some image) (Some script) (Some schedule) = Some (walk fuel image script schedule)
+walk_of _ _ _ _ = None
+
+unfoldable pub walk_line : List Row → Option Line
+walk_line rows = walk_of (fuel_of rows) (first_of (codes "image") rows) (first_of (codes "script") rows) (first_of (codes "schedule") rows)
 
 abbrev pub asm_line : List Row → Option Line
 asm_line rows = option_map asm (first_of (codes "source") rows)
 
+abbrev pub bench_line : List Row → Option Line
+bench_line rows = option_map bench (seed_of rows)
+
 abbrev pub command_line : Text × List Row → Option Line
 command_line p = if bytes_eq p.0 (codes "run") then run_line p.1
-    else (if bytes_eq p.0 (codes "asm") then asm_line p.1 else None)
+    else if bytes_eq p.0 (codes "walk") then walk_line p.1
+    else if bytes_eq p.0 (codes "asm") then asm_line p.1
+    else if bytes_eq p.0 (codes "bench") then bench_line p.1
+    else None
 
 -- The first of the words is the program's name.
 unfoldable pub line : List Text → Option Line
@@ -106,5 +159,7 @@ IsRefused words = ¬ (fault_of program_app words ≡ [])
 
 -- the line that a command stands for
 abbrev pub line_of : Command → Line
-line_of (command.Run fuel image script) = run fuel image.now script.now
+line_of (command.Run fuel digest image script) = run fuel digest image.now script.now
+line_of (command.Walk fuel image script schedule) = walk fuel image.now script.now schedule.now
 line_of (command.Asm source) = asm source.now
+line_of (command.Bench seed) = bench seed

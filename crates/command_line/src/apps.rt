@@ -1,12 +1,18 @@
 //! The commands as `clap` reads them.
 
 ghost use Rattle.std.specs.Prelude.{IfOk};
-ghost use Rattle.command_line.specs.Line.{IsApp, IsRule, asm_app, program_app, run_app};
-ghost use Rattle.command_line.specs.Line.{required_rule, number as number_rule};
+ghost use Rattle.command_line.specs.Line.{IsApp, IsRule, asm_app, bench_app, fuel_rule, program_app, run_app, seed_rule, walk_app};
+ghost use Rattle.command_line.specs.Line.{required_rule, flag as flag_rule, number as number_rule, required_number as required_number_rule};
 
 use clap::builder::ValueParser;
-use clap::{Arg, Command};
+use clap::{Arg, ArgAction, Command};
 use std::alloc::{AllocError, Global};
+
+/// The most fuel that a command line may give: 2^32 - 1.
+pub(crate) const GREATEST_FUEL: u32 = 4_294_967_295;
+
+/// The greatest seed: 2^32 - 1.
+pub(crate) const GREATEST_SEED: u32 = 4_294_967_295;
 
 fn number<'a>(alloc: Global, id: &'a str, low: u64, high: u64, value: &'a str) -> Arg<'a>
     ensures { IsRule result (number_rule id.entry.now low high value.entry.now) }
@@ -17,22 +23,62 @@ fn number<'a>(alloc: Global, id: &'a str, low: u64, high: u64, value: &'a str) -
         .value_parser(ValueParser::unsigned(low, high))
 }
 
+fn flag<'a>(alloc: Global, id: &'a str) -> Arg<'a>
+    ensures { IsRule result (flag_rule id.entry.now) }
+{
+    Arg::new(alloc, id).long(id).action(ArgAction::SetTrue)
+}
+
 fn required_argument<'a>(alloc: Global, id: &'a str) -> Arg<'a>
     ensures { IsRule result (required_rule id.entry.now) }
 {
     Arg::new(alloc, id).required(true)
 }
 
+fn required_number<'a>(alloc: Global, id: &'a str, low: u64, high: u64) -> Arg<'a>
+    ensures { IsRule result (required_number_rule id.entry.now low high) }
+{
+    required_argument(alloc, id).value_parser(ValueParser::unsigned(low, high))
+}
+
+fn fuel_argument<'a>(alloc: Global) -> Arg<'a>
+    ensures { IsRule result fuel_rule }
+{
+    number(alloc, "limit", 1, u64::from(GREATEST_FUEL), "1000000")
+}
+
+fn seed_argument<'a>(alloc: Global) -> Arg<'a>
+    ensures { IsRule result seed_rule }
+{
+    required_number(alloc, "seed", 0, u64::from(GREATEST_SEED))
+}
+
 fn run_command<'a>(alloc: Global) -> Result<Command<'a>, AllocError>
     ensures { IfOk result (λ c. IsApp c run_app) }
 {
-    let fuel = number(alloc, "limit", 1, 4_294_967_295, "1000000");
+    let fuel = fuel_argument(alloc);
+    let digest = flag(alloc, "digest");
     let image = required_argument(alloc, "image");
     let script = required_argument(alloc, "script");
     Command::new(alloc, "run")
         .arg(fuel)?
+        .arg(digest)?
         .arg(image)?
         .arg(script)
+}
+
+fn walk_command<'a>(alloc: Global) -> Result<Command<'a>, AllocError>
+    ensures { IfOk result (λ c. IsApp c walk_app) }
+{
+    let fuel = fuel_argument(alloc);
+    let image = required_argument(alloc, "image");
+    let script = required_argument(alloc, "script");
+    let schedule = required_argument(alloc, "schedule");
+    Command::new(alloc, "walk")
+        .arg(fuel)?
+        .arg(image)?
+        .arg(script)?
+        .arg(schedule)
 }
 
 fn asm_command<'a>(alloc: Global) -> Result<Command<'a>, AllocError>
@@ -42,15 +88,26 @@ fn asm_command<'a>(alloc: Global) -> Result<Command<'a>, AllocError>
     Command::new(alloc, "asm").arg(source)
 }
 
+fn bench_command<'a>(alloc: Global) -> Result<Command<'a>, AllocError>
+    ensures { IfOk result (λ c. IsApp c bench_app) }
+{
+    let seed = seed_argument(alloc);
+    Command::new(alloc, "bench").arg(seed)
+}
+
 /// The program's command, one of whose subcommands has to be named.
 pub(crate) fn program_command<'a>(alloc: Global) -> Result<Command<'a>, AllocError>
     ensures { IfOk result (λ c. IsApp c program_app) }
 {
     let run = run_command(alloc)?;
+    let walk = walk_command(alloc)?;
     let asm = asm_command(alloc)?;
+    let bench = bench_command(alloc)?;
     Command::new(alloc, "det")
         .subcommand_required(true)
         .disable_help_subcommand(true)
         .subcommand(run)?
-        .subcommand(asm)
+        .subcommand(walk)?
+        .subcommand(asm)?
+        .subcommand(bench)
 }

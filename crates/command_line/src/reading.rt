@@ -1,9 +1,9 @@
 ghost use Rattle.std.specs.Prelude.{◌≡◌, ◌↔◌, IfOk, IsNone, map, option_map, option_and_then, IfSome};
 ghost use Rattle.std.specs.String.{string_bytes};
 ghost use Rattle.clap.specs.Words.{first_of, found_of, rows_of, subcommand_rows_of};
-ghost use Rattle.command_line.specs.Line.{IsInRange, IsRefused, asm_line, command_line, line, line_of, number_of, run_line, run_of};
+ghost use Rattle.command_line.specs.Line.{IsInRange, IsRefused, asm_line, bench_line, command_line, fuel_of, has_flag, line, line_of, number_of, run_line, run_of, seed_of, walk_line, walk_of};
 
-use crate::apps::program_command;
+use crate::apps::{GREATEST_FUEL, GREATEST_SEED, program_command};
 use crate::command::Command;
 use clap::ArgMatches;
 use clap::error::ErrorKind;
@@ -30,16 +30,37 @@ fn text_from<'a>(matches: &ArgMatches<'a>, id: &str) -> Option<&'a str>
     matches.get_str(id)
 }
 
+// Whether a flag was there. `get_flag` promises nothing of a text that is no `bool`; this reads it as false.
+fn flag_from(matches: &ArgMatches<'_>, id: &str) -> bool
+    ensures { result ≡ has_flag id.now (rows_of (found_of matches.now)) }
+{
+    matches.get_one::<bool>(id).unwrap_or(false)
+}
+
+fn fuel_from(matches: &ArgMatches<'_>) -> Option<u32>
+    ensures { result ≡ fuel_of (rows_of (found_of matches.now)) }
+{
+    number_from(matches, "limit", 1, GREATEST_FUEL)
+}
+
+fn seed_from(matches: &ArgMatches<'_>) -> Option<u32>
+    ensures { result ≡ seed_of (rows_of (found_of matches.now)) }
+{
+    number_from(matches, "seed", 0, GREATEST_SEED)
+}
+
 fn run_with<'a>(
     fuel: Option<u32>,
+    digest: bool,
     image: Option<&'a str>,
     script: Option<&'a str>,
 ) -> Option<Command<'a>>
-    ensures { option_map line_of result ≡ run_of fuel (option_map (λ s. s.now) image.entry)
+    ensures { option_map line_of result ≡ run_of fuel digest (option_map (λ s. s.now) image.entry)
         (option_map (λ s. s.now) script.entry) }
 {
     Some(Command::Run {
         fuel: fuel?,
+        digest,
         image: image?,
         script: script?,
     })
@@ -48,10 +69,38 @@ fn run_with<'a>(
 fn run_from<'a>(matches: &ArgMatches<'a>) -> Option<Command<'a>>
     ensures { option_map line_of result ≡ run_line (rows_of (found_of matches.now)) }
 {
-    let fuel = number_from(matches, "limit", 1, 4_294_967_295);
+    let fuel = fuel_from(matches);
+    let digest = flag_from(matches, "digest");
     let image = text_from(matches, "image");
     let script = text_from(matches, "script");
-    run_with(fuel, image, script)
+    run_with(fuel, digest, image, script)
+}
+
+fn walk_with<'a>(
+    fuel: Option<u32>,
+    image: Option<&'a str>,
+    script: Option<&'a str>,
+    schedule: Option<&'a str>,
+) -> Option<Command<'a>>
+    ensures { option_map line_of result ≡ walk_of fuel (option_map (λ s. s.now) image.entry)
+        (option_map (λ s. s.now) script.entry) (option_map (λ s. s.now) schedule.entry) }
+{
+    Some(Command::Walk {
+        fuel: fuel?,
+        image: image?,
+        script: script?,
+        schedule: schedule?,
+    })
+}
+
+fn walk_from<'a>(matches: &ArgMatches<'a>) -> Option<Command<'a>>
+    ensures { option_map line_of result ≡ walk_line (rows_of (found_of matches.now)) }
+{
+    let fuel = fuel_from(matches);
+    let image = text_from(matches, "image");
+    let script = text_from(matches, "script");
+    let schedule = text_from(matches, "schedule");
+    walk_with(fuel, image, script, schedule)
 }
 
 fn asm_from<'a>(matches: &ArgMatches<'a>) -> Option<Command<'a>>
@@ -61,14 +110,25 @@ fn asm_from<'a>(matches: &ArgMatches<'a>) -> Option<Command<'a>>
     Some(Command::Asm { source })
 }
 
+fn bench_from<'a>(matches: &ArgMatches<'a>) -> Option<Command<'a>>
+    ensures { option_map line_of result ≡ bench_line (rows_of (found_of matches.now)) }
+{
+    let seed = seed_from(matches)?;
+    Some(Command::Bench { seed })
+}
+
 fn command_from<'a>(matches: &ArgMatches<'a>) -> Option<Command<'a>>
     ensures { option_map line_of result ≡ option_and_then command_line (subcommand_rows_of matches.now) }
 {
     let (name, inner) = matches.subcommand()?;
     if name == "run" {
         run_from(inner)
+    } else if name == "walk" {
+        walk_from(inner)
     } else if name == "asm" {
         asm_from(inner)
+    } else if name == "bench" {
+        bench_from(inner)
     } else {
         None
     }

@@ -8,15 +8,12 @@ use Rattle.det_cli.specs.Status.{IsDone, IsBad}
 use Rattle.det_cli.specs.Files.{Expectation, Step, Input, Agrees, AsTold, names_of, refusal_at, refusal_or, judge}
 use Rattle.image_model.specs.declared.ImageError.{ImageError}
 use Rattle.image_model.specs.Image.{Image}
-use Rattle.image_model.specs.Reading.{image_of}
 use Rattle.script_model.specs.declared.error.ScriptError.{ScriptError}
 use Rattle.script_model.specs.Devices.{Devices}
-use Rattle.script_model.specs.Reading.{script_of}
 use Rattle.space_model.specs.Space.{Space, top_of}
 use Rattle.space_model.specs.Stop.{has_returned}
-use Rattle.command_line.specs.Line.{run}
-use Rattle.det_cli.specs.Commands.{image_room, bad_image, image_step, script_step, expectation_of_root, expectation_of_run, settled_root, run_whole, steps_of, whole_of}
-use Rattle.det_cli.specs.Stages.{LoadFault, LoadsFile, GivesRefusal, GivesExpectation, Reads}
+use Rattle.det_cli.specs.Commands.{expectation_of_root, expectation_of_run, expectation_of_walk, settled_root}
+use Rattle.det_cli.specs.Stages.{LoadFault, LoadsFile, GivesRefusal, GivesExpectation, Reads, ReadsFile}
 
 take_none : (j : ℕ) → take {A = List ℕ} j [] ≡ []
 take_none zero = refl
@@ -172,63 +169,48 @@ done_by : (b : Bool) → IsDone (cond b Ret Trapped)
 done_by true = lit< tt
 done_by false = lit< tt
 
-pub root_done : (x : Space) → IsDone (expectation_of_root x).end
-root_done x = done_by (has_returned (top_of x).status)
+pub root_done : (digest : Bool) (x : Space) → IsDone (expectation_of_root digest x).end
+root_done digest x = done_by (has_returned (top_of x).status)
 
--- what was read before is answered together with what was read behind it
-abbrev pub ReadAs : {U V : Type 0} → (U → V) → Result U End → Result V End → Type 0
-ReadAs pair (Ok u) r = r ≡ Ok (pair u)
-ReadAs pair (Err f) r = r ≡ Err f
+-- a file that was loaded was read as its bytes are
+pub file_read : {V W : Type 0} (items : W → List ℕ) (reads : List ℕ → V → Type 0) (s : Step) (i : Input) (w : W) (text : List ℕ) (r : Result V End)
+    → LoadsFile items s.name s.room i (Ok w) → text ≡ items w → GivesRefusal (s.refuse text) r → IfOk r (reads text) → ReadsFile reads s i r
+file_read items reads s i w text (Ok v) loaded same judged ok =
+    (loaded.0, (text, (subst (Agrees (i.told s.name)) (sym same) loaded.1, (ap (λ (t : List ℕ). nat_lt s.room (length t)) same ∙ loaded.2, (judged, ok)))))
+file_read items reads s i w text (Err f) loaded same (inl h) ok =
+    (inr loaded.0, inl (text, (subst (Agrees (i.told s.name)) (sym same) loaded.1, (ap (λ (t : List ℕ). nat_lt s.room (length t)) same ∙ loaded.2, h))))
+file_read items reads s i w text (Err f) loaded same (inr h) ok = (inr loaded.0, inr (inr (inr h)))
 
-gives_by : {U V : Type 0} (shows : V → Expectation) (pair : U → V) (o : Option Expectation) (i : Input) (u : U) → GivesExpectation (λ (x : U). shows (pair x)) o i (Ok u) → GivesExpectation shows o i (Ok (pair u))
-gives_by shows pair None i u h = h
-gives_by shows pair (Some e) i u h = h
+-- the first file is refused, or there are no bytes
+pub file_stopped : {U V : Type 0} (reads : List ℕ → U → Type 0) (shows : V → Expectation) (s : Step) (ss : List Step) (whole : List (List ℕ) → Option Expectation) (i : Input) (f : End)
+    → ReadsFile reads s i (Err f) → Reads shows (s ∷ ss) whole i (Err f)
+file_stopped reads shows s ss whole i f (asked, inl (bytes, (agrees, (fits, (refused, bad))))) =
+    first_refused shows s ss whole i f bytes asked agrees (within s bytes fits ∙ refused) bad
+file_stopped reads shows s ss whole i f (asked, inr h) = load_stopped shows s ss whole i f (asked, h)
 
-stopped_by : {U V : Type 0} (shows : V → Expectation) (pair : U → V) (o : Option Expectation) (i : Input) (f : End) → GivesExpectation (λ (x : U). shows (pair x)) o i (Err f) → GivesExpectation shows o i (Err f)
-stopped_by shows pair None i f h = h
-stopped_by shows pair (Some e) i f h = h
+-- the last file was read: all is
+pub last_read : {U V : Type 0} (reads : List ℕ → U → Type 0) (shows : V → Expectation) (s : Step) (whole : List (List ℕ) → Option Expectation) (i : Input) (u : U) (x : V)
+    → ReadsFile reads s i (Ok u) → ((bytes : List ℕ) → reads bytes u → whole (bytes ∷ []) ≡ Some (shows x)) → IsDone (shows x).end → Reads shows (s ∷ []) whole i (Ok x)
+last_read reads shows s whole i u x (asked, (bytes, (agrees, (fits, (kept, read))))) made done =
+    all_read (λ (b : List ℕ). b) shows s whole i bytes x (asked, agrees, fits) kept (made bytes read) done
 
-gives_as : {U V : Type 0} (shows : V → Expectation) (pair : U → V) (o : Option Expectation) (i : Input) (q : Result U End) (r : Result V End)
-    → ReadAs pair q r → GivesExpectation (λ (x : U). shows (pair x)) o i q → GivesExpectation shows o i r
-gives_as shows pair o i (Ok u) r e h = subst (λ x. GivesExpectation shows o i x) (sym e) (gives_by shows pair o i u h)
-gives_as shows pair o i (Err f) r e h = subst (λ x. GivesExpectation shows o i x) (sym e) (stopped_by shows pair o i f h)
-
-reads_as : {U V : Type 0} (shows : V → Expectation) (pair : U → V) (steps : List Step) (whole : List (List ℕ) → Option Expectation) (i : Input) (q : Result U End) (r : Result V End)
-    → ReadAs pair q r → Reads (λ (x : U). shows (pair x)) steps whole i q → Reads shows steps whole i r
-reads_as shows pair steps whole i q r e h =
-    record { contents = h.contents; files = h.files; gives = gives_as shows pair (judge steps whole h.contents) i q r e h.gives }
-
--- the first file gave a value, and then the others give theirs
-pub then_stage : {U V W : Type 0} (items : W → List ℕ) (shows : V → Expectation) (pair : U → V) (s : Step) (ss : List Step) (whole : List (List ℕ) → Option Expectation)
-    (told now : List ℕ → Option (List ℕ)) (a b c : List (List ℕ)) (x y z : ℕ) (v : W) (q : Result U End) (r : Result V End)
-    → LoadsFile items s.name s.room (record { told = told; asked_before = a; asked_after = b; faults_before = x; faults_after = y }) (Ok v) → s.refuse (items v) ≡ None
-    → ((name : List ℕ) → now name ≡ told name) → x ≤ y → ReadAs pair q r
-    → Reads (λ (u : U). shows (pair u)) ss (λ rest. whole (items v ∷ rest)) (record { told = now; asked_before = b; asked_after = c; faults_before = y; faults_after = z }) q
+-- the first file was read, and then the others
+pub then_others : {U V : Type 0} (reads : List ℕ → U → Type 0) (shows : V → Expectation) (s : Step) (ss : List Step) (whole : List (List ℕ) → Option Expectation)
+    (told now : List ℕ → Option (List ℕ)) (a b c : List (List ℕ)) (x y z : ℕ) (u : U) (r : Result V End)
+    → ReadsFile reads s (record { told = told; asked_before = a; asked_after = b; faults_before = x; faults_after = y }) (Ok u)
+    → ((name : List ℕ) → now name ≡ told name) → x ≤ y
+    → ((bytes : List ℕ) → reads bytes u → Reads shows ss (λ rest. whole (bytes ∷ rest)) (record { told = now; asked_before = b; asked_after = c; faults_before = y; faults_after = z }) r)
     → Reads shows (s ∷ ss) whole (record { told = told; asked_before = a; asked_after = c; faults_before = x; faults_after = z }) r
-then_stage items shows pair s ss whole told now a b c x y z v q r loaded kept same le becomes h =
-    then_read items shows s ss whole told now a b c x y z v r loaded kept same le
-    (reads_as shows pair ss (λ rest. whole (items v ∷ rest)) (record { told = now; asked_before = b; asked_after = c; faults_before = y; faults_after = z }) q r becomes h)
+then_others reads shows s ss whole told now a b c x y z u r (asked, (bytes, (agrees, (fits, (kept, read))))) same le h =
+    then_read (λ (t : List ℕ). t) shows s ss whole told now a b c x y z bytes r (asked, agrees, fits) kept same le (h bytes read)
 
--- what an image and a script make that are not refused
-run_of : (fuel : ℕ) (p : Result Image ImageError) (q : Result Devices ScriptError) (i : Image) (d : Devices) → p ≡ Ok i → q ≡ Ok d
-    → expectation_of_run fuel p q ≡ Some (expectation_of_root (settled_root i d fuel))
-run_of fuel p q i d image devices = ap (λ (x : Result Image ImageError). expectation_of_run fuel x q) image ∙ ap (λ (y : Result Devices ScriptError). expectation_of_run fuel (Ok i) y) devices
+-- what files make that are not refused
+pub run_made : (fuel : ℕ) (digest : Bool) (p : Result Image ImageError) (q : Result Devices ScriptError) (i : Image) (d : Devices) → p ≡ Ok i → q ≡ Ok d
+    → expectation_of_run fuel digest p q ≡ Some (expectation_of_root digest (settled_root i d fuel))
+run_made fuel digest p q i d image devices =
+    ap (λ (x : Result Image ImageError). expectation_of_run fuel digest x q) image ∙ ap (λ (y : Result Devices ScriptError). expectation_of_run fuel digest (Ok i) y) devices
 
-pub run_made : (fuel : ℕ) (image script : List ℕ) (i : Image) (r : Result Devices End) → image_of image ≡ Ok i → IfOk r (λ d. script_of script ≡ Ok d)
-    → IfOk r (λ d. run_whole fuel (image ∷ script ∷ []) ≡ Some (expectation_of_root (settled_root i d fuel)))
-run_made fuel image script i (Ok d) is read = run_of fuel (image_of image) (script_of script) i d is read
-run_made fuel image script i (Err f) is read = tt
-
--- the image is read, and then the script
-pub image_then_script : {W : Type 0} (items : W → List ℕ) (fuel : ℕ) (image script : List ℕ)
-    (told now : List ℕ → Option (List ℕ)) (a b c : List (List ℕ)) (x y z : ℕ) (v : W) (text : List ℕ) (parsed : Image) (q : Result Devices End) (r : Result (Image × Devices) End)
-    → LoadsFile items image image_room (record { told = told; asked_before = a; asked_after = b; faults_before = x; faults_after = y }) (Ok v) → text ≡ items v → image_of text ≡ Ok parsed
-    → ((name : List ℕ) → now name ≡ told name) → x ≤ y → ReadAs (λ (d : Devices). (parsed, d)) q r
-    → ((n : ℕ) (bytes : List ℕ) (i : Image) → image_of bytes ≡ Ok i → Reads (λ (d : Devices). expectation_of_root (settled_root i d n)) (script_step script ∷ []) (λ rest. run_whole n (bytes ∷ rest))
-    (record { told = now; asked_before = b; asked_after = c; faults_before = y; faults_after = z }) q)
-    → Reads (λ (p : Image × Devices). expectation_of_root (settled_root p.0 p.1 fuel)) (steps_of (run fuel image script)) (whole_of (run fuel image script))
-    (record { told = told; asked_before = a; asked_after = c; faults_before = x; faults_after = z }) r
-image_then_script items fuel image script told now a b c x y z v text parsed q r loaded e read same le becomes h =
-    let is : image_of (items v) ≡ Ok parsed = ap image_of (sym e) ∙ read in
-    then_stage items (λ (p : Image × Devices). expectation_of_root (settled_root p.0 p.1 fuel)) (λ (d : Devices). (parsed, d)) (image_step image) (script_step script ∷ [])
-    (whole_of (run fuel image script)) told now a b c x y z v q r loaded (ap bad_image is) same le becomes (h fuel (items v) parsed is)
+pub walk_made : (fuel : ℕ) (p : Result Image ImageError) (q : Result Devices ScriptError) (w : Result (List (List ℕ)) ℕ) (i : Image) (d : Devices) (paths : List (List ℕ)) → p ≡ Ok i → q ≡ Ok d → w ≡ Ok paths
+    → expectation_of_walk fuel p q w ≡ Some (expectation_of_root false (settled_root i d fuel))
+walk_made fuel p q w i d paths image devices schedule =
+    ap (λ (x : Result (List (List ℕ)) ℕ). expectation_of_walk fuel p q x) schedule ∙ run_made fuel false p q i d image devices

@@ -4,7 +4,7 @@ use Rattle.std.specs.Prelude.{ℕ, List, [], ◌∷◌, ◌++◌, codes, decimal
 use Rattle.image_model.specs.Names.{error_text}
 use Rattle.source_model.specs.Names.{kind_name}
 use Rattle.det_cli.specs.declared.end.End.{End}
-use Rattle.det_cli.specs.declared.end.End.TheVariants.{Ret, Trapped, Usage, BadImage, BadScript, BadSource, TooLarge, ReadFault, WriteFault, NoMemory}
+use Rattle.det_cli.specs.declared.end.End.TheVariants.{Ret, Trapped, Usage, BadImage, BadScript, BadSchedule, BadSource, TooLarge, ReadFault, WriteFault, NoMemory}
 
 -- the program's name, the cause, and a line feed; nothing where all went well
 abbrev pub fault_line : End → List ℕ
@@ -13,6 +13,7 @@ fault_line Trapped = []
 fault_line Usage = codes "det: usage: run|walk|asm|bench" ++ 10 ∷ []
 fault_line (BadImage e) = codes "det: image: " ++ (error_text e ++ 10 ∷ [])
 fault_line (BadScript e) = codes "det: script: line " ++ (decimal e.line ++ 10 ∷ [])
+fault_line (BadSchedule line) = codes "det: schedule: line " ++ (decimal line ++ 10 ∷ [])
 fault_line (BadSource e) = codes "det: source: line " ++ (decimal e.line ++ (codes ": " ++ (kind_name e.kind ++ 10 ∷ [])))
 fault_line (TooLarge read) = codes "det: too large: " ++ (decimal read ++ (codes " bytes read" ++ 10 ∷ []))
 fault_line ReadFault = codes "det: read fault" ++ 10 ∷ []

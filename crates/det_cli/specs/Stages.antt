@@ -19,6 +19,17 @@ abbrev pub LoadsFile : {V : Type 0} → (V → List ℕ) → List ℕ → ℕ �
 LoadsFile items name room i (Ok v) = (i.asked_after ≡ i.asked_before ++ name ∷ []) × Agrees (i.told name) (items v) × (nat_lt room (length (items v)) ≡ false)
 LoadsFile items name room i (Err f) = ((i.asked_after ≡ i.asked_before) ⊎ (i.asked_after ≡ i.asked_before ++ name ∷ [])) × LoadFault name room i f
 
+-- bytes that the file may have, and that fit, are refused
+abbrev pub Refused : Step → Input → End → Type 0
+Refused s i f = (bytes : List ℕ) × (Agrees (i.told s.name) bytes × ((nat_lt s.room (length bytes) ≡ false) × ((s.refuse bytes ≡ Some f) × IsBad f)))
+
+-- what the loading and the reading of a file answer, and that its name is asked for: bytes that the file may have were read as this value, or
+-- they are refused, or there are none
+abbrev pub ReadsFile : {V : Type 0} → (List ℕ → V → Type 0) → Step → Input → Result V End → Type 0
+ReadsFile reads s i (Ok v) = (i.asked_after ≡ i.asked_before ++ s.name ∷ [])
+    × ((bytes : List ℕ) × (Agrees (i.told s.name) bytes × ((nat_lt s.room (length bytes) ≡ false) × ((s.refuse bytes ≡ None) × reads bytes v))))
+ReadsFile reads s i (Err f) = ((i.asked_after ≡ i.asked_before) ⊎ (i.asked_after ≡ i.asked_before ++ s.name ∷ [])) × (Refused s i f ⊎ LoadFault s.name s.room i f)
+
 -- what is answered to bytes that are refused or not
 abbrev pub GivesRefusal : {V : Type 0} → Option End → Result V End → Type 0
 GivesRefusal refused (Ok v) = refused ≡ None

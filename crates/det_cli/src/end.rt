@@ -18,6 +18,8 @@ pub enum End {
     BadImage(ImageError),
     /// There is room for the bytes of the script, and they are no script; with its first line that is refused.
     BadScript(ScriptError),
+    /// There is room for the bytes of the schedule, and they are no schedule; with the first line that is refused.
+    BadSchedule { line: u64 },
     /// There is room for the bytes of the source, and they are no source; with its first fault.
     BadSource(AsmError),
     /// A file has more bytes than there is room for; `read` is one more than the room.
@@ -38,7 +40,11 @@ pub fn status(end: &End) -> u8
         End::Ret => 0,
         End::Trapped => 1,
         End::Usage => 2,
-        End::BadImage(_) | End::BadScript(_) | End::BadSource(_) | End::TooLarge { .. } => 3,
+        End::BadImage(_)
+        | End::BadScript(_)
+        | End::BadSchedule { .. }
+        | End::BadSource(_)
+        | End::TooLarge { .. } => 3,
         End::ReadFault => 4,
         End::WriteFault => 5,
         End::NoMemory => 6,

@@ -20,6 +20,10 @@ fn line_text(alloc: Global, end: &End) -> Result<String, AllocError>
             let line = e.line;
             format!(in alloc; "det: script: line {line}\n")
         }
+        End::BadSchedule { line } => {
+            let line = *line;
+            format!(in alloc; "det: schedule: line {line}\n")
+        }
         End::BadSource(e) => {
             let line = e.line;
             let kind = e.kind.name();

@@ -2,6 +2,7 @@
 #![tactic(auto)]
 
 mod assembling;
+mod benching;
 mod end;
 mod fault_line;
 mod main_call;

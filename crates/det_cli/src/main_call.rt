@@ -5,8 +5,9 @@ ghost use Rattle.det_cli.specs.Writing.{output_of};
 ghost use Rattle.det_cli.specs.Answers.{Answers, Course};
 
 use crate::assembling::assemble_source;
+use crate::benching::bench;
 use crate::end::End;
-use crate::running::run_image;
+use crate::running::{run_image, walk_image};
 use command_line::{Command, read_line};
 use det_host::{Gate, Loader, Sink};
 use std::alloc::Global;
@@ -31,15 +32,24 @@ fn carry_out<L: Loader, O: Sink, E: Sink>(
     match command {
         Command::Run {
             fuel,
+            digest,
             image,
             script,
-        } => run_image(alloc, fuel, image, script, files, out, err),
+        } => run_image(alloc, fuel, digest, image, script, files, out, err),
+        Command::Walk {
+            fuel,
+            image,
+            script,
+            schedule,
+        } => walk_image(alloc, fuel, image, script, schedule, files, out, err),
         Command::Asm { source } => assemble_source(alloc, source, files, out, err),
+        Command::Bench { seed } => bench(alloc, seed, out),
     }
 }
 
 /// Does all that the program does but for the fault line: reads the words, loads the files that they name, and
-/// runs an image and writes its console to `out` and then the report to `err`, or writes the image of a source to `out`.
+/// runs an image, by a schedule or without one, and writes its console to `out` and then the report to `err`; or writes the image of a
+/// source, or the summary of an image that is made from a number, to `out`.
 ///
 /// Where the loader does not tell a file, there are bytes of which all of this is true. Of sinks that do not tell what they took the
 /// counts are promised all the same.

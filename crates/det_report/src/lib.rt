@@ -1,7 +1,11 @@
-//! The report of a settled tree.
+//! The report of a settled tree, with the digests of its memories, and the line that sums it up.
 #![tactic(auto)]
 
+mod digesting;
 mod line;
 mod reporting;
+mod summing;
 
+pub use digesting::digest;
 pub use reporting::report;
+pub use summing::summary;

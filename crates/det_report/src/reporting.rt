@@ -20,26 +20,27 @@ fn push_report(
     alloc: Global,
     steps: &str,
     space: &Space,
+    digest: bool,
     text: &mut Vec<u8>,
 ) -> Result<(), AllocError>
     requires { is_settled space.now ≡ true }
-    ensures { OnOk result ((path : List ℕ) → steps.now ≡ steps_of path → text.new.items ≡ text.old.items ++ report_of path space.now) }
+    ensures { OnOk result ((path : List ℕ) → steps.now ≡ steps_of path → text.new.items ≡ text.old.items ++ report_of digest path space.now) }
 {
-    push_line(alloc, steps, &space.top, text)?;
+    push_line(alloc, steps, &space.top, digest, text)?;
     for (number, child) in &space.children {
         let steps = steps_of_child(alloc, steps, *number)?;
-        push_report(alloc, &steps, child, text)?;
+        push_report(alloc, &steps, child, digest, text)?;
     }
     Ok(())
 }
 
-/// The report of a settled tree: a line for each space with its path, cause, value, pc and used, a parent before its children, and
-/// children by rising number.
-pub fn report(alloc: Global, space: &Space) -> Result<Vec<u8>, AllocError>
+/// The report of a settled tree: a line for each space with its path, cause, value, pc and used, and with the digest of its memory
+/// where `digest` asks for it; a parent before its children, and children by rising number.
+pub fn report(alloc: Global, space: &Space, digest: bool) -> Result<Vec<u8>, AllocError>
     requires { is_settled space.now ≡ true }
-    ensures { IfOk result (λ v. v.items ≡ report space.now) }
+    ensures { IfOk result (λ v. v.items ≡ report digest space.now) }
 {
     let mut text = Vec::new(alloc);
-    push_report(alloc, "", space, &mut text)?;
+    push_report(alloc, "", space, digest, &mut text)?;
     Ok(text)
 }

@@ -7,6 +7,8 @@ mod expected;
 #[cfg(test)]
 mod files_and_sinks;
 #[cfg(test)]
+mod generated;
+#[cfg(test)]
 mod images;
 #[cfg(test)]
 mod schedules;

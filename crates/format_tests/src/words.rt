@@ -19,12 +19,23 @@ fn one_line<R: AllocGlobal + Abort>(rt: &R, words: &[String], want: Option<Comma
     }
 }
 
+fn one_command<R: AllocGlobal + Abort>(
+    rt: &R,
+    texts: &[&str],
+    want: Option<Command<'_>>,
+) -> Result<(), AllocError> {
+    let words = words_of(rt.alloc(), texts)?;
+    one_line(rt, &words, want);
+    Ok(())
+}
+
 #[test]
 fn reads_a_run(rt: HostRuntime) -> Result<(), Fail> {
     let texts = ["det", "run", "--limit", "007", "image.dti", "script.txt"];
     let mut words = words_of(rt.alloc(), &texts)?;
     let want = Command::Run {
         fuel: 7,
+        digest: false,
         image: "image.dti",
         script: "script.txt",
     };
@@ -35,8 +46,58 @@ fn reads_a_run(rt: HostRuntime) -> Result<(), Fail> {
 }
 
 #[test]
+fn reads_a_run_with_digests(rt: HostRuntime) -> Result<(), Fail> {
+    let want = Command::Run {
+        fuel: 1_000_000,
+        digest: true,
+        image: "image.dti",
+        script: "script.txt",
+    };
+    let texts = ["det", "run", "image.dti", "--digest", "script.txt"];
+    one_command(&rt, &texts, Some(want))?;
+    let refused = ["det", "run", "--digest=true", "image.dti", "script.txt"];
+    one_command(&rt, &refused, None)?;
+    Ok(())
+}
+
+#[test]
+fn reads_a_walk(rt: HostRuntime) -> Result<(), Fail> {
+    let want = Command::Walk {
+        fuel: 4_294_967_295,
+        image: "image.dti",
+        script: "script.txt",
+        schedule: "schedule.txt",
+    };
+    let texts = [
+        "det",
+        "walk",
+        "--limit=4294967295",
+        "image.dti",
+        "script.txt",
+        "schedule.txt",
+    ];
+    one_command(&rt, &texts, Some(want))?;
+    one_command(&rt, &["det", "walk", "image.dti", "script.txt"], None)?;
+    Ok(())
+}
+
+#[test]
 fn reads_a_source(rt: HostRuntime) -> Result<(), Fail> {
-    let words = words_of(rt.alloc(), &["det", "asm", "source.s"])?;
-    one_line(&rt, &words, Some(Command::Asm { source: "source.s" }));
+    one_command(
+        &rt,
+        &["det", "asm", "source.s"],
+        Some(Command::Asm { source: "source.s" }),
+    )?;
+    Ok(())
+}
+
+#[test]
+fn reads_a_seed(rt: HostRuntime) -> Result<(), Fail> {
+    one_command(
+        &rt,
+        &["det", "bench", "65535"],
+        Some(Command::Bench { seed: 65_535 }),
+    )?;
+    one_command(&rt, &["det", "bench", "-1"], None)?;
     Ok(())
 }

@@ -1,5 +1,5 @@
 use det_cli::{End, Exit, det_main, det_program, status, write_fault};
-use det_host::{MemLoader, MemSink, OpenGate, SureSink};
+use det_host::{LoadError, Loader, MemLoader, MemSink, OpenGate, SureSink};
 use std::alloc::{AllocError, Global};
 use std::process::Abort;
 use std::test::*;
@@ -11,29 +11,30 @@ const RETURN_SEVEN: [u8; 35] = [
 ];
 
 /// Writes `AB`, which stands at 0x2000, to the console, and returns 0.
-const WRITE_TWO: [u8; 58] = [
+pub(crate) const WRITE_TWO: [u8; 58] = [
     0x44, 0x54, 0x49, 0x31, 0x00, 0x10, 0, 0, 0, 0, 0, 0, 2, 0, 0x00, 0x10, 0, 0, 1, 24, 0, 0, 0,
     0xb7, 0x25, 0x00, 0x00, 0x13, 0x06, 0x20, 0x00, 0x93, 0x08, 0x40, 0x00, 0x73, 0x00, 0x00, 0x00,
     0x93, 0x08, 0x30, 0x00, 0x73, 0x00, 0x00, 0x00, 0x00, 0x20, 0, 0, 1, 2, 0, 0, 0, 0x41, 0x42,
 ];
 
 /// No segment: nothing may be fetched.
-const NOTHING: [u8; 14] = [0x44, 0x54, 0x49, 0x31, 0, 0, 0, 0, 0, 0, 0, 0, 0, 0];
+pub(crate) const NOTHING: [u8; 14] = [0x44, 0x54, 0x49, 0x31, 0, 0, 0, 0, 0, 0, 0, 0, 0, 0];
 
-/// A call of the program: its words, the bytes of its image and of its script, how many bytes the sinks take a call, and
-/// which calls of the loader, of `out` and of `err` fail. Then its status, and what `out` and `err` have taken.
+/// A call of the program: its words, the bytes of its image, of its script and of its schedule, how many bytes the sinks take a
+/// call, and which calls of the loader, of `out` and of `err` fail. Then its status, and what `out` and `err` have taken.
 #[derive(Clone, Copy)]
 pub(crate) struct Row<'a> {
-    words: &'a str,
-    image: &'a [u8],
-    script: &'a [u8],
-    most: usize,
-    loads: &'a [u64],
-    outs: &'a [u64],
-    errs: &'a [u64],
-    status: u8,
-    out: &'a str,
-    err: &'a str,
+    pub(crate) words: &'a str,
+    pub(crate) image: &'a [u8],
+    pub(crate) script: &'a [u8],
+    pub(crate) schedule: &'a [u8],
+    pub(crate) most: usize,
+    pub(crate) loads: &'a [u64],
+    pub(crate) outs: &'a [u64],
+    pub(crate) errs: &'a [u64],
+    pub(crate) status: u8,
+    pub(crate) out: &'a str,
+    pub(crate) err: &'a str,
 }
 
 /// A call that no read or write fails in.
@@ -48,6 +49,7 @@ pub(crate) fn run<'a>(
         words,
         image,
         script: b"",
+        schedule: b"",
         most: 65536,
         loads: &[],
         outs: &[],
@@ -61,6 +63,11 @@ pub(crate) fn run<'a>(
 /// The same call with this script.
 pub(crate) fn on_script<'a>(row: Row<'a>, script: &'a [u8]) -> Row<'a> {
     Row { script, ..row }
+}
+
+/// The same call with this schedule.
+pub(crate) fn by_schedule<'a>(row: Row<'a>, schedule: &'a [u8]) -> Row<'a> {
+    Row { schedule, ..row }
 }
 
 fn words_of(alloc: Global, text: &str) -> Result<Vec<String>, AllocError> {
@@ -80,6 +87,7 @@ fn files_of(alloc: Global, row: &Row<'_>) -> Result<MemLoader, AllocError> {
     let mut held = Vec::new(alloc);
     held.push(file(alloc, "image", row.image)?)?;
     held.push(file(alloc, "script", row.script)?)?;
+    held.push(file(alloc, "schedule", row.schedule)?)?;
     Ok(MemLoader::new(alloc, held, row.loads.to_vec(alloc)?))
 }
 
@@ -109,6 +117,38 @@ fn called<R: AllocGlobal + Abort>(rt: &R, row: &Row<'_>) -> Result<(), AllocErro
 /// Calls the program, and asserts what the row says.
 pub(crate) fn check<R: AllocGlobal + Abort>(rt: &R, row: &Row<'_>) {
     match called(rt, row) {
+        Ok(()) => {}
+        Err(_) => panic!(rt; "no memory"),
+    }
+}
+
+// A load of these files fails.
+fn assert_failing(rt: &impl Abort, alloc: Global, files: &mut MemLoader) {
+    match files.load(alloc, "image", 0) {
+        Err(LoadError::Failed) => {}
+        _ => panic!(rt; "another load fails"),
+    }
+}
+
+fn ended<R: AllocGlobal + Abort>(rt: &R, row: &Row<'_>, end: End) -> Result<(), AllocError> {
+    let alloc = rt.alloc();
+    let words = words_of(alloc, row.words)?;
+    let mut files = files_of(alloc, row)?;
+    let mut out = sink(alloc, row.most, row.outs)?;
+    let mut err = sink(alloc, row.most, row.errs)?;
+    let found = det_main(rt, &words, &mut files, &mut out, &mut err, &OpenGate);
+    let words = row.words;
+    assert_eq!(rt; found, end, "{words}");
+    assert_eq!(rt; out.taken(), row.out.as_bytes(), "{words}");
+    assert_eq!(rt; err.taken(), row.err.as_bytes(), "{words}");
+    assert_failing(rt, alloc, &mut files);
+    Ok(())
+}
+
+/// Calls `det_main`, and asserts how it ends and what it writes. The load that fails has to be the next one: so `det_main` has
+/// asked for just the files before it.
+pub(crate) fn check_end<R: AllocGlobal + Abort>(rt: &R, row: &Row<'_>, end: End) {
+    match ended(rt, row, end) {
         Ok(()) => {}
         Err(_) => panic!(rt; "no memory"),
     }

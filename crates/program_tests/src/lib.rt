@@ -1,8 +1,13 @@
-//! Tests of the whole program as one call: of words, files, faults and bytes, and of programs of several spaces.
+//! Tests of the whole program as one call: of words, files, faults and bytes, of programs of several spaces, of walks, of digests,
+//! and of generated images.
 #![tactic(auto)]
 
 #[cfg(test)]
+mod benches;
+#[cfg(test)]
 mod calls;
+#[cfg(test)]
+mod digests;
 #[cfg(test)]
 mod files;
 #[cfg(test)]
@@ -11,3 +16,5 @@ mod scripts;
 mod threads;
 #[cfg(test)]
 mod trees;
+#[cfg(test)]
+mod walks;

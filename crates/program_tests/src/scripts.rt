@@ -1,6 +1,6 @@
 //! Programs that take what a script gives, from their source text to what is written.
 
-use crate::calls::{check, on_script, run};
+use crate::calls::{by_schedule, check, on_script, run};
 use crate::trees::image_of;
 use std::alloc::AllocGlobal;
 use std::process::Abort;
@@ -29,12 +29,14 @@ ecall
 .zero 8
 ";
 
-// Runs the program on a script, and asserts what it writes to its console and the report.
+// Runs the program on a script, and walks it, and asserts what it writes to its console and the report.
 fn one_of_scripts<R: AllocGlobal + Abort>(rt: &R, script: &[u8], console: &str, report: &str) {
     match image_of(rt.alloc(), TAKES_ALL) {
         Ok(image) => {
             let row = run("det run image script", &image, 0, console, report);
             check(rt, &on_script(row, script));
+            let row = run("det walk image script schedule", &image, 0, console, report);
+            check(rt, &by_schedule(on_script(row, script), b"/\n/\n/\n/\n/\n"));
         }
         Err(_) => panic!(rt; "no image"),
     }

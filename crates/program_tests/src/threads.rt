@@ -1,9 +1,10 @@
 //! Programs of processes and threads, from their source text to what is written.
 
-use crate::trees::one_of_sources;
-use std::alloc::AllocGlobal;
+use crate::calls::{check, run};
+use crate::trees::{image_of, one_of_sources};
+use std::alloc::{AllocGlobal, Global};
 use std::process::Abort;
-use std::test::Fail;
+use std::test::*;
 
 /// Two threads write at 0x2000, the second one where PLACE says; the root joins both and returns the two bytes there.
 const TWO_THREADS: &str = ".segment 0x1000 1
@@ -59,6 +60,26 @@ addi a0, zero, 8
 ecall
 ";
 
+/// What the two threads come to where both write at 0x2000.
+pub(crate) const CONFLICT_REPORT: &str =
+    "/ conflict 00002000 00001030 20\n/0 ret 00000001 0000105c 7\n/1 ret 00000001 0000105c 7\n";
+
+/// What root, child and grandchild come to where nobody waits for them, with 100 events for each space.
+pub(crate) const NOBODY_REPORT: &str =
+    "/ ret 00000000 00001018 6\n/1 ret 00000000 00001030 7\n/1/2 fuel 00000000 00001030 100\n";
+
+/// The image of two threads that both write at 0x2000.
+pub(crate) fn image_of_conflict(alloc: Global) -> Result<Vec<u8>, Fail> {
+    let source = TWO_THREADS.replace(alloc, "PLACE", "addi t0, t0, 0")?;
+    image_of(alloc, &source)
+}
+
+/// The image of a child and a grandchild that nobody waits for; the grandchild loops.
+pub(crate) fn image_of_nobody(alloc: Global) -> Result<Vec<u8>, Fail> {
+    let source = LOOPING_GRANDCHILD.replace(alloc, "WAITS\n", "")?;
+    image_of(alloc, &source)
+}
+
 // Runs a source in which a word stands for something.
 fn one_of_kinds<R: AllocGlobal + Abort>(
     rt: &R,
@@ -81,20 +102,16 @@ fn threads(rt: HostRuntime) -> Result<(), Fail> {
     let report =
         "/ ret 00004241 00001044 24\n/0 ret 00000001 0000105c 7\n/1 ret 00000001 0000105c 7\n";
     one_of_kinds(&rt, plain, two, 0, report);
-    let one = (TWO_THREADS, "PLACE", "addi t0, t0, 0");
-    let report =
-        "/ conflict 00002000 00001030 20\n/0 ret 00000001 0000105c 7\n/1 ret 00000001 0000105c 7\n";
-    one_of_kinds(&rt, plain, one, 1, report);
+    let image = image_of_conflict(rt.alloc())?;
+    check(&rt, &run(plain, &image, 1, "", CONFLICT_REPORT));
     Ok(())
 }
 
 #[test]
 fn processes(rt: HostRuntime) -> Result<(), Fail> {
     let hundred = "det run --limit 100 image script";
-    let nobody = (LOOPING_GRANDCHILD, "WAITS\n", "");
-    let report =
-        "/ ret 00000000 00001018 6\n/1 ret 00000000 00001030 7\n/1/2 fuel 00000000 00001030 100\n";
-    one_of_kinds(&rt, hundred, nobody, 0, report);
+    let image = image_of_nobody(rt.alloc())?;
+    check(&rt, &run(hundred, &image, 0, "", NOBODY_REPORT));
     let waits = "addi a1, zero, 1\naddi a7, zero, 17\necall";
     let waiting = (LOOPING_GRANDCHILD, "WAITS", waits);
     one_of_kinds(&rt, hundred, waiting, 0, "/ ret 00000000 00001024 9\n");

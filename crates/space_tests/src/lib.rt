@@ -1,8 +1,10 @@
-//! Tests of trees of spaces, of booting, of runs and of reports, through what the crates below show.
+//! Tests of trees of spaces, of booting, of runs, of schedules and of reports, through what the crates below show.
 #![tactic(auto)]
 
 #[cfg(test)]
 mod reports;
+#[cfg(test)]
+mod schedules;
 #[cfg(test)]
 mod settling;
 #[cfg(test)]

@@ -2,7 +2,7 @@ use Rattle.std.proofs.Common.{◌∙◌, ap, true}
 use Rattle.std.proofs.lemmas.Result.{IfOk-weaker}
 use Rattle.clap.specs.Simple.{app_of_fields, on_top}
 use Rattle.command_line.proofs.AppLemmas.{subcommand_added}
-use Rattle.command_line.specs.Line.{IsApp, asm_app, program_app, run_app, start}
+use Rattle.command_line.specs.Line.{IsApp, asm_app, bench_app, program_app, run_app, start, walk_app}
 use Rattle.command_line.proofs.apps.program_command.Goals as goal
 
 pub returns : goal.returns
@@ -15,4 +15,6 @@ returns c =
       ap (λ f. f.has_globals) no_help ∙ ap (λ f. f.has_globals) required ∙ c.new.ensures.local,
     ) in
     let one = subcommand_added _ _ _ start run_app c.in_ok-subcommand.ensures start_is c.in_ok-run.ensures in
-    IfOk-weaker c.subcommand-2.result _ _ (λ r adds. subcommand_added _ _ r _ asm_app adds one c.in_ok-asm.ensures) c.subcommand-2.ensures
+    let two = subcommand_added _ _ _ _ walk_app c.in_ok-subcommand-2.ensures one c.in_ok-walk.ensures in
+    let three = subcommand_added _ _ _ _ asm_app c.in_ok-subcommand-3.ensures two c.in_ok-asm.ensures in
+    IfOk-weaker c.subcommand-4.result _ _ (λ r adds. subcommand_added _ _ r _ bench_app adds three c.in_ok-bench.ensures) c.subcommand-4.ensures

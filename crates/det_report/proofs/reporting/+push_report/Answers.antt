@@ -7,21 +7,21 @@ use Rattle.det_report.proofs.reporting.+push_report.Goals as goal
 pub loop-number-init : goal.loop-number-init
 loop-number-init t c =
     let es : c.into_iter-number-iterator.result ≡ c.space.inside.children.entries = search rules in
-    rw es (left_first c.space.inside.top c.args.space.now c.space.inside.children.entries c.args.steps.now c.args.text.now.items c.push_line.new.text.items c.space.view_is (search rules) c.in_ok-push_line.ensures)
+    rw es (left_first c.args.digest c.space.inside.top c.args.space.now c.space.inside.children.entries c.args.steps.now c.args.text.now.items c.push_line.new.text.items c.space.view_is (search rules) c.in_ok-push_line.ensures)
 
 pub push_report-requires : goal.push_report-requires
 push_report-requires t c =
     let e : (c.in-Some.number.now, c.in-Some.child.now) ∷ c.next.new.self ≡ c.loop-number.number-iterator = sym (rest_more deref_pair _ _ _ _ c.in-Some.is c.next.ensures.steps) in
-    let h = left_child (c.in-Some.number.now, c.in-Some.child.now) c.next.new.self c.args.steps.now c.args.text.now.items c.loop-number.text.items c.args.space.now (rw e c.loop-number.invariant) in
+    let h = left_child c.args.digest (c.in-Some.number.now, c.in-Some.child.now) c.next.new.self c.args.steps.now c.args.text.now.items c.loop-number.text.items c.args.space.now (rw e c.loop-number.invariant) in
     (omega (arith, h.0), h.1)
 
 pub loop-number-preserved : goal.loop-number-preserved
 loop-number-preserved t c =
     let e : (c.in-Some.number.now, c.in-Some.child.now) ∷ c.next.new.self ≡ c.loop-number.number-iterator = sym (rest_more deref_pair _ _ _ _ c.in-Some.is c.next.ensures.steps) in
-    left_next (c.in-Some.number.now, c.in-Some.child.now) c.next.new.self c.args.steps.now c.args.text.now.items c.loop-number.text.items c.push_report.new.text.items c.args.space.now (rw e c.loop-number.invariant)
+    left_next c.args.digest (c.in-Some.number.now, c.in-Some.child.now) c.next.new.self c.args.steps.now c.args.text.now.items c.loop-number.text.items c.push_report.new.text.items c.args.space.now (rw e c.loop-number.invariant)
     (λ path same. c.in_ok-push_report.ensures path (c.deref.ensures ∙ c.in_ok-steps.ensures ∙ same))
 
 pub returns : goal.returns
 returns t c =
     let e = rest_all deref_pair _ _ _ c.in-None.is c.next.ensures.steps in
-    left_none c.args.steps.now c.args.text.now.items c.loop-number.text.items c.args.space.now (rw e at c.loop-number.invariant)
+    left_none c.args.digest c.args.steps.now c.args.text.now.items c.loop-number.text.items c.args.space.now (rw e at c.loop-number.invariant)

@@ -1,0 +1,50 @@
+-- The sums over the spaces that are left.
+use Rattle.std.proofs.Common.{◌≡◌, ℕ, ◌+◌, ◌^◌, ◌%◌, ◌<◌, List, [], ◌∷◌, ◌++◌, length, refl, sym, ap, ◌∙◌, arith}
+use Rattle.std.specs.Prelude.{codes}
+use Rattle.std.specs.List.{flat_map, sum_by}
+use Rattle.std.specs.Fmt.{decimal}
+use Rattle.std.specs.Map.{values_of}
+use Rattle.std.proofs.lemmas.List.Sums.{sum_by-cons}
+use Rattle.space_model.specs.Space.{Space, space, Top, top_of, children_of, children_from, console_bytes}
+use Rattle.report_model.specs.Report.{console_of, stop_text}
+use Rattle.report_model.specs.Summary.{summary, tops_of, tops_below, count_of}
+
+tops_of_values : (es : List (ℕ × Space)) → flat_map tops_of (values_of es) ≡ tops_below (children_from es)
+unfolding tops_of
+tops_of_values [] = refl
+tops_of_values (e ∷ es) = ap (λ ts. tops_of e.1 ++ ts) (tops_of_values es)
+
+-- a space, then those of its children
+tops_first : (t : Top) (es : List (ℕ × Space)) (s : Space) → space t (children_from es) ≡ s → t ∷ flat_map tops_of (values_of es) ≡ tops_of s
+unfolding tops_of
+tops_first t es s e = ap (λ ts. t ∷ ts) (tops_of_values es) ∙ ap tops_of e
+
+pub spaces_first : (t : Top) (es : List (ℕ × Space)) (s : Space) → space t (children_from es) ≡ s → 1 + length (flat_map tops_of (values_of es)) ≡ length (tops_of s)
+spaces_first t es s e = omega (arith, ap length (tops_first t es s e))
+
+pub used_first : (t : Top) (es : List (ℕ × Space)) (s : Space) (n : ℕ) → space t (children_from es) ≡ s → n ≡ t.used → n + sum_by (λ u. u.used) (flat_map tops_of (values_of es)) ≡ sum_by (λ u. u.used) (tops_of s)
+used_first t es s n e same =
+    ap (λ k. k + sum_by (λ u. u.used) (flat_map tops_of (values_of es))) same
+    ∙ sym (sum_by-cons (λ u. u.used) t (flat_map tops_of (values_of es)))
+    ∙ ap (sum_by (λ u. u.used)) (tops_first t es s e)
+
+count_of_entries : (es : List (ℕ × Space)) → count_of (children_from es) ≡ length es
+count_of_entries [] = refl
+count_of_entries (e ∷ es) = omega (arith, count_of_entries es)
+
+-- nothing is left
+pub whole : (n total : ℕ) → n < 2 ^ 64 → (n + 0) % 2 ^ 64 ≡ total % 2 ^ 64 → n ≡ total % 2 ^ 64
+whole n total fits e = omega arith
+
+-- the line of these parts
+pub summary_of : (t : Top) (es : List (ℕ × Space)) (s : Space) (threads spaces used console : ℕ) (root text : List ℕ) → space t (children_from es) ≡ s → threads ≡ length es
+    → spaces ≡ length (tops_of s) % 2 ^ 64 → used ≡ sum_by (λ u. u.used) (tops_of s) % 2 ^ 64 → console ≡ length (console_bytes t.devices) → root ≡ stop_text t.status
+    → text ≡ codes "threads " ++ (decimal threads ++ (codes " spaces " ++ (decimal spaces ++ (codes " used " ++ (decimal used ++ (codes " console " ++ (decimal console ++ (codes " root " ++ (root ++ 10 ∷ [])))))))))
+    → text ≡ summary s
+unfolding summary
+summary_of t es s threads spaces used console root text e n ns nu nc nr is =
+    let threads_of : threads ≡ count_of (children_of s) = n ∙ sym (count_of_entries es) ∙ ap (λ r. count_of (children_of r)) e in
+    let console_is : console ≡ length (console_of s) = nc ∙ ap (λ r. length (console_of r)) e in
+    let root_is : root ≡ stop_text (top_of s).status = nr ∙ ap (λ r. stop_text (top_of r).status) e in
+    is ∙ (λ i. codes "threads " ++ (decimal (threads_of i) ++ (codes " spaces " ++ (decimal (ns i) ++ (codes " used " ++ (decimal (nu i)
+    ++ (codes " console " ++ (decimal (console_is i) ++ (codes " root " ++ (root_is i ++ 10 ∷ []))))))))))
