@@ -1,13 +1,15 @@
 //! `memory_bench ROUNDS`: measures loads, stores and fetches of words, and calls over the whole memory, of memories of
-//! 9, 1,000 and 10,000 pages, then merges, small and frozen memories, first writes and permissions. Each line has the best of so many
-//! rounds; the last two are measured once.
+//! 9, 1,000 and 10,000 pages, then merges, digests, schedules, small and frozen memories, first writes and permissions. Each line
+//! has the best of so many rounds; the last two are measured once.
 #![tactic(auto)]
 
 mod accesses;
+mod digests;
 mod frozen;
 mod measure;
 mod merges;
 mod page_merges;
+mod schedules;
 mod touches;
 mod walks;
 mod whole;

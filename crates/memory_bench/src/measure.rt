@@ -2,12 +2,15 @@ ghost use Rattle.std.specs.Prelude.{◌≡◌, ◌<◌, ◌≤◌, IfOk};
 ghost use Rattle.memory_model.specs.Memory.{no_memory, with_permissions};
 
 use crate::accesses::{Access, pass};
+use crate::digests::{DIGESTED, time_of_digest, time_of_slice};
 use crate::frozen::{SMALL, frozen_after, small_memories};
 use crate::merges::{THREADS, child_of, time_of_compare, time_of_merge, time_of_threads};
 use crate::page_merges::{Difference, MERGED, time_of_pages};
+use crate::schedules::{Place, STEPS, time_of_schedule};
 use crate::touches::{PageOrder, TOUCHED, permits, touches};
 use crate::walks::{Order, WALK, WordAddress, walk};
 use crate::whole::{Call, time_of};
+use memory_model::PAGE_SIZE;
 use space_mem::{Mem, Pages};
 use std::alloc::{AllocError, Global};
 use std::io;
@@ -174,6 +177,38 @@ fn page_merges(rt: &(impl Clock + Print), rounds: u32) -> io::Result<u32> {
     Ok(sum)
 }
 
+// Measures the digest of a memory beside SHA-256 alone, over as many bytes in one slice.
+fn digests(rt: &(impl Clock + Print), alloc: Global, rounds: u32) -> io::Result<u32> {
+    let mem = memory_of(alloc, DIGESTED)?;
+    let bytes = vec![in alloc; 0; (DIGESTED * PAGE_SIZE) as usize]?;
+    let mut sum: u32 = 0;
+    let mut best = (Duration::MAX, Duration::MAX);
+    for _round in 0..rounds {
+        best.0 = best.0.min(time_of_digest(rt, &mem, &mut sum)?);
+        best.1 = best.1.min(time_of_slice(rt, &bytes, &mut sum)?);
+    }
+    print_line(rt, "digest, a page", DIGESTED, DIGESTED, best.0)?;
+    print_line(rt, "sha2, 4096 bytes", DIGESTED, DIGESTED, best.1)?;
+    Ok(sum)
+}
+
+// Measures an event of a schedule, by where the space stands that takes it.
+fn schedules(rt: &(impl Clock + Print), alloc: Global, rounds: u32) -> io::Result<u32> {
+    let mut sum: u32 = 0;
+    for (what, place) in [
+        ("event, root", Place::Root),
+        ("event, alone", Place::Alone),
+        ("event, among", Place::Among),
+    ] {
+        let mut best = Duration::MAX;
+        for _round in 0..rounds {
+            best = best.min(time_of_schedule(rt, alloc, place, &mut sum)?);
+        }
+        print_line(rt, what, 1, STEPS, best)?;
+    }
+    Ok(sum)
+}
+
 // Measures `frozen`, and the first write behind it, by how many pages were written since a snapshot was taken.
 fn freezes(rt: &(impl Clock + Print), alloc: Global, rounds: u32) -> io::Result<()> {
     for pages in [10, 1000, 65536] {
@@ -226,8 +261,8 @@ fn smalls(rt: &(impl Clock + Print), alloc: Global, rounds: u32) -> io::Result<(
 }
 
 /// Measures memories of 9, 1,000 and 10,000 pages that may be read and written, and prints a line for each operation: what, how many
-/// pages, how many operations a round has, and the nanoseconds of one in the best of the rounds. Merges, threads, small memories and `frozen` follow,
-/// and last, measured once, first writes and permissions in several orders.
+/// pages, how many operations a round has, and the nanoseconds of one in the best of the rounds. Merges, threads, digests, schedules, small memories
+/// and `frozen` follow, and last, measured once, first writes and permissions in several orders.
 pub fn all(rt: &(impl Clock + Print), alloc: Global, rounds: u32) -> io::Result<()> {
     println!(rt; "what                 pages operations ns an operation")?;
     let mut sum: u32 = 0;
@@ -243,6 +278,8 @@ pub fn all(rt: &(impl Clock + Print), alloc: Global, rounds: u32) -> io::Result<
     }
     sum = sum.wrapping_add(threads(rt, alloc, rounds)?);
     sum = sum.wrapping_add(page_merges(rt, rounds)?);
+    sum = sum.wrapping_add(digests(rt, alloc, rounds)?);
+    sum = sum.wrapping_add(schedules(rt, alloc, rounds)?);
     smalls(rt, alloc, rounds)?;
     freezes(rt, alloc, rounds)?;
     orders(rt, alloc)?;
