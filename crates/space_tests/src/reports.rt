@@ -1,16 +1,47 @@
-ghost use Rattle.std.specs.Prelude.{◌≤◌};
+ghost use Rattle.std.specs.Prelude.{◌≤◌, ◌<◌};
 
 use det_report::{digest, report, summary};
 use sha2::{Digest, Sha256};
 use space_tree::{Cause, Devices, Mem, Pages, Space, Status, Top, is_settled};
 use std::alloc::{AllocError, Global};
+use std::process::Abort;
 use std::test::*;
 
-/// A space without children that has stopped after so many of its 1,000 events.
+/// How many pages a memory has.
+const PAGES: u32 = 1_048_576;
+
+// The report of a tree, which has to be settled.
+pub(crate) fn report_of(
+    rt: &impl Abort,
+    alloc: Global,
+    tree: &Space,
+    digest: bool,
+) -> Result<Vec<u8>, AllocError> {
+    let settled = is_settled(tree);
+    assert!(rt; settled);
+    report(alloc, tree, digest)
+}
+
+// The line that sums a tree up, which has to be settled.
+fn summary_of(rt: &impl Abort, alloc: Global, tree: &Space) -> Result<Vec<u8>, AllocError> {
+    let settled = is_settled(tree);
+    assert!(rt; settled);
+    summary(alloc, tree)
+}
+
+/// A space without children and without bytes that has stopped after so many of its 1,000 events.
 fn stopped(alloc: Global, pc: u32, used: u32, cause: Cause, value: u32) -> Space
     requires { used ≤ 1000 }
 {
+    stopped_with(alloc, Mem::new(alloc), pc, used, cause, value)
+}
+
+/// The same with this memory.
+fn stopped_with(alloc: Global, memory: Mem, pc: u32, used: u32, cause: Cause, value: u32) -> Space
+    requires { used ≤ 1000 }
+{
     let mut top = Top::fresh(alloc, 1000);
+    top.memory = memory;
     top.registers.pc = pc;
     top.fuel = 1000 - used;
     top.used = used;
@@ -38,9 +69,7 @@ fn three_levels(alloc: Global) -> Result<Space, AllocError> {
 fn reports_three_levels(rt: HostRuntime) -> Result<(), Fail> {
     let alloc = rt.alloc();
     let root = three_levels(alloc)?;
-    let settled = is_settled(&root);
-    assert!(rt; settled);
-    let text = report(alloc, &root, false)?;
+    let text = report_of(&rt, alloc, &root, false)?;
     let want = b"/ ret 0000000a 00001018 16
 /2 badcall 00000009 000123fc 7
 /2/0 fresh 00000000 00000000 0
@@ -87,7 +116,7 @@ fn memory(alloc: Global, row: &Row) -> Result<Mem, AllocError> {
     let mut memory = Mem::new(alloc);
     for (page, permission) in row.permitted {
         let range = Pages {
-            first: page % 1_048_576,
+            first: page % PAGES,
             count: 1,
         };
         memory.set_perm(range, permission % 4)?;
@@ -98,18 +127,25 @@ fn memory(alloc: Global, row: &Row) -> Result<Mem, AllocError> {
     Ok(memory)
 }
 
+// The reports of a space with the memory of a row, with its digest and without.
+fn one_digest(rt: &impl Abort, alloc: Global, row: &Row) -> Result<(), AllocError> {
+    let memory = memory(alloc, row)?;
+    let root = stopped_with(alloc, memory, 0x1018, 16, Cause::Ret, 10);
+    let text = report_of(rt, alloc, &root, true)?;
+    let digits = row.digits;
+    let want = format!(in alloc; "/ ret 0000000a 00001018 16 {digits}\n")?;
+    assert_eq!(rt; text.as_slice(), want.as_bytes());
+    let text = report_of(rt, alloc, &root, false)?;
+    let want = b"/ ret 0000000a 00001018 16\n";
+    assert_eq!(rt; text.as_slice(), want.as_slice());
+    Ok(())
+}
+
 #[test]
 fn reports_digests(rt: HostRuntime) -> Result<(), Fail> {
     let alloc = rt.alloc();
     for row in &DIGESTS {
-        let mut root = stopped(alloc, 0x1018, 16, Cause::Ret, 10);
-        root.top.memory = memory(alloc, row)?;
-        let text = report(alloc, &root, true)?;
-        let digits = row.digits;
-        let want = format!(in alloc; "/ ret 0000000a 00001018 16 {digits}\n")?;
-        assert_eq!(rt; text.as_slice(), want.as_bytes());
-        let text = report(alloc, &root, false)?;
-        assert_eq!(rt; text.as_slice(), b"/ ret 0000000a 00001018 16\n".as_slice());
+        one_digest(&rt, alloc, row)?;
     }
     Ok(())
 }
@@ -118,10 +154,10 @@ fn reports_digests(rt: HostRuntime) -> Result<(), Fail> {
 fn every_line_has_its_digest(rt: HostRuntime) -> Result<(), Fail> {
     let alloc = rt.alloc();
     let mut root = stopped(alloc, 0x1018, 16, Cause::Ret, 10);
-    let mut child = stopped(alloc, 0x2a, 1, Cause::Illegal, 255);
-    child.top.memory = memory(alloc, &DIGESTS[2])?;
+    let memory = memory(alloc, &DIGESTS[2])?;
+    let child = stopped_with(alloc, memory, 0x2a, 1, Cause::Illegal, 255);
     root.children.insert(3, child)?;
-    let text = report(alloc, &root, true)?;
+    let text = report_of(&rt, alloc, &root, true)?;
     let want =
         b"/ ret 0000000a 00001018 16 e3b0c44298fc1c149afbf4c8996fb92427ae41e4649b934ca495991b7852b855
 /3 illegal 000000ff 0000002a 1 9a6672d43f1f6f248c6331d84a4f593c997f355b8198bda985348fe1734034df
@@ -155,7 +191,7 @@ fn digest_of_the_text_in_one_slice(rt: HostRuntime) -> Result<(), Fail> {
     let memory = memory(alloc, &SEVERAL)?;
     let mut text = Vec::new(alloc);
     for page in [1, 2, 3, 4, 1_048_575] {
-        push_page(&memory, page, &mut text)?;
+        push_page(&memory, page % PAGES, &mut text)?;
     }
     let want = Sha256::digest(text.as_slice());
     assert_eq!(rt; digest(&memory), want);
@@ -171,7 +207,7 @@ fn backwards(alloc: Global, row: &Row) -> Result<Mem, AllocError> {
     }
     for (page, permission) in row.permitted.iter().rev() {
         let range = Pages {
-            first: page % 1_048_576,
+            first: page % PAGES,
             count: 1,
         };
         memory.set_perm(range, permission % 4)?;
@@ -189,7 +225,7 @@ fn equal_memories_have_one_digest(rt: HostRuntime) -> Result<(), Fail> {
     let mut copy = memory(alloc, &DIGESTS[3])?;
     let whole = Pages {
         first: 0,
-        count: 1_048_576,
+        count: PAGES,
     };
     copy.copy_from(&first, 0, whole)?;
     assert_eq!(rt; digest(&copy), want);
@@ -207,7 +243,7 @@ fn equal_memories_have_one_digest(rt: HostRuntime) -> Result<(), Fail> {
 fn sums_up_one_space(rt: HostRuntime) -> Result<(), Fail> {
     let alloc = rt.alloc();
     let root = stopped(alloc, 0x1018, 16, Cause::Ret, 10);
-    let text = summary(alloc, &root)?;
+    let text = summary_of(&rt, alloc, &root)?;
     let want = b"threads 0 spaces 1 used 16 console 0 root ret 0000000a\n";
     assert_eq!(rt; text.as_slice(), want.as_slice());
     Ok(())
@@ -222,7 +258,7 @@ fn sums_up_three_levels(rt: HostRuntime) -> Result<(), Fail> {
     let mut devices = Devices::new(alloc);
     devices.console.extend_from_slice(b"hello")?;
     root.top.devices = Some(devices);
-    let text = summary(alloc, &root)?;
+    let text = summary_of(&rt, alloc, &root)?;
     let want = b"threads 3 spaces 6 used 1524 console 5 root ret 0000000a\n";
     assert_eq!(rt; text.as_slice(), want.as_slice());
     Ok(())

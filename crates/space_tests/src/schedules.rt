@@ -2,11 +2,11 @@ ghost use Rattle.std.specs.Prelude.{◌≡◌, true, IfOk};
 ghost use Rattle.space_model.specs.Sound.{IsSound};
 ghost use Rattle.space_model.specs.Space.{is_settled};
 
+use crate::reports::report_of;
 use demand_eval::settle;
 use det_core::{boot, enabled, read_schedule, step, walk};
-use det_report::report;
 use rv_asm::assemble;
-use space_tree::{Devices, Path, Space, is_settled};
+use space_tree::{Devices, Path, Space};
 use std::alloc::{AllocError, AllocGlobal, Global};
 use std::process::Abort;
 use std::test::Fail;
@@ -110,19 +110,12 @@ fn booted(alloc: Global, source: &[u8]) -> Result<Space, Fail>
     Ok(boot(alloc, &image, Devices::new(alloc), FUEL)?)
 }
 
-// The report of a settled tree, with digests.
-fn report_of(rt: &impl Abort, alloc: Global, tree: &Space) -> Result<Vec<u8>, AllocError> {
-    let settled = is_settled(tree);
-    assert!(rt; settled);
-    report(alloc, tree, true)
-}
-
 // The report of what a tree settles to.
 fn settled_report(rt: &impl Abort, alloc: Global, tree: Space) -> Result<Vec<u8>, AllocError>
     requires { IsSound tree }
 {
     let settled = settle(alloc, tree)?;
-    report_of(rt, alloc, &settled)
+    report_of(rt, alloc, &settled, true)
 }
 
 // The event at the least path at which one may happen, and whether there is one.
@@ -165,7 +158,7 @@ fn settles_by<R: AllocGlobal + Abort>(rt: &R, source: &[u8], events: u32) -> Res
     let mut tree = booted(alloc, source)?;
     assert_eq!(rt; count_of_events(rt, alloc, &mut tree, &paths)?, events);
     let want = settled_report(rt, alloc, booted(alloc, source)?)?;
-    let found = report_of(rt, alloc, &tree)?;
+    let found = report_of(rt, alloc, &tree, true)?;
     assert_eq!(rt; found.as_slice(), want.as_slice());
     Ok(())
 }
