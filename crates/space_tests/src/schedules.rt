@@ -1,6 +1,5 @@
-ghost use Rattle.std.specs.Prelude.{◌≡◌, true, IfOk};
+ghost use Rattle.std.specs.Prelude.{IfOk};
 ghost use Rattle.space_model.specs.Sound.{IsSound};
-ghost use Rattle.space_model.specs.Space.{is_settled};
 
 use crate::reports::report_of;
 use demand_eval::settle;
