@@ -40,33 +40,34 @@ source_room = 1048576
 abbrev pub bench_fuel : ℕ
 bench_fuel = 1000000
 
-abbrev pub bad_image : Result Image ImageError → Option End
-bad_image (Ok image) = None
-bad_image (Err e) = Some (BadImage e)
+-- a file outside its grammar ends a command, with its first fault
+abbrev pub refusal_by : {A E : Type 0} → (E → End) → Result A E → Option End
+refusal_by end (Ok value) = None
+refusal_by end (Err fault) = Some (end fault)
 
-abbrev pub bad_script : Result Devices ScriptError → Option End
-bad_script (Ok devices) = None
-bad_script (Err e) = Some (BadScript e)
+abbrev pub image_refusal : List ℕ → Option End
+image_refusal bytes = refusal_by (λ e. BadImage e) (image_of bytes)
 
-abbrev pub bad_schedule : Result (List (List ℕ)) ℕ → Option End
-bad_schedule (Ok paths) = None
-bad_schedule (Err line) = Some (BadSchedule line)
+abbrev pub script_refusal : List ℕ → Option End
+script_refusal bytes = refusal_by (λ e. BadScript e) (script_of bytes)
 
-abbrev pub bad_source : Result Image AsmError → Option End
-bad_source (Ok image) = None
-bad_source (Err e) = Some (BadSource e)
+abbrev pub schedule_refusal : List ℕ → Option End
+schedule_refusal bytes = refusal_by (λ line. BadSchedule line) (schedule_of bytes)
+
+abbrev pub source_refusal : List ℕ → Option End
+source_refusal bytes = refusal_by (λ e. BadSource e) (source_of bytes)
 
 abbrev pub image_step : List ℕ → Step
-image_step name = record { name = name; room = image_room; refuse = λ bytes. bad_image (image_of bytes) }
+image_step name = record { name = name; room = image_room; refuse = image_refusal }
 
 abbrev pub script_step : List ℕ → Step
-script_step name = record { name = name; room = script_room; refuse = λ bytes. bad_script (script_of bytes) }
+script_step name = record { name = name; room = script_room; refuse = script_refusal }
 
 abbrev pub schedule_step : List ℕ → Step
-schedule_step name = record { name = name; room = schedule_room; refuse = λ bytes. bad_schedule (schedule_of bytes) }
+schedule_step name = record { name = name; room = schedule_room; refuse = schedule_refusal }
 
 abbrev pub source_step : List ℕ → Step
-source_step name = record { name = name; room = source_room; refuse = λ bytes. bad_source (source_of bytes) }
+source_step name = record { name = name; room = source_room; refuse = source_refusal }
 
 -- the settled root of an image with these devices, where each space has so much fuel
 abbrev pub settled_root : Image → Devices → ℕ → Space

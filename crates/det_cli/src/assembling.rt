@@ -1,7 +1,7 @@
 ghost use Rattle.std.specs.Prelude.{◌≡◌, ◌≤◌, Some, IfOk};
 ghost use Rattle.source_model.specs.Reading.{source_of};
 ghost use Rattle.command_line.specs.Line.{asm};
-ghost use Rattle.det_cli.specs.Commands.{bad_source, expectation_of_bytes, expectation_of_source, steps_of, whole_of};
+ghost use Rattle.det_cli.specs.Commands.{expectation_of_bytes, expectation_of_source, source_refusal, steps_of, whole_of};
 ghost use Rattle.det_cli.specs.Files.{input_of};
 ghost use Rattle.det_cli.specs.Writing.{output_of};
 ghost use Rattle.det_cli.specs.Stages.{GivesRefusal, Reads};
@@ -22,7 +22,7 @@ const SOURCE_ROOM: u64 = 1_048_576;
 // The bytes of the image of a source text.
 fn image_of_text(alloc: Global, text: &[u8]) -> Result<Vec<u8>, End>
     ensures ok { IfOk result (λ v. expectation_of_source (source_of text.now) ≡ Some (expectation_of_bytes v.items)) }
-    ensures judged { GivesRefusal (bad_source (source_of text.now)) result }
+    ensures judged { GivesRefusal (source_refusal text.now) result }
 {
     let image = match assemble(alloc, text) {
         Ok(image) => image,

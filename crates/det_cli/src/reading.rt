@@ -5,7 +5,7 @@ ghost use Rattle.schedule_model.specs.Reading.{schedule_of};
 ghost use Rattle.det_core.specs.View.{path_views};
 ghost use Rattle.command_line.specs.Line.{run, walk};
 ghost use Rattle.det_cli.specs.Files.{input_of};
-ghost use Rattle.det_cli.specs.Commands.{bad_image, bad_schedule, bad_script, expectation_of_root, image_step, schedule_step, script_step, settled_root, steps_of, whole_of};
+ghost use Rattle.det_cli.specs.Commands.{expectation_of_root, image_refusal, image_step, schedule_refusal, schedule_step, script_refusal, script_step, settled_root, steps_of, whole_of};
 ghost use Rattle.det_cli.specs.Stages.{LoadsFile, GivesRefusal, Reads, ReadsFile};
 
 use crate::end::End;
@@ -49,7 +49,7 @@ pub(crate) fn load<L: Loader>(
 
 fn parse(alloc: Global, bytes: &[u8]) -> Result<Image, End>
     ensures ok { IfOk result (λ i. image_of bytes.now ≡ Ok i) }
-    ensures judged { GivesRefusal (bad_image (image_of bytes.now)) result }
+    ensures judged { GivesRefusal (image_refusal bytes.now) result }
 {
     match read_image(alloc, bytes) {
         Ok(image) => Ok(image),
@@ -60,7 +60,7 @@ fn parse(alloc: Global, bytes: &[u8]) -> Result<Image, End>
 
 fn parse_script(alloc: Global, bytes: &[u8]) -> Result<Devices, End>
     ensures ok { IfOk result (λ d. script_of bytes.now ≡ Ok d) }
-    ensures judged { GivesRefusal (bad_script (script_of bytes.now)) result }
+    ensures judged { GivesRefusal (script_refusal bytes.now) result }
 {
     match read_script(alloc, bytes) {
         Ok(devices) => Ok(devices),
@@ -71,7 +71,7 @@ fn parse_script(alloc: Global, bytes: &[u8]) -> Result<Devices, End>
 
 fn parse_schedule(alloc: Global, bytes: &[u8]) -> Result<Vec<Path>, End>
     ensures ok { IfOk result (λ paths. schedule_of bytes.now ≡ Ok (path_views paths.items)) }
-    ensures judged { GivesRefusal (bad_schedule (schedule_of bytes.now)) result }
+    ensures judged { GivesRefusal (schedule_refusal bytes.now) result }
 {
     match read_schedule(alloc, bytes) {
         Ok(paths) => Ok(paths),
