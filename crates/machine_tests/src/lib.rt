@@ -21,4 +21,6 @@ mod page_ranges;
 #[cfg(test)]
 mod pages;
 #[cfg(test)]
+mod reconciling;
+#[cfg(test)]
 mod sharing;
