@@ -10,8 +10,8 @@ use std::alloc::{AllocError, AllocGlobal, Global};
 use std::process::Abort;
 use std::test::Fail;
 
-// The root forks two threads and joins them; each writes a byte, at 0x2000 both.
-const CONFLICT: &[u8] = b".segment 0x1000 1
+// The root forks two threads and joins them; each writes a byte, and the line behind this text says where.
+const THREADS: &[u8] = b".segment 0x1000 1
 addi s0, zero, 0
 fork: addi a1, s0, 0
 addi a7, zero, 18
@@ -30,37 +30,16 @@ lhu a0, 0(t0)
 addi a7, zero, 3
 ecall
 kid: lui t0, 2
-addi t0, t0, 0
-addi t1, s0, 65
-sb t1, 0(t0)
-addi a7, zero, 3
-ecall
-.segment 0x2000 3
-.byte 0
 ";
 
-// The same, where the two bytes are neighbours.
-const TWO_THREADS: &[u8] = b".segment 0x1000 1
-addi s0, zero, 0
-fork: addi a1, s0, 0
-addi a7, zero, 18
-ecall
-bne a0, zero, kid
-addi s0, s0, 1
-addi t0, zero, 2
-bne s0, t0, fork
-addi a1, zero, 0
-addi a7, zero, 19
-ecall
-addi a1, zero, 1
-ecall
-lui t0, 2
-lhu a0, 0(t0)
-addi a7, zero, 3
-ecall
-kid: lui t0, 2
-add t0, t0, s0
-addi t1, s0, 65
+// The line that leaves the address of a thread's byte at 0x2000, so that the two threads conflict.
+const ONE_PLACE: &[u8] = b"addi t0, t0, 0\n";
+
+// The line that adds the thread's number to the address, so that the two bytes are neighbours.
+const NEIGHBOURS: &[u8] = b"add t0, t0, s0\n";
+
+// What comes after that line.
+const THREADS_END: &[u8] = b"addi t1, s0, 65
 sb t1, 0(t0)
 addi a7, zero, 3
 ecall
@@ -100,6 +79,15 @@ const TURNS: &[u8] = b"/1\n/\n/9\n/1/2\n/0\n";
 
 // How often they are.
 const ROUNDS: usize = 200;
+
+// The source of the two threads, with the line that says where each writes.
+fn source_of_threads(alloc: Global, place: &[u8]) -> Result<Vec<u8>, AllocError> {
+    let mut source = Vec::new(alloc);
+    source.extend_from_slice(THREADS)?;
+    source.extend_from_slice(place)?;
+    source.extend_from_slice(THREADS_END)?;
+    Ok(source)
+}
 
 // The root of a source.
 fn booted(alloc: Global, source: &[u8]) -> Result<Space, Fail>
@@ -164,8 +152,9 @@ fn settles_by<R: AllocGlobal + Abort>(rt: &R, source: &[u8], events: u32) -> Res
 
 #[test]
 fn one_event_at_a_time_settles_a_tree(rt: HostRuntime) -> Result<(), Fail> {
-    settles_by(&rt, CONFLICT, 34)?;
-    settles_by(&rt, TWO_THREADS, 38)?;
+    let alloc = rt.alloc();
+    settles_by(&rt, &source_of_threads(alloc, ONE_PLACE)?, 34)?;
+    settles_by(&rt, &source_of_threads(alloc, NEIGHBOURS)?, 38)?;
     settles_by(&rt, NOBODY_WAITS, 114)
 }
 
@@ -191,7 +180,8 @@ fn comes_to_one_end<R: AllocGlobal + Abort>(rt: &R, source: &[u8]) -> Result<(),
 
 #[test]
 fn a_schedule_changes_no_report(rt: HostRuntime) -> Result<(), Fail> {
-    comes_to_one_end(&rt, CONFLICT)?;
-    comes_to_one_end(&rt, TWO_THREADS)?;
+    let alloc = rt.alloc();
+    comes_to_one_end(&rt, &source_of_threads(alloc, ONE_PLACE)?)?;
+    comes_to_one_end(&rt, &source_of_threads(alloc, NEIGHBOURS)?)?;
     comes_to_one_end(&rt, NOBODY_WAITS)
 }
