@@ -6,6 +6,7 @@ use Rattle.std.specs.Global.{Global}
 use Rattle.std.specs.Coded.{Coded, coded_ℕ, coded_list, coded×, code_by}
 use Rattle.std.specs.Cmp.Lexicographic.{pointwise}
 use Rattle.std.specs.List.{list_any}
+use Rattle.det_host.specs.Outside.{Request, coded_request}
 use Rattle.det_host.specs.declared.loader.LoadError.{LoadError}
 use Rattle.det_host.specs.declared.loader.LoadError.TheVariants.{Failed, TooLarge, Memory}
 use Rattle.det_host.specs.declared.sink.SinkError.{SinkError}
@@ -55,15 +56,15 @@ after_calls c (is_fault ∷ rest) = after_calls (after c is_fault) rest
 abbrev pub FailsAt : List ℕ → Calls → Type 0
 FailsAt numbers c = (before : List Bool) → is_failing (after_calls c before) ≡ list_any (λ n. nat_eq n (min (length before + 1) (2 ^ 64 - 1))) numbers
 
--- files by name, the names asked for, and the calls
+-- files by name, the requests that were made, and the calls
 pub record Files : Type 0 where
   pub files : List NamedFile
-  pub asked : List (List ℕ)
+  pub asked : List Request
   pub calls : Calls
 
 abbrev pub coded_files : Coded Files
-coded_files = code_by (List NamedFile × (List (List ℕ) × Calls))
-    (coded× (coded_list (coded× (coded_list coded_ℕ) (coded_list coded_ℕ))) (coded× (coded_list (coded_list coded_ℕ)) coded_calls))
+coded_files = code_by (List NamedFile × (List Request × Calls))
+    (coded× (coded_list (coded× (coded_list coded_ℕ) (coded_list coded_ℕ))) (coded× (coded_list coded_request) coded_calls))
     (λ f. (f.files, (f.asked, f.calls)))
     (λ p. record { files = p.0; asked = p.1.0; calls = p.1.1 })
     (λ _. refl)
@@ -85,17 +86,17 @@ in_room room (Some bytes) = if nat_lt room (length bytes) then Err (TooLarge (ro
 abbrev pub answer : Files → List ℕ → ℕ → Result (List ℕ) LoadError
 answer f name room = if is_failing f.calls then Err Failed else in_room room (file_bytes f.files name)
 
--- a name more was asked for
-abbrev pub with_name : Files → List ℕ → Files
-with_name f name = record f { asked = f.asked ++ name ∷ [] }
+-- a file more was asked for
+abbrev pub with_request : Files → Request → Files
+with_request f request = record f { asked = f.asked ++ request ∷ [] }
 
--- after a load with this answer: the call is counted, its name is kept, and a fault is counted where it failed; where memory ran out
+-- after a load with this answer: the call is counted, its request is kept, and a fault is counted where it failed; where memory ran out
 -- the call is counted, and no more
-abbrev pub after_load : {V : Type 0} → Files → List ℕ → Result V LoadError → Files
-after_load f name (Ok v) = record (with_name f name) { calls = after f.calls false }
-after_load f name (Err Failed) = record (with_name f name) { calls = after f.calls true }
-after_load f name (Err (TooLarge read)) = record (with_name f name) { calls = after f.calls false }
-after_load f name (Err Memory) = record f { calls = after f.calls false }
+abbrev pub after_load : {V : Type 0} → Files → Request → Result V LoadError → Files
+after_load f request (Ok v) = record (with_request f request) { calls = after f.calls false }
+after_load f request (Err Failed) = record (with_request f request) { calls = after f.calls true }
+after_load f request (Err (TooLarge read)) = record (with_request f request) { calls = after f.calls false }
+after_load f request (Err Memory) = record f { calls = after f.calls false }
 
 -- the most bytes that a sink takes in a call, what it took, and the calls
 pub record Taking : Type 0 where

@@ -1,6 +1,7 @@
 -- What a loader and a sink tell of themselves, and how often they have failed.
--- Our choice: what is said of the outside: bytes told, names asked, faults counted.
-use Rattle.std.specs.Prelude.{◌≡◌, ℕ, ◌+◌, ◌-◌, ◌^◌, ◌<◌, ◌≤◌, ◌⊎◌, min, List, [], ◌∷◌, ◌++◌, length, Option, Some, IfSome, Result, Ok, Err}
+-- Our choice: what is said of the outside: bytes told, requests made, faults counted.
+use Rattle.std.specs.Prelude.{◌≡◌, ℕ, ◌+◌, ◌-◌, ◌^◌, ◌<◌, ◌≤◌, ◌⊎◌, min, List, [], ◌∷◌, ◌++◌, length, Option, Some, IfSome, Result, Ok, Err, refl}
+use Rattle.std.specs.Coded.{Coded, coded_ℕ, coded_list, coded×, code_by}
 use Rattle.std.specs.Io.KnownBytes.{Consumes}
 use Rattle.det_host.specs.declared.loader.LoadError.{LoadError}
 use Rattle.det_host.specs.declared.loader.LoadError.TheVariants.{Failed, TooLarge, Memory}
@@ -16,12 +17,20 @@ Loads items told room (Err Failed) = Unit {0}
 Loads items told room (Err (TooLarge read)) = (read ≡ room + 1) × IfSome told (λ bytes. room < length bytes)
 Loads items told room (Err Memory) = Unit {0}
 
--- a load appends its name to those that were asked for; where memory ran out it may not
-abbrev pub Asks : {V : Type 0} → List (List ℕ) → List (List ℕ) → List ℕ → Result V LoadError → Type 0
-Asks old new name (Ok v) = new ≡ old ++ name ∷ []
-Asks old new name (Err Failed) = new ≡ old ++ name ∷ []
-Asks old new name (Err (TooLarge read)) = new ≡ old ++ name ∷ []
-Asks old new name (Err Memory) = (new ≡ old) ⊎ (new ≡ old ++ name ∷ [])
+-- a file that was asked for: the bytes of its name, and the most bytes that it may have
+pub record Request : Type 0 where
+  pub name : List ℕ
+  pub room : ℕ
+
+abbrev pub coded_request : Coded Request
+coded_request = code_by (List ℕ × ℕ) (coded× (coded_list coded_ℕ) coded_ℕ) (λ r. (r.name, r.room)) (λ p. record { name = p.0; room = p.1 }) (λ _. refl)
+
+-- a load appends its request to those that were made; where memory ran out it may not
+abbrev pub Asks : {V : Type 0} → List Request → List Request → Request → Result V LoadError → Type 0
+Asks old new request (Ok v) = new ≡ old ++ request ∷ []
+Asks old new request (Err Failed) = new ≡ old ++ request ∷ []
+Asks old new request (Err (TooLarge read)) = new ≡ old ++ request ∷ []
+Asks old new request (Err Memory) = (new ≡ old) ⊎ (new ≡ old ++ request ∷ [])
 
 -- a sink that told what it had taken has taken these bytes more, and tells it
 abbrev pub Takes : Option (List ℕ) → Option (List ℕ) → List ℕ → Type 0

@@ -9,6 +9,7 @@ mod memory_loader;
 mod memory_sink;
 mod real_loader;
 mod real_sink;
+mod request;
 mod sink;
 mod sure_sink;
 

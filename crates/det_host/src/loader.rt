@@ -1,5 +1,5 @@
 ghost use Rattle.std.specs.Prelude.{◌≡◌, ◌≤◌, ◌<◌, ◌^◌, List, ℕ, Option, IsErrOf};
-ghost use Rattle.det_host.specs.Outside.{Rose, Loads, Asks};
+ghost use Rattle.det_host.specs.Outside.{Request, Rose, Loads, Asks};
 
 use std::alloc::Global;
 
@@ -19,8 +19,8 @@ pub trait Loader {
     /// The bytes of a name, where the loader tells them.
     ghost told: { Self → List ℕ → Option (List ℕ) };
 
-    /// The names that were loaded, the first one first.
-    ghost asked: { Self → List (List ℕ) };
+    /// The files that were asked for, each by its name and the room that was given, the first one first.
+    ghost asked: { Self → List Request };
 
     /// How often it has failed. A count that stands at 2^64 - 1 stays there.
     ghost faults: { Self → ℕ };
@@ -32,5 +32,5 @@ pub trait Loader {
         ensures failed { IsErrOf result LoadError.Failed → Rose (faults self.old) (faults self.new) }
         ensures later { faults self.old ≤ faults self.new }
         ensures told { (other : List ℕ) → told self.new other ≡ told self.old other }
-        ensures asked { Asks (asked self.old) (asked self.new) name.now result };
+        ensures asked { Asks (asked self.old) (asked self.new) (record { name = name.now; room = room }) result };
 }

@@ -4,6 +4,7 @@ ghost use Rattle.det_host.specs.Outside.{Rose, Loads, Asks};
 ghost use Rattle.det_host.specs.declared.loader.LoadError.{LoadError};
 
 use crate::calls::Calls;
+use crate::request::{Request, ask};
 use crate::{LoadError, Loader};
 use std::alloc::Global;
 use std::marker::Model;
@@ -12,19 +13,19 @@ use std::marker::Model;
 #[derive(Drop)]
 pub struct MemLoader {
     files: Vec<(String, Vec<u8>)>,
-    asked: Vec<String>,
+    asked: Vec<Request>,
     calls: Calls,
 }
 
 impl Model for MemLoader {
-    ghost use Rattle.std.specs.Prelude.{map, string_bytes};
+    ghost use Rattle.std.specs.Prelude.{map};
     ghost use Rattle.det_host.specs.Held.{Files, coded_files, named_file};
 
     ghost Value = { Files };
 
     ghost coded = { coded_files };
 
-    ghost view = { λ l. record { files = map named_file l.files.items; asked = map string_bytes l.asked.items; calls = l.calls } };
+    ghost view = { λ l. record { files = map named_file l.files.items; asked = l.asked.items; calls = l.calls } };
 }
 
 impl MemLoader {
@@ -105,20 +106,17 @@ impl Loader for MemLoader {
         ensures failed { IsErrOf result LoadError.Failed → Rose self.old.calls.faults self.new.calls.faults }
         ensures later { self.old.calls.faults ≤ self.new.calls.faults }
         ensures told { (other : List ℕ) → file_bytes self.new.files other ≡ file_bytes self.old.files other }
-        ensures asked { Asks self.old.asked self.new.asked name.now result }
+        ensures asked { Asks self.old.asked self.new.asked (record { name = name.now; room = room }) result }
         ensures ok { IfOk result (λ v. answer self.old name.now room ≡ Ok v.items) }
         ensures err { IfErr result (λ e. (e ≡ LoadError.Memory) ⊎ (answer self.old name.now room ≡ Err e)) }
-        ensures next { self.new ≡ after_load self.old name.now result }
+        ensures next { self.new ≡ after_load self.old (record { name = name.now; room = room }) result }
     {
         let fails = self.calls.next_fails();
         let answer = self.answer(fails, alloc, name, room);
         if let Err(LoadError::Memory) = answer {
             return Err(LoadError::Memory);
         }
-        let Ok(own) = String::from_str(alloc, name) else {
-            return Err(LoadError::Memory);
-        };
-        if self.asked.push(own).is_err() {
+        if ask(alloc, &mut self.asked, name, room).is_err() {
             return Err(LoadError::Memory);
         }
         if let Err(LoadError::Failed) = answer {

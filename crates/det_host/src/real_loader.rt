@@ -1,7 +1,8 @@
-ghost use Rattle.std.specs.Prelude.{◌≡◌, ◌≤◌, ◌<◌, ◌^◌, ◌+◌, List, [], ℕ, Option, None, map, string_bytes, vec_len, length, IfOk, OnErr, IfSome, IsErrOf, Ok};
+ghost use Rattle.std.specs.Prelude.{◌≡◌, ◌≤◌, ◌<◌, ◌^◌, ◌+◌, List, [], ℕ, Option, None, vec_len, length, IfOk, OnErr, IfSome, IsErrOf, Ok};
 ghost use Rattle.std.specs.Io.KnownBytes.{IsAtEnd};
 ghost use Rattle.det_host.specs.Outside.{Gains, LosesAtMost};
 
+use crate::request::{Request, ask};
 use crate::{LoadError, Loader};
 use std::alloc::Global;
 use std::fs::File;
@@ -11,7 +12,7 @@ use std::io::Read;
 #[derive(Drop)]
 pub struct FileLoader {
     rt: HostRuntime,
-    asked: Vec<String>,
+    asked: Vec<Request>,
     faults: u64,
 }
 
@@ -82,15 +83,12 @@ fn read_all<R: Read>(alloc: Global, reader: &mut R, room: u64) -> Result<Vec<u8>
 impl Loader for FileLoader {
     ghost told = { λ s name. None };
 
-    ghost asked = { λ s. map string_bytes s.asked.items };
+    ghost asked = { λ s. s.asked.items };
 
     ghost faults = { λ s. s.faults };
 
     fn load(&mut self, alloc: Global, name: &str, room: u64) -> Result<Vec<u8>, LoadError> {
-        let Ok(own) = String::from_str(alloc, name) else {
-            return Err(LoadError::Memory);
-        };
-        if self.asked.push(own).is_err() {
+        if ask(alloc, &mut self.asked, name, room).is_err() {
             return Err(LoadError::Memory);
         }
         let Ok(mut file) = File::open(&self.rt, name) else {
