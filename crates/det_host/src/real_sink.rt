@@ -4,7 +4,7 @@ ghost use Rattle.det_host.specs.Outside.{Rose, Takes};
 use crate::{Sink, SinkError};
 use std::io::Write;
 
-/// A sink over a writer of the standard library. It tells no bytes.
+/// A sink over a writer of the standard library. It tells what its writer tells: of a stream nothing.
 #[derive(Drop)]
 pub struct StdSink<W: Write + Drop> {
     writer: W,
@@ -13,22 +13,26 @@ pub struct StdSink<W: Write + Drop> {
 
 impl<W: Write + Drop> StdSink<W> {
     /// A sink that has written nothing yet.
-    pub fn new(writer: W) -> StdSink<W> {
+    pub fn new(writer: W) -> StdSink<W>
+        ensures writer { result.writer ≡ writer }
+        ensures no_fault { result.faults ≡ 0 }
+    {
         StdSink { writer, faults: 0 }
     }
 }
 
 impl<W: Write + Drop> Sink for StdSink<W> {
-    ghost taken = { λ s. None };
+    ghost taken = { λ s. W.contents s.writer };
 
     ghost faults = { λ s. s.faults };
 
     /// Writes again where the writer took only a part, until all is written or it takes no more. An answer below the piece's
     /// length, an error among them, has counted a fault.
+    #[tactic(auto, using(crate::proofs::Sending::nothing_sent, crate::proofs::Sending::sent_more, crate::proofs::Sending::kept_after, crate::proofs::Sending::takes_sent))]
     fn write(&mut self, piece: &[u8]) -> Result<usize, SinkError>
         ensures count { IfOk result (λ n. n ≤ length piece.now) }
-        ensures ok { IfOk result (λ n. Takes None None (take n piece.now)) }
-        ensures err { OnErr result (Takes None None []) }
+        ensures ok { IfOk result (λ n. Takes (W.contents self.old.writer) (W.contents self.new.writer) (take n piece.now)) }
+        ensures err { OnErr result (Takes (W.contents self.old.writer) (W.contents self.new.writer) []) }
         ensures failed { IsErrOf result SinkError.Failed → Rose self.old.faults self.new.faults }
         ensures nothing { result ≡ Ok 0 → 0 < length piece.now → Rose self.old.faults self.new.faults }
         ensures later { self.old.faults ≤ self.new.faults }

@@ -136,14 +136,38 @@ fn a_real_file(rt: HostRuntime) -> Result<(), Fail> {
     Ok(())
 }
 
+// Writes a piece through a sink of its own, and looks at all that the writer has taken by then.
+fn narrow_write(
+    rt: &impl Abort,
+    writer: &mut Narrow,
+    piece: &[u8],
+    want: Result<usize, SinkError>,
+    taken: &[u8],
+) {
+    one_write(rt, &mut StdSink::new(&mut *writer), piece, want);
+    assert_bytes(rt, &writer.taken, taken);
+}
+
 #[test]
 fn a_narrow_writer(rt: HostRuntime) {
-    let mut sink = StdSink::new(Narrow {
+    let mut writer = Narrow {
         taken: Vec::new(rt.alloc()),
         calls: 0,
-    });
-    one_write(&rt, &mut sink, b"abcdef", Ok(4));
-    one_write(&rt, &mut sink, b"ef", Ok(2));
+    };
+    narrow_write(&rt, &mut writer, b"abcdef", Ok(4), b"abcd");
+    narrow_write(&rt, &mut writer, b"efghi", Ok(5), b"abcdefghi");
+    narrow_write(&rt, &mut writer, b"", Ok(0), b"abcdefghi");
+}
+
+#[test]
+fn a_writer_that_fails_at_once(rt: HostRuntime) {
+    let mut writer = Narrow {
+        taken: Vec::new(rt.alloc()),
+        calls: 2,
+    };
+    let failed = Err(SinkError::Failed);
+    narrow_write(&rt, &mut writer, b"abc", failed, b"");
+    narrow_write(&rt, &mut writer, b"abc", Ok(3), b"abc");
 }
 
 #[test]
