@@ -1,8 +1,11 @@
--- What was consumed piece by piece of a reader that tells what it has left.
-use Rattle.std.proofs.Common.{◌≡◌, ℕ, List, [], ◌++◌, length, Option, Some, None, IfSome, refl, sym, ap, ◌∙◌, append_assoc, length-append, ◌≤◌, ◌+◌, arith}
+-- What was consumed piece by piece of a reader that tells what it has left, and what a load of a file then answers.
+use Rattle.std.proofs.Common.{◌≡◌, ℕ, List, [], ◌++◌, length, Option, Some, None, IfSome, refl, sym, ap, subst, ◌∙◌, append_assoc, length-append, ◌≤◌, ◌<◌, ◌+◌, ◌∷◌, Result, Ok, Err, inr, arith}
 use Rattle.std.proofs.lemmas.List.{append-nil}
 use Rattle.std.specs.Io.KnownBytes.{Consumes, Keeps, IsAtEnd}
-use Rattle.det_host.specs.Outside.{LosesAtMost}
+use Rattle.det_host.specs.Outside.{Request, Loads, Asks}
+use Rattle.det_host.specs.FileReading.{Opens, LosesAtMost, ReadsWithin}
+use Rattle.det_host.specs.declared.loader.LoadError.{LoadError}
+use Rattle.det_host.specs.declared.loader.LoadError.TheVariants.{Failed, TooLarge, Memory}
 
 pub nothing_consumed : (known : Option (List ℕ)) → Consumes known known []
 nothing_consumed None = tt
@@ -27,3 +30,51 @@ consumed_all (Some xs) (Some ys) a h g = sym (h ∙ ap (λ (u : List ℕ). a ++ 
 
 pub consumed_at_most : (old mid new : Option (List ℕ)) (a : List ℕ) (k most : ℕ) → length a + k ≤ most → Consumes old mid a → LosesAtMost k mid new → LosesAtMost most old new
 consumed_at_most old mid new a k most le h (b, g) = (a ++ b, (omega (arith, length-append a b, g.0), consumed_more old mid new a b h g.1))
+
+pub consumed_beyond : (old new : Option (List ℕ)) (a : List ℕ) (room : ℕ) → room < length a → Consumes old new a → IfSome old (λ xs. room < length xs)
+consumed_beyond None new a room lt h = tt
+consumed_beyond (Some xs) None a room lt h = absurd h
+consumed_beyond (Some xs) (Some ys) a room lt h = subst (λ (t : List ℕ). room < length t) (sym h) (omega (arith, length-append a ys))
+
+-- a stop that is not for the size says nothing of a file's bytes
+pub stopped : {V : Type 0} (items : V → List ℕ) (told : Option (List ℕ)) (room : ℕ) (e : LoadError) → ((read : ℕ) → e ≡ TooLarge read → ⊥) → Loads items told room (Err e)
+stopped items told room Failed h = tt
+stopped items told room (TooLarge read) h = absurd (h read refl)
+stopped items told room Memory h = tt
+
+told_opened : {V : Type 0} (items : V → List ℕ) (bytes : List ℕ) (left : Option (List ℕ)) (room : ℕ) (r : Result V LoadError) → left ≡ Some bytes → Loads items left room r
+    → Loads items (Some bytes) room r
+told_opened items bytes left room r o h = subst (λ (t : Option (List ℕ)). Loads items t room r) o h
+
+-- what holds of the bytes that are left of a file that was just opened holds of the bytes that it is told to have
+pub loads_opened : {V : Type 0} (items : V → List ℕ) (held left : Option (List ℕ)) (room : ℕ) (r : Result V LoadError) → Opens held left → Loads items left room r
+    → Loads items held room r
+loads_opened items None left room (Ok v) o h = (h.0, tt)
+loads_opened items None left room (Err Failed) o h = tt
+loads_opened items None left room (Err (TooLarge read)) o h = (h.0, tt)
+loads_opened items None left room (Err Memory) o h = tt
+loads_opened items (Some bytes) left room r o h = told_opened items bytes left room r o h
+
+loses_opened : (held left new : Option (List ℕ)) (most : ℕ) → Opens held left → LosesAtMost most left new → LosesAtMost most held new
+loses_opened None left new most o h = (h.0, (h.1.0, tt))
+loses_opened (Some bytes) left new most o h = subst (λ (t : Option (List ℕ)). LosesAtMost most t new) o h
+
+loses_within : {V : Type 0} (held old new : Option (List ℕ)) (most : ℕ) (r : Result V LoadError) → LosesAtMost most held new → ReadsWithin most held old new r
+loses_within held old new most (Ok v) h = h
+loses_within held old new most (Err Failed) h = inr h
+loses_within held old new most (Err (TooLarge read)) h = h
+loses_within held old new most (Err Memory) h = inr h
+
+pub reads_opened : {V : Type 0} (held old left new : Option (List ℕ)) (most : ℕ) (r : Result V LoadError) → Opens held left → LosesAtMost most left new
+    → ReadsWithin most held old new r
+reads_opened held old left new most r o h = loses_within held old new most r (loses_opened held left new most o h)
+
+pub nothing_read : (known : Option (List ℕ)) → Keeps known known
+nothing_read None = tt
+nothing_read (Some xs) = refl
+
+pub asks_made : {V : Type 0} (old new : List Request) (request : Request) (r : Result V LoadError) → new ≡ old ++ request ∷ [] → Asks old new request r
+asks_made old new request (Ok v) h = h
+asks_made old new request (Err Failed) h = h
+asks_made old new request (Err (TooLarge read)) h = h
+asks_made old new request (Err Memory) h = inr h

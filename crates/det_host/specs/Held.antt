@@ -6,7 +6,7 @@ use Rattle.std.specs.Global.{Global}
 use Rattle.std.specs.Coded.{Coded, coded_ℕ, coded_list, coded×, code_by}
 use Rattle.std.specs.Cmp.Lexicographic.{pointwise}
 use Rattle.std.specs.List.{list_any}
-use Rattle.det_host.specs.Outside.{Request, coded_request}
+use Rattle.det_host.specs.Outside.{Request}
 use Rattle.det_host.specs.declared.loader.LoadError.{LoadError}
 use Rattle.det_host.specs.declared.loader.LoadError.TheVariants.{Failed, TooLarge, Memory}
 use Rattle.det_host.specs.declared.sink.SinkError.{SinkError}
@@ -55,6 +55,9 @@ after_calls c (is_fault ∷ rest) = after_calls (after c is_fault) rest
 -- whatever the calls before, the next one fails exactly where its number, from 1, is among these; the count stays at its end
 abbrev pub FailsAt : List ℕ → Calls → Type 0
 FailsAt numbers c = (before : List Bool) → is_failing (after_calls c before) ≡ list_any (λ n. nat_eq n (min (length before + 1) (2 ^ 64 - 1))) numbers
+
+abbrev pub coded_request : Coded Request
+coded_request = code_by (List ℕ × ℕ) (coded× (coded_list coded_ℕ) coded_ℕ) (λ r. (r.name, r.room)) (λ p. record { name = p.0; room = p.1 }) (λ _. refl)
 
 -- files by name, the requests that were made, and the calls
 pub record Files : Type 0 where

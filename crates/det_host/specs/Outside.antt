@@ -1,8 +1,6 @@
 -- What a loader and a sink tell of themselves, and how often they have failed.
 -- Our choice: what is said of the outside: bytes told, requests made, faults counted.
-use Rattle.std.specs.Prelude.{◌≡◌, ℕ, ◌+◌, ◌-◌, ◌^◌, ◌<◌, ◌≤◌, ◌⊎◌, min, List, [], ◌∷◌, ◌++◌, length, Option, Some, IfSome, Result, Ok, Err, refl}
-use Rattle.std.specs.Coded.{Coded, coded_ℕ, coded_list, coded×, code_by}
-use Rattle.std.specs.Io.KnownBytes.{Consumes}
+use Rattle.std.specs.Prelude.{◌≡◌, ℕ, ◌+◌, ◌-◌, ◌^◌, ◌<◌, ◌≤◌, ◌⊎◌, min, List, [], ◌∷◌, ◌++◌, length, Option, Some, IfSome, Result, Ok, Err}
 use Rattle.det_host.specs.declared.loader.LoadError.{LoadError}
 use Rattle.det_host.specs.declared.loader.LoadError.TheVariants.{Failed, TooLarge, Memory}
 
@@ -22,9 +20,6 @@ pub record Request : Type 0 where
   pub name : List ℕ
   pub room : ℕ
 
-abbrev pub coded_request : Coded Request
-coded_request = code_by (List ℕ × ℕ) (coded× (coded_list coded_ℕ) coded_ℕ) (λ r. (r.name, r.room)) (λ p. record { name = p.0; room = p.1 }) (λ _. refl)
-
 -- a load appends its request to those that were made; where memory ran out it may not
 abbrev pub Asks : {V : Type 0} → List Request → List Request → Request → Result V LoadError → Type 0
 Asks old new request (Ok v) = new ≡ old ++ request ∷ []
@@ -35,11 +30,3 @@ Asks old new request (Err Memory) = (new ≡ old) ⊎ (new ≡ old ++ request �
 -- a sink that told what it had taken has taken these bytes more, and tells it
 abbrev pub Takes : Option (List ℕ) → Option (List ℕ) → List ℕ → Type 0
 Takes old new bytes = IfSome old (λ before. new ≡ Some (before ++ bytes))
-
--- n bytes of a reader were put behind those that were there; a reader that tells what it has left has lost them
-abbrev pub Gains : Option (List ℕ) → Option (List ℕ) → List ℕ → List ℕ → ℕ → Type 0
-Gains old new before after n = (got : List ℕ) × (length got ≡ n) × (after ≡ before ++ got) × Consumes old new got
-
--- a reader that tells what it has left has lost some of its first bytes, so many at most
-abbrev pub LosesAtMost : ℕ → Option (List ℕ) → Option (List ℕ) → Type 0
-LosesAtMost most old new = (got : List ℕ) × ((length got ≤ most) × Consumes old new got)

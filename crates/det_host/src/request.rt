@@ -12,7 +12,8 @@ pub(crate) struct Request {
 
 impl Model for Request {
     ghost use Rattle.std.specs.Prelude.{string_bytes};
-    ghost use Rattle.det_host.specs.Outside.{Request, coded_request};
+    ghost use Rattle.det_host.specs.Outside.{Request};
+    ghost use Rattle.det_host.specs.Held.{coded_request};
 
     ghost Value = { Request };
 

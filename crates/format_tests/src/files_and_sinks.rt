@@ -1,12 +1,12 @@
-ghost use Rattle.std.specs.Prelude.{◌<◌, ◌^◌};
+ghost use Rattle.std.specs.Prelude.{◌<◌, ◌^◌, Some, None};
 
 use crate::expected::assert_bytes;
 use det_host::{
-    FileLoader, Gate, GateEvent, LoadError, Loader, MemLoader, MemSink, OpenGate, Sink, SinkError,
-    StdSink, SureSink,
+    FileLoader, FileReader, Gate, GateEvent, LoadError, Loader, MemLoader, MemSink, OpenGate, Sink,
+    SinkError, StdSink, SureSink,
 };
 use std::alloc::{AllocError, Global};
-use std::io::Write;
+use std::io::{Read, Write};
 use std::process::Abort;
 use std::test::*;
 use std::{fs, io};
@@ -33,6 +33,52 @@ impl Write for Narrow {
 
     fn flush(&mut self) -> io::Result<()> {
         Ok(())
+    }
+}
+
+/// More bytes than one turn reads.
+static LONG: [u8; 9000] = [7; 9000];
+
+/// Some files with known bytes. It counts the bytes that were read since a file was opened, and fails in the middle of "torn".
+#[derive(Drop)]
+struct Shelf {
+    left: &'static [u8],
+    read: usize,
+    is_torn: bool,
+}
+
+fn bytes_of(name: &str) -> Option<&'static [u8]> {
+    match name {
+        "one" => Some(b"abc"),
+        "two" => Some(b"defgh"),
+        "none" => Some(b""),
+        "long" | "torn" => Some(&LONG),
+        _ => None,
+    }
+}
+
+impl FileReader for Shelf {
+    ghost held = { λ s name. None };
+
+    ghost left = { λ s. Some s.left.now };
+
+    fn open(&mut self, name: &str) -> io::Result<()> {
+        let Some(bytes) = bytes_of(name) else {
+            return Err(io::ErrorKind::NotFound.into());
+        };
+        self.left = bytes;
+        self.read = 0;
+        self.is_torn = name == "torn";
+        Ok(())
+    }
+
+    fn read(&mut self, buffer: &mut [u8]) -> io::Result<usize> {
+        if self.is_torn && self.read > 0 {
+            return Err(io::ErrorKind::Other.into());
+        }
+        let count = self.left.read(buffer)?;
+        self.read = self.read.saturating_add(count);
+        Ok(count)
     }
 }
 
@@ -113,6 +159,42 @@ fn sure_sinks(rt: HostRuntime) {
     let mut sink = SureSink::new(rt.alloc());
     one_write(&rt, &mut sink, b"abc", Ok(3));
     assert_bytes(&rt, sink.taken(), b"abc");
+}
+
+// Loads a file with this room, and looks at how many bytes of the file that was opened last were read.
+fn one_read<R: AllocGlobal + Abort>(
+    rt: &R,
+    files: &mut FileLoader<Shelf>,
+    name: &str,
+    room: u64,
+    want: Result<&[u8], LoadError>,
+    read: usize,
+)
+    requires { room < 2 ^ 32 }
+{
+    one_load(rt, files, name, room, want);
+    assert_eq!(rt; files.files().read, read, "{name}, {room}");
+}
+
+#[test]
+fn a_shelf_of_files(rt: HostRuntime) {
+    let shelf = Shelf {
+        left: b"",
+        read: 0,
+        is_torn: false,
+    };
+    let mut files = FileLoader::over(rt.alloc(), shelf);
+    let large = |read| Err(LoadError::TooLarge { read });
+    one_read(&rt, &mut files, "one", 3, Ok(b"abc"), 3);
+    one_read(&rt, &mut files, "two", 4_294_967_295, Ok(b"defgh"), 5);
+    one_read(&rt, &mut files, "two", 4, large(5), 5);
+    one_read(&rt, &mut files, "one", 0, large(1), 1);
+    one_read(&rt, &mut files, "none", 0, Ok(b""), 0);
+    one_read(&rt, &mut files, "long", 9000, Ok(&LONG), 9000);
+    one_read(&rt, &mut files, "long", 4096, large(4097), 4097);
+    one_read(&rt, &mut files, "long", 8999, large(9000), 9000);
+    one_read(&rt, &mut files, "torn", 9000, Err(LoadError::Failed), 4096);
+    one_read(&rt, &mut files, "three", 9, Err(LoadError::Failed), 4096);
 }
 
 #[test]
