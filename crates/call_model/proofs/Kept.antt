@@ -2,7 +2,7 @@
 use Rattle.std.proofs.Common.{◌≡◌, ℕ, Bool, true, false, not, ◌&&◌, ◌||◌, ◌==◌, refl, arith, ◌≤◌, ◌+◌, ◌%◌, ◌^◌, nat_lt}
 use Rattle.std.proofs.lemmas.Bool.Decides.{nat_tests}
 use Rattle.call_model.specs.declared.Transfer.{Transfer}
-use Rattle.call_model.specs.Options.{regs, copy, has, has_range, is_no_range, IsRange, bad_ranges, bad_block}
+use Rattle.call_model.specs.Options.{regs, copy, has, has_range, wrong_range, IsRange, wrong_pages, wrong_block_address}
 use Rattle.call_model.specs.Reading.{IsTransfer}
 
 both : (a b : Bool) → (a || b) ≡ false → (a ≡ false) × (b ≡ false)
@@ -19,22 +19,22 @@ is_zero n h = grind (arith, nat_tests)
 not_past : (a b : ℕ) → nat_lt a b ≡ false → b ≤ a
 not_past a b h = grind (arith, nat_tests)
 
-is_range : (a s : ℕ) → is_no_range a s ≡ false → IsRange a s
+is_range : (a s : ℕ) → wrong_range a s ≡ false → IsRange a s
 is_range a s h =
     let b = both _ _ h in
     let d = both _ _ b.1 in
     record { first = is_zero _ b.0; whole = is_zero _ d.0; within = not_past _ _ d.1 }
 
 pub destination_range : (t : Transfer) → IsTransfer t → has_range t.options ≡ true → IsRange t.destination t.size
-unfolding bad_ranges
+unfolding wrong_pages
 destination_range t k e = is_range _ _ (second (has_range t.options) _ e (both _ _ k.ranges).0)
 
 pub source_range : (t : Transfer) → IsTransfer t → has copy t.options ≡ true → IsRange t.source t.size
-unfolding bad_ranges
+unfolding wrong_pages
 source_range t k e = is_range _ _ (second (has copy t.options) _ e (both _ _ k.ranges).1)
 
 pub block_place : (t : Transfer) → IsTransfer t → has regs t.options ≡ true → (t.block % 4 ≡ 0) × (t.block + 136 ≤ 2 ^ 32)
-unfolding bad_block
+unfolding wrong_block_address
 block_place t k e =
     let b = both _ _ (second (has regs t.options) _ e k.block) in
     let end : t.block ≤ 0xFFFFFF78 = not_past _ _ b.1 in

@@ -3,27 +3,13 @@ use Rattle.std.proofs.Common.{◌≡◌, ℕ, ◌==◌, Bool, true, false, cond,
 use Rattle.std.proofs.lemmas.Bool.Decides.{nat_tests}
 use Rattle.std.specs.List.{find}
 use Rattle.call_model.specs.declared.Kind.{Kind}
-use Rattle.call_model.specs.declared.Kind.TheVariants.{Put, Get, Ret, ConsoleOut, ConsoleIn, Clock, Random, Fork, Wait, Tfork, Tjoin, FileNew, FilePut, FileGet, FileLength, FileDelete}
-use Rattle.call_model.specs.Kinds.{number_of, kinds, kind_of}
+use Rattle.call_model.specs.declared.Kind.TheVariants.{Put}
+use Rattle.call_model.specs.Calls.{number_of, kinds, kind_of}
 
 -- each kind is that of its number
 pub kind_of-number_of : (k : Kind) → kind_of (number_of k) ≡ Some k
 kind_of-number_of Put = refl
-kind_of-number_of Get = refl
-kind_of-number_of Ret = refl
-kind_of-number_of ConsoleOut = refl
-kind_of-number_of ConsoleIn = refl
-kind_of-number_of Clock = refl
-kind_of-number_of Random = refl
-kind_of-number_of Fork = refl
-kind_of-number_of Wait = refl
-kind_of-number_of Tfork = refl
-kind_of-number_of Tjoin = refl
-kind_of-number_of FileNew = refl
-kind_of-number_of FilePut = refl
-kind_of-number_of FileGet = refl
-kind_of-number_of FileLength = refl
-kind_of-number_of FileDelete = refl
+kind_of-number_of kind = refl
 
 same_number : (n m : ℕ) → (n == m) ≡ true → m ≡ n
 same_number n m e = grind (arith, nat_tests)

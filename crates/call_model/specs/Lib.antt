@@ -1,6 +1,6 @@
 pub mod Limits
 pub mod Options
-pub mod Kinds
+pub mod Calls
 pub mod Tests
 pub mod Reading
 pub mod Block

@@ -1,6 +1,6 @@
 -- The numbers that bound what a call may name.
 -- Our choice: the numbers.
-use Rattle.std.specs.Prelude.{ℕ, ◌+◌, ◌-◌, ◌<◌}
+use Rattle.std.specs.Prelude.{ℕ, ◌+◌, ◌-◌, ◌<◌, List, [], ◌∷◌}
 
 -- the greatest number of a child
 abbrev pub greatest_child : ℕ
@@ -9,6 +9,11 @@ greatest_child = 65535
 -- a number that a child may have
 abbrev pub IsChild : ℕ → Type 0
 IsChild n = n < greatest_child + 1
+
+-- numbers that children may have
+abbrev pub AreChildren : List ℕ → Type 0
+AreChildren [] = Unit {0}
+AreChildren (n ∷ ns) = IsChild n × AreChildren ns
 
 -- the depth of the deepest spaces; the root is at depth 0
 abbrev pub greatest_depth : ℕ

@@ -62,20 +62,20 @@ abbrev pub has_clash : ℕ → Bool
 has_clash options = (has permission_bits options && not (has perm options)) || (has_two_changes options || (has tree options && not (options == tree)))
 
 -- Limit without Start, or Merge
-unfoldable pub bad_put_options : ℕ → Bool
-bad_put_options options = has_unknown options || (has_clash options || ((has limit_option options && not (has start options)) || has merging options))
+unfoldable pub wrong_put_options : ℕ → Bool
+wrong_put_options options = has_unknown options || (has_clash options || ((has limit_option options && not (has start options)) || has merging options))
 
 -- Snap, Start or Limit
-unfoldable pub bad_get_options : ℕ → Bool
-bad_get_options options = has_unknown options || (has_clash options || (has snap options || (has start options || has limit_option options)))
+unfoldable pub wrong_get_options : ℕ → Bool
+wrong_get_options options = has_unknown options || (has_clash options || (has snap options || (has start options || has limit_option options)))
 
 -- the end is above the memory's
 abbrev pub passes_end : ℕ → ℕ → Bool
 passes_end address size = nat_lt (2 ^ 32) (address + size)
 
 -- no range of whole pages: an address or a size that is no multiple of a page's, or an end above the memory's
-abbrev pub is_no_range : ℕ → ℕ → Bool
-is_no_range address size = not (address % page_size == 0) || (not (size % page_size == 0) || passes_end address size)
+abbrev pub wrong_range : ℕ → ℕ → Bool
+wrong_range address size = not (address % page_size == 0) || (not (size % page_size == 0) || passes_end address size)
 
 -- whole pages that end within memory
 pub record IsRange (address size : ℕ) : Type 0 where
@@ -88,9 +88,9 @@ abbrev pub has_range : ℕ → Bool
 has_range options = has copy options || (has zeroing options || (has merging options || has perm options))
 
 -- with Copy, Zero, Merge or Perm the destination, with Copy the source too
-unfoldable pub bad_ranges : ℕ → ℕ → ℕ → ℕ → Bool
-bad_ranges options source destination size = (has_range options && is_no_range destination size) || (has copy options && is_no_range source size)
+unfoldable pub wrong_pages : ℕ → ℕ → ℕ → ℕ → Bool
+wrong_pages options source destination size = (has_range options && wrong_range destination size) || (has copy options && wrong_range source size)
 
 -- with Regs: an address that is no multiple of 4, or from which on there are not 136 bytes
-unfoldable pub bad_block : ℕ → ℕ → Bool
-bad_block options block = has regs options && (not (block % 4 == 0) || nat_lt last_block block)
+unfoldable pub wrong_block_address : ℕ → ℕ → Bool
+wrong_block_address options block = has regs options && (not (block % 4 == 0) || nat_lt last_block block)

@@ -1,6 +1,6 @@
 -- The call that registers name, or the first test that they fail.
 -- Our choice: which register holds what.
-use Rattle.std.specs.Prelude.{◌≡◌, ℕ, ◌+◌, ◌^◌, ◌≤◌, ◌==◌, Bool, false, if◌then◌else◌, List, Option, Some, None, Result, Ok, Err}
+use Rattle.std.specs.Prelude.{◌≡◌, ℕ, ◌+◌, ◌^◌, ◌≤◌, ◌==◌, Bool, true, false, if◌then◌else◌, List, [], ◌∷◌, Option, Some, None, Result, Ok, Err}
 use Rattle.call_model.specs.declared.Kind.{Kind}
 use Rattle.call_model.specs.declared.Kind.TheVariants as kinds
 use Rattle.call_model.specs.declared.Transfer.{Transfer}
@@ -9,9 +9,9 @@ use Rattle.call_model.specs.declared.Call.TheVariants.{Put, PutTree, Get, GetTre
 use Rattle.call_model.specs.declared.FileCall.{FileCall}
 use Rattle.call_model.specs.declared.FileCall.TheVariants as files
 use Rattle.call_model.specs.declared.Badcall.{Badcall}
-use Rattle.call_model.specs.Kinds.{kind_of}
+use Rattle.call_model.specs.Calls.{row, kind_of}
 use Rattle.call_model.specs.Limits.{greatest_length}
-use Rattle.call_model.specs.Options.{has, tree, has_two_changes, bad_put_options, bad_get_options, bad_ranges, bad_block}
+use Rattle.call_model.specs.Options.{has, tree, has_two_changes, wrong_put_options, wrong_get_options, wrong_pages, wrong_block_address}
 use Rattle.call_model.specs.Tests.{argument, first_failing}
 
 -- a0 to a6
@@ -37,6 +37,49 @@ call_of kinds.FileGet x = File (files.Get (argument x 1) (argument x 2) (argumen
 call_of kinds.FileLength x = File (files.Length (argument x 1) (argument x 2))
 call_of kinds.FileDelete x = File (files.Delete (argument x 1) (argument x 2))
 
+-- the kind of a call
+abbrev pub kind_in : Call → Kind
+kind_in (Put x) = kinds.Put
+kind_in (PutTree child from to) = kinds.Put
+kind_in (Get x) = kinds.Get
+kind_in (GetTree child from to) = kinds.Get
+kind_in (Ret value) = kinds.Ret
+kind_in (ConsoleOut addr len) = kinds.ConsoleOut
+kind_in (ConsoleIn addr len) = kinds.ConsoleIn
+kind_in Clock = kinds.Clock
+kind_in Random = kinds.Random
+kind_in (Fork child) = kinds.Fork
+kind_in (Wait child) = kinds.Wait
+kind_in (Tfork child) = kinds.Tfork
+kind_in (Tjoin child) = kinds.Tjoin
+kind_in (File (files.New name n append)) = kinds.FileNew
+kind_in (File (files.Put name n addr len add)) = kinds.FilePut
+kind_in (File (files.Get name n addr len offset)) = kinds.FileGet
+kind_in (File (files.Length name n)) = kinds.FileLength
+kind_in (File (files.Delete name n)) = kinds.FileDelete
+
+-- the numbers of children, and with Tree of a child's child, that a call names
+abbrev pub children_in : Call → List ℕ
+children_in (Put x) = x.child ∷ []
+children_in (PutTree child from to) = child ∷ from ∷ to ∷ []
+children_in (Get x) = x.child ∷ []
+children_in (GetTree child from to) = child ∷ from ∷ to ∷ []
+children_in (Fork child) = child ∷ []
+children_in (Wait child) = child ∷ []
+children_in (Tfork child) = child ∷ []
+children_in (Tjoin child) = child ∷ []
+children_in k = []
+
+-- Put and Get with Tree
+abbrev pub is_tree : Call → Bool
+is_tree (PutTree child from to) = true
+is_tree (GetTree child from to) = true
+is_tree k = false
+
+-- the deepest level below its caller at which a call makes a space
+abbrev pub levels_in : Call → ℕ
+levels_in k = let r = row (kind_in k) in if is_tree k then r.tree_levels else r.levels
+
 -- the call, or the number of the first test that fails
 abbrev pub unless_failed : Option ℕ → Call → Result Call Badcall
 unless_failed None call = Ok call
@@ -54,8 +97,8 @@ read x root depth = read_as (kind_of (argument x 7)) x root depth
 -- what the tests keep of Put and Get, whose options have to stand together
 pub record IsTransfer (t : Transfer) : Type 0 where
   pub changes : has_two_changes t.options ≡ false
-  pub ranges : bad_ranges t.options t.source t.destination t.size ≡ false
-  pub block : bad_block t.options t.block ≡ false
+  pub ranges : wrong_pages t.options t.source t.destination t.size ≡ false
+  pub block : wrong_block_address t.options t.block ≡ false
 
 -- bytes that a call may name: they end within memory, and are not too many
 pub record IsSpan (addr len : ℕ) : Type 0 where
@@ -72,8 +115,8 @@ IsFileCall (files.Delete name n) = IsSpan name n
 
 -- what the tests keep of a call, apart from where the caller stands
 abbrev pub IsAccepted : Call → Type 0
-IsAccepted (Put t) = (bad_put_options t.options ≡ false) × IsTransfer t
-IsAccepted (Get t) = (bad_get_options t.options ≡ false) × IsTransfer t
+IsAccepted (Put t) = (wrong_put_options t.options ≡ false) × IsTransfer t
+IsAccepted (Get t) = (wrong_get_options t.options ≡ false) × IsTransfer t
 IsAccepted (ConsoleOut addr len) = IsSpan addr len
 IsAccepted (ConsoleIn addr len) = IsSpan addr len
 IsAccepted (File call) = IsFileCall call

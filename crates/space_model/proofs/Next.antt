@@ -1,22 +1,18 @@
 -- What the next event of a space tells: a call that meets a child is one that may, of a top that may pay; a local event keeps a top
 -- sound, and so do many.
-use Rattle.std.proofs.Common.{◌≡◌, ℕ, zero, suc, ◌-◌, ◌≤◌, ◌<◌, ◌+◌, nat_lt, Bool, true, false, ◌&&◌, ◌||◌, if◌then◌else◌, List, [], ◌∷◌, Option, Some, None, Result, Ok, Err, refl, sym, ap, ◌∙◌, subst, arith}
-use Rattle.std.proofs.lemmas.Bool.Decides.{nat_tests}
+use Rattle.std.proofs.Common.{◌≡◌, ℕ, zero, suc, ◌-◌, ◌<◌, Bool, true, List, [], ◌∷◌, Option, Some, None, Result, Ok, Err, refl, sym, ap, ◌∙◌, subst, arith}
 use Rattle.memory_model.specs.Memory.{may_read, may_write, first_without}
 use Rattle.instruction_model.specs.Outcome.{view_of, Outcome, goes, stores, calls, traps, outcome}
-use Rattle.call_model.specs.declared.Transfer.{Transfer}
 use Rattle.call_model.specs.declared.Call.{Call}
 use Rattle.call_model.specs.declared.Call.TheVariants as named
 use Rattle.call_model.specs.declared.Badcall as refusal
 use Rattle.call_model.specs.declared.Kind.{Kind}
-use Rattle.call_model.specs.declared.Kind.TheVariants as kinds
-use Rattle.call_model.specs.Limits.{greatest_depth, IsChild}
-use Rattle.call_model.specs.Options.{has, tree}
-use Rattle.call_model.specs.Kinds.{kind_of}
-use Rattle.call_model.specs.Tests.{argument, is_no_child, wrong_child, too_deep, first_failing}
+use Rattle.call_model.specs.Limits.{greatest_depth}
+use Rattle.call_model.specs.Calls.{row, kind_of, meets_children}
+use Rattle.call_model.specs.Tests.{argument, first_failing}
 use Rattle.call_model.specs.Reading as reading
-use Rattle.call_model.specs.Reading.{unless_failed, read_as, read, IsAccepted}
-use Rattle.call_model.proofs.Accepted.{Passes, passes, named_accepted}
+use Rattle.call_model.specs.Reading.{kind_in, unless_failed, read_as, read, IsAccepted}
+use Rattle.call_model.proofs.Accepted.{Passes, passes, named_accepted, levels_accepted, children_accepted}
 use Rattle.space_model.specs.declared.Status.{Status}
 use Rattle.space_model.specs.declared.Status.TheVariants.{Running, Stopped}
 use Rattle.script_model.specs.Devices.{Devices}
@@ -28,17 +24,6 @@ use Rattle.space_model.specs.declared.FileAnswer.{FileAnswer}
 use Rattle.space_model.specs.declared.FileAnswer.TheVariants.{Done, Refused, Fault}
 use Rattle.space_model.specs.Files.{FileResult, file_call}
 use Rattle.space_model.specs.Event.{Effect, becomes, asks, NextEvent, rests, moves, meets, charge, with_devices, output, console_out, input, console_in, next_number, clock, random, effect_of, after_answer, after_file_call, by_reading, call, after_outcome, instruction, by_limit_left, by_fuel_left, by_status, next, Follows, IsNotLocal, MayPay}
-
-fits : (n : ℕ) → is_no_child n ≡ false → IsChild n
-fits n h = grind (arith, nat_tests)
-
--- a space below the last level is not asked for
-shallow : (levels n : ℕ) → nat_lt greatest_depth (greatest_depth - levels + n) ≡ false → n ≤ levels
-shallow levels n h = grind (arith, nat_tests)
-
-neither : (a b : Bool) → (a || b) ≡ false → (a ≡ false) × (b ≡ false)
-neither true b h = cc
-neither false b h = (refl, h)
 
 -- no call of a device is asked for
 device_asks : (t : Top) (o : Option Devices) (f : Devices → Effect) (k : Call) → ((d : Devices) → f d ≡ asks k → ⊥) → with_devices t o f ≡ asks k → ⊥
@@ -74,50 +59,27 @@ asked t named.Random k e = absurd (random_asks t k e)
 asked t (named.File call) k e = cc
 asked t c k e = cc
 
--- the numbers that Put and Get name, with Tree among the options or without
-tree_numbers : (asked : Bool) (a b c : ℕ) → (is_no_child a || (asked && (is_no_child b || is_no_child c))) ≡ false → IsChild a × (asked ≡ true → IsChild b × IsChild c)
-tree_numbers true a b c h =
-    let first = neither (is_no_child a) _ h in
-    let rest = neither (is_no_child b) (is_no_child c) first.1 in
-    (fits a first.0, λ e. (fits b rest.0, fits c rest.1))
-tree_numbers false a b c h = (fits a (neither (is_no_child a) false h).0, λ e. cc)
+-- and its kind is one that meets children
+asked_meets : (t : Top) (c k : Call) → effect_of t c ≡ asks k → meets_children (kind_in c) ≡ true
+asked_meets t (named.ConsoleOut addr len) k e = absurd (console_asks t addr len k e)
+asked_meets t (named.ConsoleIn addr len) k e = absurd (buffer_asks t addr len k e)
+asked_meets t named.Clock k e = absurd (clock_asks t k e)
+asked_meets t named.Random k e = absurd (random_asks t k e)
+asked_meets t (named.File call) k e = cc
+asked_meets t (named.Ret value) k e = cc
+asked_meets t c k e = refl
 
-put_meets : (levels : ℕ) (asked : Bool) (a b c : ℕ) (x : Transfer) → x.child ≡ a → nat_lt greatest_depth (greatest_depth - levels + (if asked then 2 else 1)) ≡ false
-    → (is_no_child a || (asked && (is_no_child b || is_no_child c))) ≡ false → MayMeet levels (if asked then named.PutTree a b c else named.Put x)
-put_meets levels true a b c x is deep h = let ns = tree_numbers true a b c h in let others = ns.1 refl in (shallow levels 2 deep, ns.0, others.0, others.1)
-put_meets levels false a b c x is deep h = (shallow levels 1 deep, subst IsChild (sym is) (tree_numbers false a b c h).0)
-
-get_meets : (levels : ℕ) (asked : Bool) (a b c : ℕ) (x : Transfer) → x.child ≡ a → (is_no_child a || (asked && (is_no_child b || is_no_child c))) ≡ false
-    → MayMeet levels (if asked then named.GetTree a b c else named.Get x)
-get_meets levels true a b c x is h = let ns = tree_numbers true a b c h in let others = ns.1 refl in (ns.0, others.0, others.1)
-get_meets levels false a b c x is h = subst IsChild (sym is) (tree_numbers false a b c h).0
-
--- of registers that fail no test, it may meet its child
-named_meets : (levels : ℕ) (t : Top) (kind : Kind) (x : List ℕ) (root : Bool) (k : Call) → Passes kind x root (greatest_depth - levels) → effect_of t (reading.call_of kind x) ≡ asks k → MayMeet levels (reading.call_of kind x)
-unfolding wrong_child too_deep
-named_meets levels t kinds.Put x root k p e = put_meets levels (has tree (argument x 0)) (argument x 1) (argument x 3) (argument x 4) (reading.transfer x) refl p.below p.child
-named_meets levels t kinds.Get x root k p e = get_meets levels (has tree (argument x 0)) (argument x 1) (argument x 3) (argument x 4) (reading.transfer x) refl p.child
-named_meets levels t kinds.Fork x root k p e = (shallow levels 1 p.below, fits (argument x 1) p.child)
-named_meets levels t kinds.Wait x root k p e = fits (argument x 1) p.child
-named_meets levels t kinds.Tfork x root k p e = (shallow levels 1 p.below, fits (argument x 1) p.child)
-named_meets levels t kinds.Tjoin x root k p e = fits (argument x 1) p.child
-named_meets levels t kinds.Ret x root k p e = cc
-named_meets levels t kinds.ConsoleOut x root k p e = absurd (console_asks t (argument x 1) (argument x 2) k e)
-named_meets levels t kinds.ConsoleIn x root k p e = absurd (buffer_asks t (argument x 1) (argument x 2) k e)
-named_meets levels t kinds.Clock x root k p e = absurd (clock_asks t k e)
-named_meets levels t kinds.Random x root k p e = absurd (random_asks t k e)
-named_meets levels t kinds.FileNew x root k p e = cc
-named_meets levels t kinds.FilePut x root k p e = cc
-named_meets levels t kinds.FileGet x root k p e = cc
-named_meets levels t kinds.FileLength x root k p e = cc
-named_meets levels t kinds.FileDelete x root k p e = cc
+-- of registers that fail no test, it may meet its children
+named_meets : (levels : ℕ) (t : Top) (kind : Kind) (x : List ℕ) (root : Bool) (k : Call) → Passes (row kind) x root (greatest_depth - levels) → effect_of t (reading.call_of kind x) ≡ asks k → MayMeet levels (reading.call_of kind x)
+named_meets levels t kind x root k p e =
+    record { meets = asked_meets t (reading.call_of kind x) k e; below = levels_accepted kind x levels p.levels; children = children_accepted kind x p.children }
 
 answer_asks : (levels : ℕ) (t : Top) (kind : Kind) (x : List ℕ) (root : Bool) (k : Call) (o : Option ℕ) → first_failing kind x root (greatest_depth - levels) ≡ o
     → by_reading t (unless_failed o (reading.call_of kind x)) ≡ asks k → MayMeet levels k × IsAccepted k
 answer_asks levels t kind x root k (Some n) is e = cc
 answer_asks levels t kind x root k None is e =
     let same = asked t (reading.call_of kind x) k e in
-    (subst (MayMeet levels) same (named_meets levels t kind x root k (passes kind x root (greatest_depth - levels) is) e), subst IsAccepted same (named_accepted kind x root (greatest_depth - levels) is))
+    (subst (MayMeet levels) same (named_meets levels t kind x root k (passes (row kind) x root (greatest_depth - levels) is) e), subst IsAccepted same (named_accepted kind x root (greatest_depth - levels) is))
 
 reading_asks : (levels : ℕ) (t : Top) (o : Option Kind) (x : List ℕ) (root : Bool) (k : Call) → by_reading t (read_as o x root (greatest_depth - levels)) ≡ asks k → MayMeet levels k × IsAccepted k
 reading_asks levels t None x root k e = cc

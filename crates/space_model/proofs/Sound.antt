@@ -6,7 +6,11 @@ use Rattle.std.proofs.Common.{◌≡◌, ℕ, zero, suc, pred, ◌+◌, ◌-◌,
 use Rattle.std.proofs.lemmas.Bool.Decides.{nat_tests}
 use Rattle.std.specs.Prelude.{option_map, if◌then◌else◌}
 use Rattle.call_model.specs.declared.Call.{Call}
-use Rattle.call_model.specs.declared.Call.TheVariants.{Put, PutTree, Get, GetTree, Ret, ConsoleOut, ConsoleIn, Clock, Random, Fork, Wait, Tfork, Tjoin, File}
+use Rattle.call_model.specs.declared.Call.TheVariants.{Put, PutTree, Get, GetTree, Fork, Wait, Tfork, Tjoin, File}
+use Rattle.call_model.specs.declared.FileCall.{FileCall}
+use Rattle.call_model.specs.declared.FileCall.TheVariants.{New}
+use Rattle.call_model.specs.Calls.{meets_children}
+use Rattle.call_model.specs.Reading.{kind_in}
 use Rattle.call_model.specs.Limits.{IsChild}
 use Rattle.space_model.specs.declared.Refusal.{Refusal}
 use Rattle.space_model.specs.Space.{Space, space, Children, none, child, Top, top_of, children_of, find, over, has, enter, put_child, remove_child, height, levels_of}
@@ -215,44 +219,45 @@ grandchild_fits (suc levels) fuel n (Some (space t cs)) found s is =
 caller_sound : (fuel : ℕ) (root : Bool) (u v : Top) → IsAlike u v → IsSoundTop fuel root u → IsSoundTop fuel root (after_success v)
 caller_sound fuel root u v a top = let after = alike_sound fuel root u v a top in record { sum = after.sum; devices = after.devices }
 
+-- a call on a file meets no children
+file_meets_none : (call : FileCall) → meets_children (kind_in (File call)) ≡ false
+file_meets_none (New name n append) = refl
+file_meets_none call = refl
+
 -- what a call of a sound caller does that no test stops
 action_sound : (levels : ℕ) (root : Bool) (fuel : ℕ) (k : Call) (u : Top) (cs : Children) → MayMeet levels k → IsSoundTop fuel root u → AreSound levels fuel 0 cs
     → first_refusal (refusals levels k u (seen_of (awaits k) cs)) ≡ None → IsSoundAt levels root fuel (apply_meeting (action k u (seen_of (awaits k) cs)) cs)
 action_sound levels root fuel (Put x) u cs may top ok passes = (
   record { sum = top.sum; devices = top.devices },
-  put_sound levels fuel x.child _ cs may.0 ok may.1 (child_sound (pred levels) fuel (child_after x u) u root (find x.child cs) top (child_alike x u) (found_sound levels fuel x.child cs ok)),
+  put_sound levels fuel x.child _ cs may.below ok may.children.0 (child_sound (pred levels) fuel (child_after x u) u root (find x.child cs) top (child_alike x u) (found_sound levels fuel x.child cs ok)),
 )
 action_sound levels root fuel (PutTree n from to) u cs may top ok passes =
-    let two : 2 ≤ levels = may.0 in
+    let two : 2 ≤ levels = may.below in
     let one : 1 ≤ levels = omega (arith, two) in
     let here = child_sound (pred levels) fuel (λ c. c) u root (find n cs) top (λ c. record { fuel = refl; used = refl; devices = refl }) (found_sound levels fuel n cs ok) in
-    let copied = copied_sound (pred levels) fuel to (find from cs) (below (find n cs)) may.3 here.1 (tested_fits levels fuel (find from cs) passes (found_sound levels fuel from cs ok)) in
-    (record { sum = top.sum; devices = top.devices }, put_sound levels fuel n _ cs one ok may.1 (here.0, copied))
+    let copied = copied_sound (pred levels) fuel to (find from cs) (below (find n cs)) may.children.1.1.0 here.1 (tested_fits levels fuel (find from cs) passes (found_sound levels fuel from cs ok)) in
+    (record { sum = top.sum; devices = top.devices }, put_sound levels fuel n _ cs one ok may.children.0 (here.0, copied))
 action_sound levels root fuel (Get x) u cs may top ok passes =
     let c = or_fresh u (option_map top_of (find x.child cs)) in
     (caller_sound fuel root u (caller_after x c u) (caller_alike x c u) top, ok)
 action_sound levels root fuel (GetTree n from to) u cs may top ok passes =
-    (record { sum = top.sum; devices = top.devices }, copied_sound levels fuel to (find from (below (find n cs))) cs may.2 ok (grandchild_fits levels fuel from (find n cs) (found_sound levels fuel n cs ok)))
+    (record { sum = top.sum; devices = top.devices }, copied_sound levels fuel to (find from (below (find n cs))) cs may.children.1.1.0 ok (grandchild_fits levels fuel from (find n cs) (found_sound levels fuel n cs ok)))
 action_sound levels root fuel (Fork n) u cs may top ok passes = (
   record { sum = top.sum; devices = top.devices },
-  put_sound levels fuel n _ cs may.0 ok may.1 (child_sound (pred levels) fuel (after_fork u) u root (find n cs) top (fork_alike u) (found_sound levels fuel n cs ok)),
+  put_sound levels fuel n _ cs may.below ok may.children.0 (child_sound (pred levels) fuel (after_fork u) u root (find n cs) top (fork_alike u) (found_sound levels fuel n cs ok)),
 )
 action_sound levels root fuel (Wait n) u cs may top ok passes =
     let c = or_fresh u (option_map top_of (find n cs)) in
     (caller_sound fuel root u (after_wait c u) (wait_alike c u) top, remove_sound levels fuel 0 n cs ok)
 action_sound levels root fuel (Tfork n) u cs may top ok passes = (
   record { sum = top.sum; devices = top.devices },
-  put_sound levels fuel n _ cs may.0 ok may.1 (child_sound (pred levels) fuel (after_thread_fork u) u root (find n cs) top (thread_fork_alike u) (found_sound levels fuel n cs ok)),
+  put_sound levels fuel n _ cs may.below ok may.children.0 (child_sound (pred levels) fuel (after_thread_fork u) u root (find n cs) top (thread_fork_alike u) (found_sound levels fuel n cs ok)),
 )
 action_sound levels root fuel (Tjoin n) u cs may top ok passes =
     let c = or_fresh u (option_map top_of (find n cs)) in
     (caller_sound fuel root u (after_join c u) (join_alike c u) top, ok)
-action_sound levels root fuel (Ret value) u cs may top ok passes = absurd may
-action_sound levels root fuel (ConsoleOut addr len) u cs may top ok passes = absurd may
-action_sound levels root fuel (ConsoleIn addr len) u cs may top ok passes = absurd may
-action_sound levels root fuel Clock u cs may top ok passes = absurd may
-action_sound levels root fuel Random u cs may top ok passes = absurd may
-action_sound levels root fuel (File call) u cs may top ok passes = absurd may
+action_sound levels root fuel (File call) u cs may top ok passes = let none = file_meets_none call in let some = may.meets in cc
+action_sound levels root fuel k u cs may top ok passes = let some = may.meets in cc
 
 -- a caller that stops is as sound as it was
 unless_sound : (levels : ℕ) (root : Bool) (fuel : ℕ) (o : Option Refusal) (u : Top) (m : Meeting) (cs : Children) → IsSoundTop fuel root u → AreSound levels fuel 0 cs

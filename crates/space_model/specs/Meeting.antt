@@ -4,13 +4,15 @@
 -- Source: OSDI 2010, "Efficient System-Enforced Deterministic Parallelism", the kernel interface: the options of Put and Get, Tree among them, and
 -- that a byte which both sides changed stops the merging space.
 -- Our choice: the order of the tests and of the parts, that all tests come before any change, and that Tree is a copy.
-use Rattle.std.specs.Prelude.{ℕ, ◌+◌, List, [], ◌∷◌, Option, Some, None, option_map, Bool, if◌then◌else◌, ◌≤◌, nat_lt}
+use Rattle.std.specs.Prelude.{◌≡◌, ℕ, ◌+◌, List, [], ◌∷◌, Option, Some, None, option_map, Bool, true, if◌then◌else◌, ◌≤◌, nat_lt}
 use Rattle.memory_model.specs.Memory.{Memory, may_read, may_write}
 use Rattle.merge_model.specs.Merge.{first_conflict}
 use Rattle.call_model.specs.declared.Transfer.{Transfer}
 use Rattle.call_model.specs.declared.Call.{Call}
 use Rattle.call_model.specs.declared.Call.TheVariants.{Put, PutTree, Get, GetTree, Fork, Wait, Tfork, Tjoin}
-use Rattle.call_model.specs.Limits.{IsChild, block_size}
+use Rattle.call_model.specs.Limits.{AreChildren, block_size}
+use Rattle.call_model.specs.Calls.{meets_children}
+use Rattle.call_model.specs.Reading.{kind_in, children_in, levels_in}
 use Rattle.call_model.specs.Options.{has, regs, merging}
 use Rattle.space_model.specs.declared.Cause.{Cause}
 use Rattle.space_model.specs.declared.Cause.TheVariants.{LoadFault, StoreFault, Badcall, Conflict}
@@ -129,14 +131,9 @@ meeting levels k t seen = unless_refused (first_refusal (refusals levels k t see
 abbrev pub meet : ℕ → Call → Top → Children → Space
 meet levels k t cs = apply_meeting (meeting levels k t (seen_of (awaits k) cs)) cs
 
--- a call that may meet a child, with so many levels of children left below its caller
-abbrev pub MayMeet : ℕ → Call → Type 0
-MayMeet levels (Put x) = (1 ≤ levels) × IsChild x.child
-MayMeet levels (PutTree child from to) = (2 ≤ levels) × IsChild child × IsChild from × IsChild to
-MayMeet levels (Get x) = IsChild x.child
-MayMeet levels (GetTree child from to) = IsChild child × IsChild from × IsChild to
-MayMeet levels (Fork child) = (1 ≤ levels) × IsChild child
-MayMeet levels (Wait child) = IsChild child
-MayMeet levels (Tfork child) = (1 ≤ levels) × IsChild child
-MayMeet levels (Tjoin child) = IsChild child
-MayMeet levels k = ⊥
+-- a call that may meet children, with so many levels of children left below its caller: its kind meets some, it makes no space below the
+-- last level, and what it names as a child has a number that fits
+pub record MayMeet (levels : ℕ) (k : Call) : Type 0 where
+  pub meets : meets_children (kind_in k) ≡ true
+  pub below : levels_in k ≤ levels
+  pub children : AreChildren (children_in k)

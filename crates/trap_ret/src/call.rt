@@ -2,17 +2,18 @@ ghost use Rattle.std.specs.Prelude.{◌≡◌, ◌<◌, false};
 ghost use Rattle.call_model.specs.declared.Call.TheVariants.{File};
 ghost use Rattle.call_model.specs.declared.Kind.TheVariants as kinds;
 ghost use Rattle.call_model.specs.Limits.{IsChild};
+ghost use Rattle.call_model.specs.Calls as calls;
 ghost use Rattle.call_model.specs.Tests as table;
 ghost use Rattle.call_model.specs.Reading as reading;
 ghost use Rattle.call_model.specs.Reading.{IsAccepted};
 
 use crate::checks::{
-    argument, outside_root, too_deep, too_long, wrong_block, wrong_child, wrong_options,
-    wrong_range,
+    argument, wrong_block, wrong_children, wrong_depth, wrong_lengths, wrong_options, wrong_place,
+    wrong_ranges,
 };
-use crate::kinds::kind_of;
 use crate::options::{TREE, has};
-use call_model::{Badcall, Call, FileCall, Kind, Transfer};
+use crate::rows::{kind_of, row};
+use call_model::{Badcall, Call, FileCall, Kind, Row, Transfer};
 use std::marker::Model;
 
 /// A call that passed the tests on registers. Options of Put and Get stand together; with Copy, Zero, Merge or Perm the
@@ -101,23 +102,23 @@ fn file_get(x: &[u32; 32]) -> FileCall
     }
 }
 
-// The number of the first test that a call of this kind fails.
-fn first_failing(kind: Kind, x: &[u32; 32], is_root: bool, depth: u8) -> Option<u8>
-    ensures { result ≡ table.first_failing kind x.now is_root depth }
+// The number of the first test that a call of this row fails.
+fn first_failing(row: Row, x: &[u32; 32], is_root: bool, depth: u8) -> Option<u8>
+    ensures { result ≡ table.first_of table.tests row x.now is_root depth }
 {
-    if wrong_options(kind, x) {
+    if wrong_options(row.options, x) {
         Some(2)
-    } else if wrong_child(kind, x) {
+    } else if wrong_children(row.children, x) {
         Some(3)
-    } else if wrong_range(kind, x) {
+    } else if wrong_ranges(row.ranges, x) {
         Some(4)
-    } else if outside_root(kind, is_root) {
+    } else if wrong_place(row.device, is_root) {
         Some(6)
-    } else if too_long(kind, x) {
+    } else if wrong_lengths(row.ranges, x) {
         Some(7)
-    } else if too_deep(kind, x, depth) {
+    } else if wrong_depth(row, x, depth) {
         Some(8)
-    } else if wrong_block(kind, x) {
+    } else if wrong_block(row.options, x) {
         Some(9)
     } else {
         None
@@ -125,9 +126,9 @@ fn first_failing(kind: Kind, x: &[u32; 32], is_root: bool, depth: u8) -> Option<
 }
 
 // The call of a kind, with registers that fail no test.
-#[tactic(auto, unfolding(call_model::specs::Tests::wrong_child))]
+#[tactic(auto, unfolding(call_model::specs::Tests::wrong_children))]
 fn call_of(kind: Kind, x: &[u32; 32]) -> Call
-    requires { table.wrong_child kind x.now ≡ false }
+    requires { table.wrong_children (calls.row kind).children x.now ≡ false }
     ensures { result ≡ reading.call_of kind x.now }
 {
     match kind {
@@ -202,7 +203,7 @@ pub fn read_call(x: &[u32; 32], is_root: bool, depth: u8) -> Result<AcceptedCall
     let Some(kind) = kind_of(argument(x, 7)) else {
         return Err(Badcall(1));
     };
-    match first_failing(kind, x, is_root, depth) {
+    match first_failing(row(kind), x, is_root, depth) {
         Some(number) => Err(Badcall(number)),
         None => Ok(AcceptedCall {
             call: call_of(kind, x),

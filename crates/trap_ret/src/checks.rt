@@ -1,5 +1,4 @@
-ghost use Rattle.std.specs.Prelude.{◌≡◌, ◌+◌, ◌<◌, ◌≤◌, nat_lt};
-ghost use Rattle.call_model.specs.Limits.{greatest_length};
+ghost use Rattle.std.specs.Prelude.{◌≡◌, ◌+◌, ◌<◌};
 ghost use Rattle.call_model.specs.Options as options_of;
 ghost use Rattle.call_model.specs.Tests as table;
 
@@ -7,7 +6,7 @@ use crate::limits::{GREATEST_CHILD, GREATEST_DEPTH, GREATEST_LENGTH, LAST_BLOCK}
 use crate::options::{
     COPY, KNOWN, LIMIT, MERGE, PERM, PERMISSION, REGS, SNAP, START, TREE, ZERO, has,
 };
-use call_model::Kind;
+use call_model::{Children, Options, Ranges, Row};
 use memory_model::PAGE_SIZE;
 
 /// Argument `number` of a call, below 8: register a0 and those above it.
@@ -42,9 +41,9 @@ fn has_unknown(options: u32) -> bool
     options & KNOWN != options
 }
 
-#[tactic(auto, unfolding(call_model::specs::Options::bad_put_options))]
-fn bad_put_options(options: u32) -> bool
-    ensures { result ≡ options_of.bad_put_options options }
+#[tactic(auto, unfolding(call_model::specs::Options::wrong_put_options))]
+fn wrong_put_options(options: u32) -> bool
+    ensures { result ≡ options_of.wrong_put_options options }
 {
     has_unknown(options)
         || has_clash(options)
@@ -52,9 +51,9 @@ fn bad_put_options(options: u32) -> bool
         || has(options, MERGE)
 }
 
-#[tactic(auto, unfolding(call_model::specs::Options::bad_get_options))]
-fn bad_get_options(options: u32) -> bool
-    ensures { result ≡ options_of.bad_get_options options }
+#[tactic(auto, unfolding(call_model::specs::Options::wrong_get_options))]
+fn wrong_get_options(options: u32) -> bool
+    ensures { result ≡ options_of.wrong_get_options options }
 {
     has_unknown(options)
         || has_clash(options)
@@ -69,8 +68,8 @@ fn passes_end(address: u32, size: u32) -> bool
     u64::from(address) + u64::from(size) > 1 << 32
 }
 
-fn is_no_range(address: u32, size: u32) -> bool
-    ensures { result ≡ options_of.is_no_range address size }
+fn wrong_range(address: u32, size: u32) -> bool
+    ensures { result ≡ options_of.wrong_range address size }
 {
     address % PAGE_SIZE != 0 || size % PAGE_SIZE != 0 || passes_end(address, size)
 }
@@ -81,166 +80,136 @@ fn has_range(options: u32) -> bool
     has(options, COPY) || has(options, ZERO) || has(options, MERGE) || has(options, PERM)
 }
 
-#[tactic(auto, unfolding(call_model::specs::Options::bad_ranges))]
-fn bad_ranges(options: u32, source: u32, destination: u32, size: u32) -> bool
-    ensures { result ≡ options_of.bad_ranges options source destination size }
+#[tactic(auto, unfolding(call_model::specs::Options::wrong_pages))]
+fn wrong_pages(options: u32, source: u32, destination: u32, size: u32) -> bool
+    ensures { result ≡ options_of.wrong_pages options source destination size }
 {
-    (has_range(options) && is_no_range(destination, size))
-        || (has(options, COPY) && is_no_range(source, size))
+    (has_range(options) && wrong_range(destination, size))
+        || (has(options, COPY) && wrong_range(source, size))
 }
 
-#[tactic(auto, unfolding(call_model::specs::Options::bad_block))]
-fn bad_block(options: u32, block: u32) -> bool
-    ensures { result ≡ options_of.bad_block options block }
+#[tactic(auto, unfolding(call_model::specs::Options::wrong_block_address))]
+fn wrong_block_address(options: u32, block: u32) -> bool
+    ensures { result ≡ options_of.wrong_block_address options block }
 {
     has(options, REGS) && (block % 4 != 0 || block > LAST_BLOCK)
 }
 
 // What says yes or no is neither 1 nor 0.
-fn is_no_choice(number: u32) -> bool
-    ensures { result ≡ table.is_no_choice number }
+fn wrong_choice(number: u32) -> bool
+    ensures { result ≡ table.wrong_choice number }
 {
     number > 1
 }
 
-/// Test 2: options that do not stand, or do not stand together; of a file call, a choice that is none.
+/// Test 2: options that do not stand, or do not stand together; or a choice that is none.
 #[tactic(auto, unfolding(call_model::specs::Tests::wrong_options))]
-pub(crate) fn wrong_options(kind: Kind, x: &[u32; 32]) -> bool
-    ensures { result ≡ table.wrong_options kind x.now }
+pub(crate) fn wrong_options(options: Options, x: &[u32; 32]) -> bool
+    ensures { result ≡ table.wrong_options options x.now }
 {
-    match kind {
-        Kind::Put => bad_put_options(argument(x, 0)),
-        Kind::Get => bad_get_options(argument(x, 0)),
-        Kind::FileNew => is_no_choice(argument(x, 3)),
-        Kind::FilePut => is_no_choice(argument(x, 5)),
-        _ => false,
+    match options {
+        Options::Put => wrong_put_options(argument(x, 0)),
+        Options::Get => wrong_get_options(argument(x, 0)),
+        Options::ChoiceInA3 => wrong_choice(argument(x, 3)),
+        Options::ChoiceInA5 => wrong_choice(argument(x, 5)),
+        Options::Nothing => false,
     }
 }
 
-fn is_no_child(number: u32) -> bool
-    ensures { result ≡ table.is_no_child number }
+fn wrong_child(number: u32) -> bool
+    ensures { result ≡ table.wrong_child number }
 {
     number > GREATEST_CHILD
 }
 
-// The child of Put or Get, with Tree the child that is copied and the one that it is copied to as well.
-fn wrong_tree(x: &[u32; 32]) -> bool
-    ensures { result ≡ table.wrong_tree x.now }
-{
-    is_no_child(argument(x, 1))
-        || (has(argument(x, 0), TREE)
-            && (is_no_child(argument(x, 3)) || is_no_child(argument(x, 4))))
-}
-
 /// Test 3: a child number above the greatest.
-#[tactic(auto, unfolding(call_model::specs::Tests::wrong_child))]
-pub(crate) fn wrong_child(kind: Kind, x: &[u32; 32]) -> bool
-    ensures { result ≡ table.wrong_child kind x.now }
+#[tactic(auto, unfolding(call_model::specs::Tests::wrong_children))]
+pub(crate) fn wrong_children(children: Children, x: &[u32; 32]) -> bool
+    ensures { result ≡ table.wrong_children children x.now }
 {
-    match kind {
-        Kind::Put | Kind::Get => wrong_tree(x),
-        Kind::Fork | Kind::Wait | Kind::Tfork | Kind::Tjoin => is_no_child(argument(x, 1)),
-        _ => false,
+    match children {
+        Children::Nobody => false,
+        Children::One => wrong_child(argument(x, 1)),
+        Children::Tree => {
+            wrong_child(argument(x, 1))
+                || (has(argument(x, 0), TREE)
+                    && (wrong_child(argument(x, 3)) || wrong_child(argument(x, 4))))
+        }
     }
 }
 
-// A file's name that passes the end of memory.
-fn wrong_name(x: &[u32; 32]) -> bool
-    ensures { result ≡ table.wrong_name x.now }
+/// Test 4: bytes that pass the end of memory, or ranges that do not suit the options.
+#[tactic(auto, unfolding(call_model::specs::Tests::wrong_ranges))]
+pub(crate) fn wrong_ranges(ranges: Ranges, x: &[u32; 32]) -> bool
+    ensures { result ≡ table.wrong_ranges ranges x.now }
 {
-    passes_end(argument(x, 1), argument(x, 2))
-}
-
-// The same of a name, or of the data or the buffer behind it.
-fn wrong_data(x: &[u32; 32]) -> bool
-    ensures { result ≡ table.wrong_data x.now }
-{
-    wrong_name(x) || passes_end(argument(x, 3), argument(x, 4))
-}
-
-/// Test 4: a range of Put or Get, the bytes of console out, the buffer of console in, or what a file call names.
-#[tactic(auto, unfolding(call_model::specs::Tests::wrong_range))]
-pub(crate) fn wrong_range(kind: Kind, x: &[u32; 32]) -> bool
-    ensures { result ≡ table.wrong_range kind x.now }
-{
-    match kind {
-        Kind::Put | Kind::Get => bad_ranges(
+    match ranges {
+        Ranges::Nowhere => false,
+        Ranges::One => passes_end(argument(x, 1), argument(x, 2)),
+        Ranges::Two => {
+            passes_end(argument(x, 1), argument(x, 2)) || passes_end(argument(x, 3), argument(x, 4))
+        }
+        Ranges::Pages => wrong_pages(
             argument(x, 0),
             argument(x, 3),
             argument(x, 4),
             argument(x, 5),
         ),
-        Kind::ConsoleOut | Kind::ConsoleIn => passes_end(argument(x, 1), argument(x, 2)),
-        Kind::FilePut | Kind::FileGet => wrong_data(x),
-        Kind::FileNew | Kind::FileLength | Kind::FileDelete => wrong_name(x),
-        _ => false,
     }
 }
 
 /// Test 6: a call of a device outside the root.
-#[tactic(auto, unfolding(call_model::specs::Tests::outside_root))]
-pub(crate) fn outside_root(kind: Kind, is_root: bool) -> bool
-    ensures { result ≡ table.outside_root kind is_root }
+#[tactic(auto, unfolding(call_model::specs::Tests::wrong_place))]
+pub(crate) fn wrong_place(device: bool, is_root: bool) -> bool
+    ensures { result ≡ table.wrong_place device is_root }
 {
-    match kind {
-        Kind::ConsoleOut | Kind::ConsoleIn | Kind::Clock | Kind::Random => !is_root,
-        _ => false,
-    }
+    device && !is_root
 }
 
-fn is_too_long(length: u32) -> bool
-    ensures { result ≡ nat_lt greatest_length length }
+fn wrong_length(length: u32) -> bool
+    ensures { result ≡ table.wrong_length length }
 {
     length > GREATEST_LENGTH
 }
 
-// The name of a file that is too long, or the data or the buffer behind it.
-fn long_data(x: &[u32; 32]) -> bool
-    ensures { result ≡ table.long_data x.now }
-{
-    is_too_long(argument(x, 2)) || is_too_long(argument(x, 4))
-}
-
 /// Test 7: a length above the greatest.
-#[tactic(auto, unfolding(call_model::specs::Tests::too_long))]
-pub(crate) fn too_long(kind: Kind, x: &[u32; 32]) -> bool
-    ensures { result ≡ table.too_long kind x.now }
+#[tactic(auto, unfolding(call_model::specs::Tests::wrong_lengths))]
+pub(crate) fn wrong_lengths(ranges: Ranges, x: &[u32; 32]) -> bool
+    ensures { result ≡ table.wrong_lengths ranges x.now }
 {
-    match kind {
-        Kind::ConsoleOut | Kind::ConsoleIn | Kind::FileNew | Kind::FileLength | Kind::FileDelete =>
-            is_too_long(argument(x, 2)),
-        Kind::FilePut | Kind::FileGet => long_data(x),
-        _ => false,
+    match ranges {
+        Ranges::Nowhere | Ranges::Pages => false,
+        Ranges::One => wrong_length(argument(x, 2)),
+        Ranges::Two => wrong_length(argument(x, 2)) || wrong_length(argument(x, 4)),
     }
 }
 
-// How many levels below its caller a call makes spaces.
-fn new_levels(kind: Kind, x: &[u32; 32]) -> u32
-    ensures value { result ≡ table.new_levels kind x.now }
-    ensures small { result ≤ 2 }
+// The deepest level below its caller at which a call makes a space.
+fn new_levels(row: Row, x: &[u32; 32]) -> u8
+    ensures { result ≡ table.new_levels row x.now }
 {
-    match kind {
-        Kind::Put if has(argument(x, 0), TREE) => 2,
-        Kind::Put | Kind::Fork | Kind::Tfork => 1,
-        _ => 0,
+    if has(argument(x, 0), TREE) {
+        row.tree_levels
+    } else {
+        row.levels
     }
 }
 
 /// Test 8: a space that would be deeper than the deepest.
-#[tactic(auto, unfolding(call_model::specs::Tests::too_deep))]
-pub(crate) fn too_deep(kind: Kind, x: &[u32; 32], depth: u8) -> bool
-    ensures { result ≡ table.too_deep kind x.now depth }
+#[tactic(auto, unfolding(call_model::specs::Tests::wrong_depth))]
+pub(crate) fn wrong_depth(row: Row, x: &[u32; 32], depth: u8) -> bool
+    ensures { result ≡ table.wrong_depth row x.now depth }
 {
-    u32::from(depth) + new_levels(kind, x) > u32::from(GREATEST_DEPTH)
+    u32::from(depth) + u32::from(new_levels(row, x)) > u32::from(GREATEST_DEPTH)
 }
 
-/// Test 9: a register block that does not stand in memory.
+/// Test 9: a register block of Put or Get that does not stand in memory.
 #[tactic(auto, unfolding(call_model::specs::Tests::wrong_block))]
-pub(crate) fn wrong_block(kind: Kind, x: &[u32; 32]) -> bool
-    ensures { result ≡ table.wrong_block kind x.now }
+pub(crate) fn wrong_block(options: Options, x: &[u32; 32]) -> bool
+    ensures { result ≡ table.wrong_block options x.now }
 {
-    match kind {
-        Kind::Put | Kind::Get => bad_block(argument(x, 0), argument(x, 2)),
-        _ => false,
+    match options {
+        Options::Put | Options::Get => wrong_block_address(argument(x, 0), argument(x, 2)),
+        Options::Nothing | Options::ChoiceInA3 | Options::ChoiceInA5 => false,
     }
 }

@@ -5,9 +5,9 @@ mod block;
 mod call;
 mod causes;
 mod checks;
-mod kinds;
 pub mod limits;
 pub mod options;
+mod rows;
 mod waiting;
 
 pub use block::{read_block, reread_block, rewrite_block, write_block};
