@@ -5,22 +5,20 @@ use Rattle.std.proofs.lemmas.List.{append-nil}
 use Rattle.memory_model.specs.Memory.{may_read, may_write, first_without, bytes_from}
 use Rattle.instruction_model.specs.Outcome.{view_of, Outcome, goes, stores, calls, traps, outcome}
 use Rattle.call_model.specs.declared.Call.{Call}
-use Rattle.call_model.specs.declared.Call.TheVariants.{Get, Ret, ConsoleOut, ConsoleIn, Clock, Random, File, Wait, Tjoin}
+use Rattle.call_model.specs.declared.Call.TheVariants.{Ret, ConsoleOut, ConsoleIn, Clock, Random, File}
 use Rattle.call_model.specs.declared.Badcall as refusal
 use Rattle.call_model.specs.Limits.{greatest_depth}
 use Rattle.call_model.specs.Reading.{read}
 use Rattle.space_model.specs.declared.Status.{Status}
 use Rattle.space_model.specs.declared.Status.TheVariants.{Running, Stopped}
-use Rattle.space_model.specs.declared.Refusal.{Refusal}
 use Rattle.script_model.specs.Devices.{Devices}
 use Rattle.space_model.specs.Space.{Space, space, Top, Children, top_of, console_bytes}
 use Rattle.space_model.specs.Sound.{has_devices}
-use Rattle.space_model.specs.Call.{Seen, Meeting, first_top, seen_of}
+use Rattle.space_model.specs.Call.{seen_of}
 use Rattle.space_model.specs.Files.{file_call}
-use Rattle.space_model.specs.Refusals.{first_refusal}
-use Rattle.space_model.specs.Meeting.{awaits, meet, or_fresh, refusals, action, unless_refused}
+use Rattle.space_model.specs.Meeting.{awaits, meet}
 use Rattle.space_model.specs.Event.{Effect, becomes, asks, NextEvent, rests, moves, meets, charge, with_devices, output, console_out, input, console_in, next_number, clock, random, effect_of, after_file_call, by_reading, after_outcome, instruction, by_limit_left, by_fuel_left, by_status, next}
-use Rattle.space_model.proofs.Parts.{caller_alike, wait_alike, join_alike}
+use Rattle.space_model.proofs.Parts.{meeting_alike}
 use Rattle.space_model.proofs.Next.{next_meets, file_call_keeps}
 use Rattle.space_model.specs.declared.Reach.TheVariants.{Whole}
 use Rattle.space_model.specs.Sound.{IsSoundAt}
@@ -119,20 +117,8 @@ unfolding next
 next_writes levels t = status_writes levels t t.status
 
 -- a call that meets children leaves its caller's devices
-action_devices : (k : Call) (u : Top) (seen : List Seen) → (action k u seen).caller.devices ≡ u.devices
-action_devices (Get x) u seen = (caller_alike x (or_fresh u (first_top seen)) u).devices
-action_devices (Wait child) u seen = (wait_alike (or_fresh u (first_top seen)) u).devices
-action_devices (Tjoin child) u seen = (join_alike (or_fresh u (first_top seen)) u).devices
-action_devices k u seen = refl
-
-unless_devices : (o : Option Refusal) (u : Top) (m : Meeting) → m.caller.devices ≡ u.devices → (unless_refused o u m).caller.devices ≡ u.devices
-unless_devices None u m h = h
-unless_devices (Some r) u m h = refl
-
 meet_devices : (levels : ℕ) (k : Call) (u : Top) (cs : Children) → (top_of (meet levels k u cs)).devices ≡ u.devices
-meet_devices levels k u cs =
-    let seen = seen_of (awaits k) cs in
-    unless_devices (first_refusal (refusals levels k u seen)) u (action k u seen) (action_devices k u seen)
+meet_devices levels k u cs = (meeting_alike levels k u (seen_of (awaits k) cs)).devices
 
 event_writes : (levels : ℕ) (x : NextEvent) (t : Top) (cs : Children) → next levels t ≡ x → HasWritten t (top_of (event levels x (space t cs)))
 event_writes levels rests t cs is = same_devices t t refl

@@ -6,7 +6,7 @@ use Rattle.std.specs.BTreeMap.{is_at}
 use Rattle.std.specs.Map.{lookup}
 use Rattle.call_model.specs.declared.Transfer.{Transfer}
 use Rattle.call_model.specs.declared.Call.{Call}
-use Rattle.call_model.specs.declared.Call.TheVariants.{Put, PutTree, Get, GetTree, Ret, ConsoleOut, ConsoleIn, Clock, Random, Fork, Wait, Tfork, Tjoin, File}
+use Rattle.call_model.specs.declared.Call.TheVariants.{Put, PutTree, Get, GetTree, Tjoin}
 use Rattle.call_model.specs.Options.{has}
 use Rattle.space_model.specs.declared.Refusal.{Refusal}
 use Rattle.space_model.specs.declared.Cause.TheVariants.{Conflict}
@@ -166,34 +166,12 @@ two_stops (Some p) b r h = h
 early_then : (levels : ℕ) (k : Call) (t : Top) (seen : List Seen) → first_refusal (early_refusals levels k t seen) ≡ None → first_refusal (refusals levels k t seen) ≡ last_refusal k t seen
 early_then levels (Get x) t seen h = three_tests _ _ _ h
 early_then levels (Tjoin n) t seen h = two_tests _ _ h
-early_then levels (Put x) t seen h = h
-early_then levels (PutTree n from to) t seen h = h
-early_then levels (GetTree n from to) t seen h = h
-early_then levels (Fork n) t seen h = h
-early_then levels (Wait n) t seen h = h
-early_then levels (Tfork n) t seen h = h
-early_then levels (Ret value) t seen h = h
-early_then levels (ConsoleOut addr len) t seen h = h
-early_then levels (ConsoleIn addr len) t seen h = h
-early_then levels Clock t seen h = h
-early_then levels Random t seen h = h
-early_then levels (File call) t seen h = h
+early_then levels k t seen h = h
 
 early_stops : (levels : ℕ) (k : Call) (t : Top) (seen : List Seen) (r : Refusal) → first_refusal (early_refusals levels k t seen) ≡ Some r → first_refusal (refusals levels k t seen) ≡ Some r
 early_stops levels (Get x) t seen r h = three_stops _ _ _ r h
 early_stops levels (Tjoin n) t seen r h = two_stops _ _ r h
-early_stops levels (Put x) t seen r h = h
-early_stops levels (PutTree n from to) t seen r h = h
-early_stops levels (GetTree n from to) t seen r h = h
-early_stops levels (Fork n) t seen r h = h
-early_stops levels (Wait n) t seen r h = h
-early_stops levels (Tfork n) t seen r h = h
-early_stops levels (Ret value) t seen r h = h
-early_stops levels (ConsoleOut addr len) t seen r h = h
-early_stops levels (ConsoleIn addr len) t seen r h = h
-early_stops levels Clock t seen r h = h
-early_stops levels Random t seen r h = h
-early_stops levels (File call) t seen r h = h
+early_stops levels k t seen r h = h
 
 unless_is : (o : Option Refusal) (k : Call) (s : Space)
     → unless_conflict o k s ≡ apply_meeting (unless_refused o (after_payment (top_of s) (top_of s)) (action k (after_payment (top_of s) (top_of s)) (seen_of (awaits k) (children_of s)))) (children_of s)

@@ -1,15 +1,12 @@
 -- How a space runs until it stops, over what its children do when they are waited for: by its next events, and until it has stopped.
 use Rattle.std.proofs.Common.{◌≡◌, ℕ, zero, suc, ◌≤◌, Bool, true, false, cond, List, ◌∷◌, Option, Some, None, refl, sym, ap, ◌∙◌, subst, arith}
 use Rattle.call_model.specs.declared.Call.{Call}
-use Rattle.call_model.specs.declared.Call.TheVariants.{Put, PutTree, Get, GetTree, Ret, ConsoleOut, ConsoleIn, Clock, Random, Fork, Wait, Tfork, Tjoin, File}
 use Rattle.space_model.specs.Stop.{is_stopped}
 use Rattle.space_model.specs.Space.{Space, space, Children, Top, top_of, children_of, find, over}
-use Rattle.space_model.specs.declared.Refusal.{Refusal}
 use Rattle.space_model.specs.declared.Await.{Await}
-use Rattle.space_model.specs.Call.{Seen, Meeting, first_top, seen_of, apply_meeting}
-use Rattle.space_model.specs.Meeting.{awaits, meet, or_fresh, refusals, action, unless_refused}
-use Rattle.space_model.specs.Refusals.{first_refusal}
-use Rattle.space_model.proofs.Parts.{caller_alike, wait_alike, join_alike}
+use Rattle.space_model.specs.Call.{seen_of}
+use Rattle.space_model.specs.Meeting.{awaits, meet}
+use Rattle.space_model.proofs.Parts.{meeting_alike}
 use Rattle.space_model.specs.Event.{NextEvent, rests, moves, meets, next, Follows}
 use Rattle.space_model.proofs.Children.{over_missing, over-at}
 use Rattle.run_model.specs.Demand.{Meaning, run_for, wait_for, wait_for_child, go_on, meaning, run, of_children, left_of}
@@ -32,30 +29,8 @@ run_on-follows f levels zero t u cs is = ap (λ v. run_on f levels (space v cs))
 run_on-follows f levels (suc n) t u cs is = run_on-moves f levels t is.0 cs is.1 ∙ run_on-follows f levels n is.0 u cs is.2
 
 -- a call changes nothing of what its caller has paid
-action_fuel : (k : Call) (u : Top) (seen : List Seen) (cs : Children) → (top_of (apply_meeting (action k u seen) cs)).fuel ≡ u.fuel
-action_fuel (Put x) u seen cs = refl
-action_fuel (PutTree child from to) u seen cs = refl
-action_fuel (Get x) u seen cs = (caller_alike x (or_fresh u (first_top seen)) u).fuel
-action_fuel (GetTree child from to) u seen cs = refl
-action_fuel (Fork child) u seen cs = refl
-action_fuel (Wait child) u seen cs = (wait_alike (or_fresh u (first_top seen)) u).fuel
-action_fuel (Tfork child) u seen cs = refl
-action_fuel (Tjoin child) u seen cs = (join_alike (or_fresh u (first_top seen)) u).fuel
-action_fuel (Ret value) u seen cs = refl
-action_fuel (ConsoleOut addr len) u seen cs = refl
-action_fuel (ConsoleIn addr len) u seen cs = refl
-action_fuel Clock u seen cs = refl
-action_fuel Random u seen cs = refl
-action_fuel (File call) u seen cs = refl
-
-unless_fuel : (o : Option Refusal) (u : Top) (m : Meeting) (cs : Children) → (top_of (apply_meeting m cs)).fuel ≡ u.fuel → (top_of (apply_meeting (unless_refused o u m) cs)).fuel ≡ u.fuel
-unless_fuel None u m cs acts = acts
-unless_fuel (Some r) u m cs acts = refl
-
 pub meet_fuel : (levels : ℕ) (k : Call) (u : Top) (cs : Children) → (top_of (meet levels k u cs)).fuel ≡ u.fuel
-meet_fuel levels k u cs =
-    let seen = seen_of (awaits k) cs in
-    unless_fuel (first_refusal (refusals levels k u seen)) u (action k u seen) cs (action_fuel k u seen cs)
+meet_fuel levels k u cs = (meeting_alike levels k u (seen_of (awaits k) cs)).fuel
 
 -- a call takes one unit
 pub call_costs : (levels : ℕ) (t u : Top) (k : Call) → next levels t ≡ meets k u → suc u.fuel ≡ t.fuel

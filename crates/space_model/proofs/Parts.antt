@@ -1,8 +1,15 @@
--- What the parts of calls leave as it is: fuel, use and devices. A new part owes one line here.
-use Rattle.std.proofs.Common.{◌≡◌, ℕ, Bool, true, false, List, [], ◌∷◌, refl, ◌∙◌}
+-- What calls that meet children, and their parts, leave as it is: fuel, use and devices. A new part owes one line here.
+use Rattle.std.proofs.Common.{◌≡◌, ℕ, Bool, true, false, List, [], ◌∷◌, Option, Some, None, refl, ◌∙◌}
 use Rattle.call_model.specs.declared.Transfer.{Transfer}
+use Rattle.call_model.specs.declared.Call.{Call}
+use Rattle.call_model.specs.declared.Call.TheVariants.{Get, Wait, Tjoin}
 use Rattle.call_model.specs.Options.{has}
+use Rattle.space_model.specs.declared.Refusal.{Refusal}
 use Rattle.space_model.specs.Space.{Top}
+use Rattle.space_model.specs.Change.{after_success}
+use Rattle.space_model.specs.Call.{Meeting, Seen, first_top}
+use Rattle.space_model.specs.Refusals.{first_refusal}
+use Rattle.space_model.specs.Meeting.{or_fresh, refusals, action, unless_refused, meeting}
 use Rattle.space_model.specs.Runtime.{after_fork, after_thread_fork, after_join, after_wait}
 use Rattle.space_model.specs.Part.{Part, part_if, with_parts, put_parts, get_parts, child_after, caller_after}
 
@@ -85,3 +92,21 @@ join_alike c t = record { fuel = refl; used = refl; devices = refl }
 pub wait_alike : (c t : Top) → IsAlike t (after_wait c t)
 unfolding after_wait
 wait_alike c t = record { fuel = refl; used = refl; devices = refl }
+
+success_alike : (t u : Top) → IsAlike t u → IsAlike t (after_success u)
+success_alike t u a = record { fuel = a.fuel; used = a.used; devices = a.devices }
+
+-- a call that no test stops leaves its caller's
+action_alike : (k : Call) (t : Top) (seen : List Seen) → IsAlike t (action k t seen).caller
+action_alike (Get x) t seen = success_alike t _ (caller_alike x (or_fresh t (first_top seen)) t)
+action_alike (Wait child) t seen = success_alike t _ (wait_alike (or_fresh t (first_top seen)) t)
+action_alike (Tjoin child) t seen = success_alike t _ (join_alike (or_fresh t (first_top seen)) t)
+action_alike k t seen = record { fuel = refl; used = refl; devices = refl }
+
+unless_alike : (o : Option Refusal) (t : Top) (m : Meeting) → IsAlike t m.caller → IsAlike t (unless_refused o t m).caller
+unless_alike None t m acts = acts
+unless_alike (Some r) t m acts = record { fuel = refl; used = refl; devices = refl }
+
+-- so does any call
+pub meeting_alike : (levels : ℕ) (k : Call) (t : Top) (seen : List Seen) → IsAlike t (meeting levels k t seen).caller
+meeting_alike levels k t seen = unless_alike (first_refusal (refusals levels k t seen)) t (action k t seen) (action_alike k t seen)

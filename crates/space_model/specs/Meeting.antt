@@ -4,7 +4,7 @@
 -- Source: OSDI 2010, "Efficient System-Enforced Deterministic Parallelism", the kernel interface: the options of Put and Get, Tree among them, and
 -- that a byte which both sides changed stops the merging space.
 -- Our choice: the order of the tests and of the parts, that all tests come before any change, and that Tree is a copy.
-use Rattle.std.specs.Prelude.{◌≡◌, ℕ, ◌+◌, List, [], ◌∷◌, Option, Some, None, option_map, Bool, true, if◌then◌else◌, ◌≤◌, nat_lt}
+use Rattle.std.specs.Prelude.{◌≡◌, ℕ, zero, suc, ◌+◌, List, [], ◌∷◌, Option, Some, None, option_map, Bool, true, if◌then◌else◌, ◌≤◌, nat_lt}
 use Rattle.memory_model.specs.Memory.{Memory, may_read, may_write}
 use Rattle.merge_model.specs.Merge.{first_conflict}
 use Rattle.call_model.specs.declared.Transfer.{Transfer}
@@ -41,6 +41,11 @@ itself n = record { number = n; reach = Itself }
 
 abbrev pub whole : ℕ → Await
 whole n = record { number = n; reach = Whole }
+
+-- so many children from this number on, each itself
+abbrev pub in_row : ℕ → ℕ → List Await
+in_row first zero = []
+in_row first (suc count) = itself first ∷ in_row (first + 1) count
 
 -- the children that a call waits for, in this order
 abbrev pub awaits : Call → List Await
