@@ -1,6 +1,8 @@
 -- Children that a call waits for run, or settle, one after another.
-use Rattle.std.proofs.Common.{◌≡◌, ℕ, zero, suc, pred, ◌+◌, ◌≤◌, ◌<◌, Bool, false, List, [], ◌∷◌, length, get_or, drop, refl, sym, ap, ◌∙◌, drop-cons, add-one}
+use Rattle.std.proofs.Common.{◌≡◌, ℕ, zero, suc, pred, ◌+◌, ◌≤◌, ◌<◌, Bool, false, List, [], ◌∷◌, Some, length, get_or, drop, refl, sym, ap, ◌∙◌, drop-cons, add-one}
+use Rattle.std.specs.Prelude.{slice_get}
 use Rattle.std.proofs.lemmas.List.{drop_all}
+use Rattle.std.proofs.lemmas.Option.{slice_get_within, get_or_from_slice_get}
 use Rattle.call_model.specs.declared.Call.{Call}
 use Rattle.space_model.specs.declared.Await.{Await}
 use Rattle.space_model.specs.declared.Reach.{Reach}
@@ -20,9 +22,12 @@ over_awaited f [] s = s
 over_awaited f (a ∷ others) s = over_awaited f others (under (over a.number (f a.reach)) s)
 
 -- one more is done
-pub over_awaited-more : (f : Reach → Space → Space) (all : List Await) (i : ℕ) (d : Await) (s r : Space) → i < length all → r ≡ under (over (get_or all i d).number (f (get_or all i d).reach)) s
+pub over_awaited-more : (f : Reach → Space → Space) (all : List Await) (i : ℕ) (a : Await) (s r : Space) → slice_get all i ≡ Some a → r ≡ under (over a.number (f a.reach)) s
     → over_awaited f (drop (i + 1) all) r ≡ over_awaited f (drop i all) s
-over_awaited-more f all i d s r h is = rw (is, add-one, drop-cons all i d h) refl
+over_awaited-more f all i a s r at is =
+    let within : i < length all = slice_get_within all i a at in
+    let item : get_or all i a ≡ a = get_or_from_slice_get all i a a at in
+    rw (is, add-one, drop-cons all i a within, item) refl
 
 -- and at the end all are
 pub over_awaited-done : (f : Reach → Space → Space) (all : List Await) (i : ℕ) (s : Space) → length all ≤ i → over_awaited f (drop i all) s ≡ s

@@ -45,7 +45,8 @@ fn wait_for(alloc: Global, call: Call, space: &mut Space, depth: u8) -> Result<(
     ensures { OnOk result (space.new ≡ with_awaited (levels_below depth) call space.old) }
 {
     let all = awaits(call);
-    for awaited in all.as_slice() {
+    for index in 0..all.len() {
+        let awaited = all.get(index);
         wait_for_child(alloc, space, awaited.number, awaited.reach, depth)?;
     }
     Ok(())

@@ -30,8 +30,9 @@ pub(crate) fn are_ready(call: AcceptedCall, children: &BTreeMap<u16, Space>) -> 
     ensures { result ≡ are_ready (awaits call) (children_from children.now.entries) }
 {
     let all = awaits(call.call());
-    for awaited in all.as_slice() {
-        if !is_ready(children, *awaited) {
+    for index in 0..all.len() {
+        let awaited = all.get(index);
+        if !is_ready(children, awaited) {
             return false;
         }
     }

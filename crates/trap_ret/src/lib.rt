@@ -15,4 +15,4 @@ pub use call::{AcceptedCall, read_call};
 pub use call_model::{Badcall, Block, Call, FileCall, Transfer};
 pub use causes::{cause_number, cause_of};
 pub use space_model::{Await, Cause, Reach, Status};
-pub use waiting::{Awaits, awaits};
+pub use waiting::{Awaited, awaits};

@@ -25,16 +25,16 @@ wait_for_child-returns t c = elim c.match-get_mut.branch [
       c.space.view_is w.in-None.ensures.value (ap (λ m. m.entries) c.get_mut.follows.holds-at-none))
 ]
 
-pub wait_for-loop-awaited-preserved : goal.wait_for-loop-awaited-preserved
-wait_for-loop-awaited-preserved t c = record {
-  same = over_awaited-more _ _ _ _ _ _ c.loop-awaited-test.true c.in_ok-wait_for_child.ensures ∙ c.loop-awaited.invariant.same;
-  sound = one_awaited _ _ _ _ _ c.loop-awaited.invariant.sound c.in_ok-wait_for_child.ensures;
+pub wait_for-loop-index-preserved : goal.wait_for-loop-index-preserved
+wait_for-loop-index-preserved t c = record {
+  same = over_awaited-more _ _ _ _ _ _ c.get-awaited.ensures c.in_ok-wait_for_child.ensures ∙ c.loop-index.invariant.same;
+  sound = one_awaited _ _ _ _ _ c.loop-index.invariant.sound c.in_ok-wait_for_child.ensures;
 }
 
 pub wait_for-returns : goal.wait_for-returns
 wait_for-returns t c =
-    sym (over_awaited-done _ _ _ _ c.loop-awaited-test.false) ∙ c.loop-awaited.invariant.same
-    ∙ awaited_all _ _ _ _ c.requires.sound (c.as_slice-awaited-items.ensures.value ∙ c.awaits-all.ensures)
+    sym (over_awaited-done _ _ _ _ (let end = c.len.ensures in let past = c.loop-index-test.false in omega arith)) ∙ c.loop-index.invariant.same
+    ∙ awaited_all _ _ _ _ c.requires.sound c.awaits-all.ensures
 
 pub meet-meet-requires-clause-may_meet : goal.meet-meet-requires-clause-may_meet
 meet-meet-requires-clause-may_meet t c = may_meet _ _ c.args.space.now c.requires.next

@@ -36,9 +36,9 @@ invariant-run-turns l = record {
 abbrev pub decreases-run-turns : goal.decreases-run-turns
 decreases-run-turns l = left_of (top_of l.space)
 
-abbrev pub invariant-wait_for-loop-awaited : goal.invariant-wait_for-loop-awaited
-invariant-wait_for-loop-awaited l = record {
-  same : over_awaited (end_of (pred (8 - l.depth))) (drop l.awaited-index l.awaited-items) l.space ≡ over_awaited (end_of (pred (8 - l.depth))) l.awaited-items l.fn.space;
+abbrev pub invariant-wait_for-loop-index : goal.invariant-wait_for-loop-index
+invariant-wait_for-loop-index l = record {
+  same : over_awaited (end_of (pred (8 - l.depth))) (drop l.index l.all) l.space ≡ over_awaited (end_of (pred (8 - l.depth))) l.all l.fn.space;
   sound : IsSoundBelow (8 - l.depth) l.space;
 }
 
