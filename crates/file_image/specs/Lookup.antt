@@ -6,7 +6,7 @@ use Rattle.file_model.specs.declared.FileError.{FileError}
 use Rattle.file_model.specs.Sizes.{slot_count}
 use Rattle.file_model.specs.File.{File}
 use Rattle.file_model.specs.Slots.{file_at, slot_start, is_in_use}
-use Rattle.file_model.specs.Operations.{Entry}
+use Rattle.file_model.specs.Operations.{Entry, with_content}
 
 -- the file whose fields stand in slot k
 abbrev pub file_in : (ℕ → ℕ) → ℕ → File
@@ -28,6 +28,16 @@ optional_entry bytes (Some k) = Some (entry_in bytes k)
 abbrev pub entry_answer : (ℕ → ℕ) → Result ℕ FileError → Result Entry FileError
 entry_answer bytes (Ok k) = Ok (entry_in bytes k)
 entry_answer bytes (Err e) = Err e
+
+-- what `put` makes of the file of a slot that was found
+abbrev pub put_answer : (ℕ → ℕ) → List ℕ → Bool → Result ℕ FileError → Result Entry FileError
+put_answer bytes part add (Ok k) = Ok (record { slot = k; file = with_content part add (file_in bytes k) })
+put_answer bytes part add (Err e) = Err e
+
+-- the slot that changes, or why none does
+abbrev pub slot_answer : Result Entry FileError → Result ℕ FileError
+slot_answer (Ok e) = Ok e.slot
+slot_answer (Err e) = Err e
 
 -- slot k is in use
 pub record HasFile (bytes : ℕ → ℕ) (k : ℕ) : Type 0 where

@@ -1,9 +1,9 @@
-ghost use Rattle.std.specs.Prelude.{◌≡◌, ◌<◌, ◌+◌, ◌%◌, ◌^◌, true, IfOk};
+ghost use Rattle.std.specs.Prelude.{◌≡◌, ◌<◌, ◌+◌, ◌%◌, ◌^◌, Bool, true, IfOk};
 ghost use Rattle.file_model.specs.Sizes.{slot_count};
 ghost use Rattle.file_model.specs.File.{is_name};
 ghost use Rattle.file_model.specs.Slots.{slots_of, with_slot, with_padding};
 ghost use Rattle.file_model.specs.Operations as files;
-ghost use Rattle.file_image.specs.Lookup.{file_in, HasFile};
+ghost use Rattle.file_image.specs.Lookup.{file_in, slot_answer, HasFile};
 ghost use Rattle.file_image.specs.Writes.{Applies};
 
 use crate::fields::is_deleted;
@@ -66,6 +66,29 @@ fn revive<B: FileBytes>(bytes: &mut B, slot: u32, append: bool)
     header.conflicted = false;
     header.deleted = false;
     write_header(bytes, slot, &header);
+}
+
+/// The slot in which `create` makes a file, or a deleted one anew; the error is that of `create`.
+pub fn create_slot<B: FileBytes>(bytes: &B, name: &[u8]) -> Result<u32, FileError>
+    ensures create { (append : Bool) → result ≡ slot_answer (files.create (slots_of (B.bytes bytes.now)) name.now append) }
+    ensures within { IfOk result (λ k. k < slot_count) }
+{
+    if !is_name(name) {
+        return Err(FileError::BadName);
+    }
+    match find(bytes, name) {
+        Some(slot) => {
+            if is_deleted(bytes, slot) {
+                Ok(slot)
+            } else {
+                Err(FileError::Exists)
+            }
+        }
+        None => match lowest_free(bytes) {
+            Some(slot) => Ok(slot),
+            None => Err(FileError::NoSlot),
+        },
+    }
 }
 
 /// Makes a file, or a deleted one anew. The header of the slot that it takes may be written.

@@ -15,11 +15,11 @@ mod taking;
 mod writing;
 
 pub use basing::mark_base;
-pub use editing::{create, delete};
+pub use editing::{create, create_slot, delete};
 pub use file_bytes::FileBytes;
 pub use file_model::FileError;
 pub use lookup::{find, lowest_free, used};
 pub use marking::touched;
-pub use putting::put;
-pub use reading::{get, len};
+pub use putting::{put, put_slot};
+pub use reading::{get, len, present};
 pub use reconciling::reconcile;

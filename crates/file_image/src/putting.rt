@@ -1,8 +1,8 @@
-ghost use Rattle.std.specs.Prelude.{◌≡◌, ◌≤◌, true, cond, length, nat_le, IfOk};
+ghost use Rattle.std.specs.Prelude.{◌≡◌, ℕ, ◌≤◌, List, true, cond, length, nat_le, IfOk};
 ghost use Rattle.file_model.specs.Sizes.{greatest_length};
 ghost use Rattle.file_model.specs.Slots.{slots_of, with_slot};
 ghost use Rattle.file_model.specs.Operations as files;
-ghost use Rattle.file_image.specs.Lookup.{file_in, HasFile};
+ghost use Rattle.file_image.specs.Lookup.{file_in, put_answer, HasFile};
 ghost use Rattle.file_image.specs.Writes.{Applies};
 
 use crate::editing::next_version;
@@ -36,13 +36,38 @@ fn write_content<B: FileBytes>(bytes: &mut B, slot: u32, part: &[u8], add: bool)
     write_bytes(bytes, slot, CONTENT + start, part);
 }
 
-// Whether a content stays short enough.
-fn is_room<B: FileBytes>(bytes: &B, slot: u32, part: &[u8], add: bool) -> bool
+// Whether a content stays short enough, of so many bytes, or with so many more.
+fn is_room<B: FileBytes>(bytes: &B, slot: u32, count: usize, add: bool) -> bool
     requires { HasFile (B.bytes bytes.now) slot }
-    ensures { result ≡ nat_le (length (files.new_content (file_in (B.bytes bytes.now) slot) part.now add)) greatest_length }
+    ensures { (part : List ℕ) → length part ≡ count → result ≡ nat_le (length (files.new_content (file_in (B.bytes bytes.now) slot) part add)) greatest_length }
 {
     let start = start_of(length(bytes, slot), add);
-    part.len() <= (GREATEST_LENGTH - start) as usize
+    count <= (GREATEST_LENGTH - start) as usize
+}
+
+/// The slot of a file whose content can be replaced by so many bytes, or added to by them; the error is that of `put`.
+pub fn put_slot<B: FileBytes>(
+    bytes: &B,
+    name: &[u8],
+    count: usize,
+    add: bool,
+) -> Result<u32, FileError>
+    ensures put { (part : List ℕ) → length part ≡ count → files.put (slots_of (B.bytes bytes.now)) name.now part add ≡ put_answer (B.bytes bytes.now) part add result }
+    ensures slot { IfOk result (λ k. HasFile (B.bytes bytes.now) k) }
+    ensures room { IfOk result (λ k. (part : List ℕ) → length part ≡ count → length (files.new_content (file_in (B.bytes bytes.now) k) part add) ≤ greatest_length) }
+{
+    match usable(bytes, name) {
+        Err(error) => Err(error),
+        Ok(slot) => {
+            if !add && is_append(bytes, slot) {
+                return Err(FileError::NotAppend);
+            }
+            if !is_room(bytes, slot, count, add) {
+                return Err(FileError::TooLong);
+            }
+            Ok(slot)
+        }
+    }
 }
 
 /// Replaces a file's content, or adds to it. The file's slot is ready.
@@ -56,15 +81,9 @@ pub fn put<B: FileBytes>(
     ensures applied { Applies (files.put (slots_of (B.bytes bytes.old)) name.now part.now add) result (B.bytes bytes.old) (B.bytes bytes.new) }
     ensures kept { B.keeps bytes.old bytes.new }
 {
-    match usable(bytes, name) {
+    match put_slot(bytes, name, part.len(), add) {
         Err(error) => Err(error),
         Ok(slot) => {
-            if !add && is_append(bytes, slot) {
-                return Err(FileError::NotAppend);
-            }
-            if !is_room(bytes, slot, part, add) {
-                return Err(FileError::TooLong);
-            }
             write_content(bytes, slot, part, add);
             Ok(())
         }

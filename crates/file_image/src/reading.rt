@@ -33,8 +33,8 @@ pub(crate) fn is_name(name: &[u8]) -> bool
     name.len() > 0 && name.len() <= GREATEST_NAME as usize && !has_zero(name)
 }
 
-// The slot of a name's file that is not deleted.
-pub(crate) fn present<B: FileBytes>(bytes: &B, name: &[u8]) -> Result<u32, FileError>
+/// The slot of a name's file that is not deleted; the error is that of `delete`.
+pub fn present<B: FileBytes>(bytes: &B, name: &[u8]) -> Result<u32, FileError>
     ensures present { files.present (slots_of (B.bytes bytes.now)) name.now ≡ entry_answer (B.bytes bytes.now) result }
     ensures slot { IfOk result (λ k. HasFile (B.bytes bytes.now) k) }
 {
