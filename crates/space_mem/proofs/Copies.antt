@@ -12,18 +12,15 @@ use Rattle.page_tree.specs.Blocks.{byte_in, within}
 use Rattle.page_tree.specs.Rows.{SameRow, SameOwners, IsTakenRow, IsPermittedRow}
 use Rattle.page_tree.specs.TreeRefs.{root_permission, root_page, root_own, root_row, AreWholeRoot, SameRoot}
 use Rattle.space_mem.specs.declared.table.PageTable.{PageTable}
-use Rattle.space_mem.specs.Held.{Marks, OwnSameOutside}
+use Rattle.space_mem.specs.Held.{IsOutside, KeepsMarksOutside, Marks}
 use Rattle.space_mem.specs.Moves.{HasMoved}
 use Rattle.space_mem.specs.Tables.{IsBare, IsTable, held_of, memory_of}
-use Rattle.space_mem.proofs.Tables.{byte_at-of, byte_at-high, byte_at-page, permission_at-of, permission_at-high, memory_is, memory_same, owned_at, owned_high, owned_same, marked_at, marked_same, same_held}
+use Rattle.space_mem.proofs.Tables.{byte_at-of, byte_at-high, byte_at-page, permission_at-of, permission_at-high, memory_is, memory_same, owned_same, marked_at, marked_same, same_held}
+use Rattle.space_mem.proofs.Kept.{table_keeps}
 
 pub at_error : {T E : Type 0} (r : Result T E) (P : Type 0) → P → OnErr r P
 at_error (Ok v) P p = tt
 at_error (Err e) P p = p
-
--- where a page lies
-abbrev pub IsOutside : ℕ → ℕ → ℕ → Type 0
-IsOutside first end p = (p < first) ⊎ (end ≤ p)
 
 side : (first end p : ℕ) → ((first ≤ p) × (p < end)) ⊎ IsOutside first end p
 side first end p = elim (cases_lt p first) [
@@ -173,11 +170,8 @@ copied_memory from first end source t s rise le reach copied =
           | inr after ↦ value_at-row_after (memory_of t).permissions first permission_row count p (omega arith) ∙ same
         ]
 
-pub copied_outside : (from first end : ℕ) (source : TreeRef) (t s : PageTable) → IsCopied from first end source t.pages s.pages → OwnSameOutside first end (held_of s) (held_of t)
-copied_outside from first end source t s copied p out = elim (cases_lt p 1048576) [
-  | inl below ↦ owned_at s.pages p below ∙ ap (λ b. cond b 1 0) (copied.own p below out) ∙ sym (owned_at t.pages p below)
-  | inr high ↦ owned_high s.pages p high ∙ sym (owned_high t.pages p high)
-]
+pub copied_outside : (from first end : ℕ) (source : TreeRef) (t s : PageTable) → IsCopied from first end source t.pages s.pages → IsMarked first end t.dirty s.dirty → KeepsMarksOutside first end (held_of t) (held_of s)
+copied_outside from first end source t s copied marked = table_keeps t s first end copied.own marked.other
 
 pub copied_marks : (from first end : ℕ) (source : TreeRef) (t s : PageTable) → IsCopied from first end source t.pages s.pages → IsMarked first end t.dirty s.dirty → Marks (held_of t) (held_of s)
 copied_marks from first end source t s copied marked p below clean =

@@ -1,6 +1,7 @@
 pub mod Lacks
 pub mod Strings
 pub mod Tables
+pub mod Kept
 pub mod Updates
 pub mod RangeEdits
 pub mod Dirty

@@ -12,7 +12,7 @@ use Rattle.page_tree.specs.Blocks.{byte_in, within}
 use Rattle.page_tree.specs.Rows.{IsPermittedRow, IsClearedRow}
 use Rattle.page_tree.specs.TreeRefs.{root_row, root_permission, root_page, root_own}
 use Rattle.space_mem.specs.declared.table.PageTable.{PageTable}
-use Rattle.space_mem.specs.Held.{Held, Marks, OwnSameOutside}
+use Rattle.space_mem.specs.Held.{Held, Marks}
 use Rattle.space_mem.specs.Tables.{memory_of, owned_of, marked_of, held_of}
 use Rattle.space_mem.proofs.Tables.{memory_is, byte_at-of, byte_at-high, byte_at-page, permission_at-of, permission_at-high, owned_at, owned_high, marked_at}
 use Rattle.space_mem.proofs.Updates.{in_range, before_range, after_range}
@@ -54,13 +54,6 @@ cleared_memory t s first end rise within_all cleared =
     outside : (a : ℕ) → (a / 4096 < first) ⊎ (end ≤ a / 4096) → value_at (with_row (memory_of t).bytes (4096 * first) (λ _. 0) (4096 * (end - first))) a ≡ byte_at (memory_of t) a
     outside a (inl before) = value_at-row_before (memory_of t).bytes (4096 * first) (λ _. 0) (4096 * (end - first)) a (omega arith)
     outside a (inr after) = value_at-row_after (memory_of t).bytes (4096 * first) (λ _. 0) (4096 * (end - first)) a (omega arith)
-
--- which pages are owned outside of a range
-pub own_outside : (t s : PageTable) (first end : ℕ) → ((p : ℕ) → p < 1048576 → ((p < first) ⊎ (end ≤ p)) → root_own s.pages p ≡ root_own t.pages p) → OwnSameOutside first end (held_of s) (held_of t)
-own_outside t s first end same p out = elim (cases_lt p 1048576) [
-  | inl below ↦ owned_at s.pages p below ∙ ap (λ b. cond b 1 0) (same p below out) ∙ sym (owned_at t.pages p below)
-  | inr high ↦ owned_high s.pages p high ∙ sym (owned_high t.pages p high)
-]
 
 -- a range is marked, and the bytes of pages beside it have not changed
 pub marks_range : (t s : PageTable) (d : TreeRef) (first end : ℕ) → IsPermittedRow 1048576 first end 1 (root_row d) (root_row s.dirty) → ((p : ℕ) → p < 1048576 → root_permission d p ≡ root_permission t.dirty p)

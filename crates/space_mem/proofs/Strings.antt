@@ -6,7 +6,7 @@ use Rattle.memory_model.specs.Memory.{Memory, byte_at, bytes_from}
 use Rattle.memory_model.specs.Ranges.{IsPageOf, IsZeroPage}
 use Rattle.memory_model.proofs.Runs.{bytes_from-more}
 
-bytes_from_is : (m : Memory) (a n : ℕ) (l : List ℕ) → length l ≡ n → ((k : ℕ) → k < n → byte_at m (a + k) ≡ slice_index l k) → l ≡ bytes_from m a n
+pub bytes_from_is : (m : Memory) (a n : ℕ) (l : List ℕ) → length l ≡ n → ((k : ℕ) → k < n → byte_at m (a + k) ≡ slice_index l k) → l ≡ bytes_from m a n
 bytes_from_is m a zero [] long same = refl
 bytes_from_is m a zero (x ∷ xs) long same = absurd (omega arith)
 bytes_from_is m a (suc n) [] long same = absurd (omega arith)

@@ -98,6 +98,9 @@ owned_same t s same = same_rows (λ q. cond (root_own s q) 1 0) (λ q. cond (roo
 pub marked_same : (t s : TreeRef) → ((p : ℕ) → p < 1048576 → root_permission s p ≡ root_permission t p) → marked_of s ≡ marked_of t
 marked_same t s same = same_rows (root_permission s) (root_permission t) 1048576 same
 
+pub marked_high : (t : TreeRef) (p : ℕ) → 1048576 ≤ p → value_at (marked_of t) p ≡ 0
+marked_high t p high = row_high (root_permission t) 1048576 p high
+
 pub marked_at : (t : TreeRef) (p : ℕ) → p < 1048576 → value_at (marked_of t) p ≡ root_permission t p
 marked_at t p below = row_at (root_permission t) 1048576 p below
 

@@ -27,7 +27,7 @@ use Rattle.page_tree.specs.Ready.{ReadyBlock, ReadyLimb, ReadyRoot}
 use Rattle.space_mem.specs.declared.table.PageTable.{PageTable}
 use Rattle.space_mem.specs.Held.{Held, Owns, owning, nothing_held, all_pages}
 use Rattle.space_mem.specs.Tables.{memory_of, owned_of, marked_of, held_of, IsTable}
-use Rattle.space_mem.proofs.Tables.{memory_is, memory_same, same_held, same_rows, row_is, owned_at, owned_high, owned_none, marked_at, byte_at-of, byte_at-high, permission_at-of, permission_at-high, small_byte, row_high, byte_at-page, whole_bytes}
+use Rattle.space_mem.proofs.Tables.{memory_is, memory_same, same_held, same_rows, row_is, owned_at, owned_high, owned_none, marked_at, byte_at-of, byte_at-high, permission_at-of, permission_at-high, small_byte, byte_at-page, marked_high, whole_bytes}
 
 pub at_error : {T E : Type 0} (r : Result T E) (P : Type 0) → P → OnErr r P
 at_error (Ok x) P p = tt
@@ -161,9 +161,6 @@ marked_one d e page below permitted = row_is (root_permission e) 1048576 (put (m
           value_at-put_other (marked_of d) page 1 k other ∙ marked_at d k low ∙ sym (permitted.permission k low ∙ ap (λ b. cond b 1 (root_permission d k)) out)
     ])
     (λ k high. value_at-put_other (marked_of d) page 1 k (λ same. omega arith) ∙ marked_high d k high)
-  where
-    marked_high : (d : TreeRef) (k : ℕ) → 1048576 ≤ k → value_at (marked_of d) k ≡ 0
-    marked_high d k high = row_high (root_permission d) 1048576 k high
 
 pub owned_one : (t s : TreeRef) (page : ℕ) → page < 1048576 → IsOwnedRoot page t s → owned_of s ≡ put (owned_of t) page 1
 owned_one t s page below owned = row_is (λ q. cond (root_own s q) 1 0) 1048576 (put (owned_of t) page 1)

@@ -33,9 +33,22 @@ IsClean h page = value_at h.dirty page ≡ 0
 abbrev pub all_pages : Sparse
 all_pages = with_row no_values 0 (λ _. 1) pages
 
--- two own the same of the pages outside of some in a row
-abbrev pub OwnSameOutside : ℕ → ℕ → Held → Held → Type 0
-OwnSameOutside first end g h = (page : ℕ) → (page < first) ⊎ (end ≤ page) → value_at g.owned page ≡ value_at h.owned page
+-- a page is owned, and dirty, exactly where it was
+pub record KeepsMarks (before after : Held) (page : ℕ) : Type 0 where
+  pub owned : value_at after.owned page ≡ value_at before.owned page
+  pub dirty : value_at after.dirty page ≡ value_at before.dirty page
+
+-- a page that is not one of those from one to before another
+abbrev pub IsOutside : ℕ → ℕ → ℕ → Type 0
+IsOutside first end page = (page < first) ⊎ (end ≤ page)
+
+-- each page outside of those from one to before another is owned, and dirty, exactly where it was
+abbrev pub KeepsMarksOutside : ℕ → ℕ → Held → Held → Type 0
+KeepsMarksOutside first end before after = (page : ℕ) → IsOutside first end page → KeepsMarks before after page
+
+-- a page that has none of so many addresses from one on
+abbrev pub HasNoneOf : ℕ → ℕ → ℕ → Type 0
+HasNoneOf at count page = (k : ℕ) → k < count → (at + k) / page_size ≡ page → ⊥
 
 -- two memories have the same bytes in a page
 abbrev pub SamePage : Memory → Memory → ℕ → Type 0

@@ -1,7 +1,7 @@
 ghost use Rattle.std.specs.Prelude.{◌≡◌, ℕ, ◌+◌, ◌*◌, ◌/◌, ◌%◌, ◌^◌, ◌<◌, ◌≤◌, ◌++◌, IfOk, IsOk, OnOk, OnErr, length, vec_len};
 ghost use Rattle.memory_model.specs.Memory.{bytes_from, with_bytes};
 ghost use Rattle.memory_model.specs.Sizes.{page_size, pages};
-ghost use Rattle.space_mem.specs.Held.{Marks, Owns};
+ghost use Rattle.space_mem.specs.Held.{HasNoneOf, KeepsMarksOutside, KeepsMarks, Marks, Owns};
 
 use crate::layout::Pages;
 use crate::memory::Mem;
@@ -45,8 +45,8 @@ impl Mem {
     }
 
     /// Writes bytes from an address on, whatever the permissions; they end within the memory. Each page
-    /// that has one of them is owned then, and each that was owned stays so. The one error is want of memory: no byte is written
-    /// then. It does not come where each of those pages was owned.
+    /// that has one of them is owned then, and each that was owned stays so; every other page is owned, and dirty, where it was. The
+    /// one error is want of memory: no byte is written then. It does not come where each of those pages was owned.
     pub fn write_bytes(&mut self, at: u32, bytes: &[u8]) -> Result<(), AllocError>
         requires { at + length bytes.now ≤ 2 ^ 32 }
         ensures ok { OnOk result (self.new.memory ≡ with_bytes self.old.memory at bytes.now) }
@@ -54,6 +54,7 @@ impl Mem {
         ensures owned { OnOk result ((k : ℕ) → k < length bytes.now → Owns self.new ((at + k) / 4096)) }
         ensures stays { (page : ℕ) → Owns self.old page → Owns self.new page }
         ensures idle { ((k : ℕ) → k < length bytes.now → Owns self.old ((at + k) / 4096)) → IsOk result }
+        ensures beside { (page : ℕ) → HasNoneOf at (length bytes.now) page → KeepsMarks self.old self.new page }
         ensures marks { Marks self.old self.new }
     {
         if bytes.is_empty() {
@@ -92,12 +93,14 @@ impl Mem {
     }
 
     /// Owns each page of a range; bytes and permissions stay, and so do the pages that were owned. The one error is want of
-    /// memory, which does not come where each page was owned: some pages of the range may be owned then that were not.
+    /// memory, which does not come where each page was owned: some pages of the range may be owned then that were not. Pages outside
+    /// the range are owned, and dirty, where they were.
     pub fn own(&mut self, range: Pages) -> Result<(), AllocError>
         ensures same { self.new.memory ≡ self.old.memory }
         ensures owned { OnOk result ((page : ℕ) → range.first ≤ page → page < range.first + range.count → Owns self.new page) }
         ensures stays { (page : ℕ) → Owns self.old page → Owns self.new page }
         ensures idle { ((page : ℕ) → range.first ≤ page → page < range.first + range.count → Owns self.old page) → IsOk result }
+        ensures outside { KeepsMarksOutside range.first (range.first + range.count) self.old self.new }
         ensures marks { Marks self.old self.new }
     {
         self.own_pages(range.first, range.first + range.count)
@@ -110,6 +113,7 @@ impl Mem {
         ensures owned { OnOk result ((page : ℕ) → first ≤ page → page < end → Owns self.new page) }
         ensures stays { (page : ℕ) → Owns self.old page → Owns self.new page }
         ensures idle { ((page : ℕ) → first ≤ page → page < end → Owns self.old page) → IsOk result }
+        ensures outside { KeepsMarksOutside first end self.old self.new }
         ensures marks { Marks self.old self.new }
     {
         for page in first..end {

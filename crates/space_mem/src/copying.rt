@@ -4,7 +4,7 @@ ghost use Rattle.memory_model.specs.Sizes.{pages};
 ghost use Rattle.page_tree.specs.Blocks.{byte_in, within, IsWhole};
 ghost use Rattle.page_tree.specs.Trees.{tree_pages};
 ghost use Rattle.page_tree.specs.TreeRefs.{root_page, root_permission, root_row, AreWholeRoot};
-ghost use Rattle.space_mem.specs.Held.{Marks, OwnSameOutside};
+ghost use Rattle.space_mem.specs.Held.{KeepsMarksOutside, Marks};
 ghost use Rattle.space_mem.specs.Moves.{HasMoved};
 ghost use Rattle.space_mem.specs.Tables.{IsTable, held_of, memory_of};
 
@@ -18,13 +18,13 @@ use std::alloc::{AllocError, Global};
 
 impl Mem {
     /// Gives the pages of a range the bytes and permissions of a source's pages from `from` on, which end within the memory.
-    /// Pages of the source that are not owned are shared, and others copied. Which other pages are owned stays. Its one error is want
-    /// of memory: nothing has changed then.
+    /// Pages of the source that are not owned are shared, and others copied. Which other pages are owned stays, and which of them are
+    /// dirty. Its one error is want of memory: nothing has changed then.
     pub fn copy_from(&mut self, source: &Mem, from: u32, to: Pages) -> Result<(), AllocError>
         requires { from + to.count ≤ 1048576 }
         ensures ok { OnOk result (self.new.memory ≡ with_copies self.old.memory source.now.memory from to.first to.count) }
         ensures err { OnErr result (self.new ≡ self.old) }
-        ensures outside { OnOk result (OwnSameOutside to.first (to.first + to.count) self.new self.old) }
+        ensures outside { KeepsMarksOutside to.first (to.first + to.count) self.old self.new }
         ensures marks { Marks self.old self.new }
     {
         self.table
@@ -49,7 +49,7 @@ impl PageTable {
         ensures table { IsTable self.new }
         ensures ok { OnOk result ((held_of self.new).memory ≡ with_copies (memory_of self.old.pages) (memory_of source.now.pages) from first (end - first)) }
         ensures err { OnErr result (held_of self.new ≡ held_of self.old) }
-        ensures outside { OnOk result (OwnSameOutside first end (held_of self.new) (held_of self.old)) }
+        ensures outside { KeepsMarksOutside first end (held_of self.old) (held_of self.new) }
         ensures marks { Marks (held_of self.old) (held_of self.new) }
     {
         if first == end {
@@ -68,7 +68,7 @@ impl PageTable {
         ensures table { IsTable self.new }
         ensures ok { OnOk result (memory_of self.new.pages ≡ with_copies (memory_of self.old.pages) (memory_of source.now.pages) 0 0 pages) }
         ensures err { OnErr result (self.new ≡ self.old) }
-        ensures outside { OnOk result (OwnSameOutside 0 pages (held_of self.new) (held_of self.old)) }
+        ensures outside { KeepsMarksOutside 0 pages (held_of self.old) (held_of self.new) }
         ensures marks { Marks (held_of self.old) (held_of self.new) }
     {
         let copied = source.pages.share(self.alloc)?;
@@ -93,7 +93,7 @@ impl PageTable {
         ensures table { IsTable self.new }
         ensures ok { OnOk result (memory_of self.new.pages ≡ with_copies (memory_of self.old.pages) (memory_of source.now.pages) from first (end - first)) }
         ensures err { OnErr result (held_of self.new ≡ held_of self.old) }
-        ensures outside { OnOk result (OwnSameOutside first end (held_of self.new) (held_of self.old)) }
+        ensures outside { KeepsMarksOutside first end (held_of self.old) (held_of self.new) }
         ensures marks { Marks (held_of self.old) (held_of self.new) }
     {
         let mut made = move_pages(&source.pages, from, first, end - first, self.alloc)?;

@@ -1,9 +1,9 @@
 ghost use Rattle.std.specs.Prelude.{◌≡◌, ℕ, ◌+◌, ◌*◌, ◌/◌, ◌%◌, ◌<◌, ◌≤◌, ◌^◌, length, IfOk, IfSome, IsNone, OnOk, OnErr, IsOk, IsTrue, if◌then◌else◌};
-ghost use Rattle.memory_model.specs.Memory.{byte_at, permission_at, may_read, may_fetch, may_write, width_bytes, number_from, with_bytes, with_permissions, first_without, bytes_from};
+ghost use Rattle.memory_model.specs.Memory.{byte_at, permission_at, may_read, may_fetch, may_write, width_bytes, number_from, with_byte, with_bytes, with_permissions, first_without, bytes_from};
 ghost use Rattle.memory_model.specs.Sparse.{no_values, put, value_at};
 ghost use Rattle.memory_model.specs.Ranges.{IsZeroPage, IsPageOf, IsBounded, IsNextPage, NoneUsed, with_copies, with_page, with_zeros};
 ghost use Rattle.page_store.specs.Bytes.{bytes_of};
-ghost use Rattle.space_mem.specs.Held.{Owns, OwnSameOutside, IsClean, Marks, IsNextDirty, AllClean, IsNextKept, AllZero, all_pages, nothing_held, owning, with_stored, with_written};
+ghost use Rattle.space_mem.specs.Held.{Owns, KeepsMarksOutside, IsClean, Marks, IsNextDirty, AllClean, IsNextKept, AllZero, all_pages, nothing_held, owning, with_stored, with_written};
 
 use crate::layout::Pages;
 use crate::table::PageTable;
@@ -135,12 +135,13 @@ impl Mem {
         self.table.try_store(at, width, value)
     }
 
-    /// Writes a byte, whatever the page's permission. The page is owned then. The one error is want of memory: nothing has
-    /// changed then. It does not come where the page was owned.
+    /// Writes a byte, whatever the page's permission. The page is owned then, and where it was owned nothing else changes. The one
+    /// error is want of memory: nothing has changed then. It does not come where the page was owned.
     pub fn write(&mut self, at: u32, byte: u8) -> Result<(), AllocError>
         ensures ok { OnOk result (self.new ≡ with_written self.old at byte) }
         ensures err { OnErr result (self.new ≡ self.old) }
         ensures owned { Owns self.old (at / 4096) → IsOk result }
+        ensures in_place { Owns self.old (at / 4096) → self.new ≡ record self.old { memory = with_byte self.old.memory at byte } }
         ensures marks { Marks self.old self.new }
     {
         self.own_page(at / 4096)?;
@@ -160,12 +161,12 @@ impl Mem {
             .set_permission(range.first, range.first + range.count, perm)
     }
 
-    /// Makes the bytes of each page of a range 0; permissions stay, and which other pages are owned. Its one error is want of
-    /// memory: nothing has changed then.
+    /// Makes the bytes of each page of a range 0; permissions stay, and which other pages are owned and dirty. Its one error is want
+    /// of memory: nothing has changed then.
     pub fn zero(&mut self, range: Pages) -> Result<(), AllocError>
         ensures ok { OnOk result (self.new.memory ≡ with_zeros self.old.memory range.first range.count) }
         ensures err { OnErr result (self.new ≡ self.old) }
-        ensures outside { OnOk result (OwnSameOutside range.first (range.first + range.count) self.new self.old) }
+        ensures outside { KeepsMarksOutside range.first (range.first + range.count) self.old self.new }
         ensures marks { Marks self.old self.new }
     {
         self.table.zero(range.first, range.first + range.count)
@@ -180,22 +181,24 @@ impl Mem {
     }
 
     /// Makes each page that is kept one that can be shared: bytes and permissions stay, and no page is owned then. A write to a
-    /// page that is shared copies it first. The one error is want of memory: some pages may be owned then as they were.
+    /// page that is shared copies it first. The one error is want of memory: some pages may be owned then as they were, and no other is.
     pub fn freeze(&mut self) -> Result<(), AllocError>
         ensures same { self.new.memory ≡ self.old.memory }
         ensures none { OnOk result (self.new.owned ≡ no_values) }
+        ensures less { (page : ℕ) → Owns self.new page → Owns self.old page }
         ensures dirty { self.new.dirty ≡ self.old.dirty }
     {
         self.table.freeze()
     }
 
     /// An equal memory, which no later write to this one changes. Both share all pages, and own none then. The one error is want of
-    /// memory: bytes and permissions are as they were then.
+    /// memory: bytes and permissions are as they were then, and no page is owned that was not.
     pub fn frozen(&mut self) -> Result<Mem, AllocError>
         ensures equal { IfOk result (λ m. m.memory ≡ self.old.memory) }
         ensures shared { IfOk result (λ m. m.owned ≡ no_values) }
         ensures same { self.new.memory ≡ self.old.memory }
         ensures none { OnOk result (self.new.owned ≡ no_values) }
+        ensures less { (page : ℕ) → Owns self.new page → Owns self.old page }
         ensures dirty { IfOk result (λ m. m.dirty ≡ self.old.dirty) }
         ensures stays { self.new.dirty ≡ self.old.dirty }
     {
@@ -245,13 +248,14 @@ impl Mem {
     }
 
     /// An equal memory, which no later write to this one changes; none of its pages is dirty. Both share all pages, and own none then. The one
-    /// error is want of memory: bytes and permissions are as they were then, and which pages are dirty.
+    /// error is want of memory: bytes and permissions are as they were then, and which pages are dirty, and no page is owned that was not.
     pub fn share(&mut self) -> Result<Mem, AllocError>
         ensures equal { IfOk result (λ m. m.memory ≡ self.old.memory) }
         ensures shared { IfOk result (λ m. m.owned ≡ no_values) }
         ensures clean { IfOk result (λ m. m.dirty ≡ no_values) }
         ensures same { self.new.memory ≡ self.old.memory }
         ensures none { OnOk result (self.new.owned ≡ no_values) }
+        ensures less { (page : ℕ) → Owns self.new page → Owns self.old page }
         ensures stays { self.new.dirty ≡ self.old.dirty }
     {
         self.table.freeze()?;
@@ -288,12 +292,13 @@ impl Mem {
         self.table.bounds();
     }
 
-    // Owns a page, which is dirty then. It takes no memory where the page is owned.
+    // Owns a page, which is dirty then. Where the page is owned, it takes no memory and changes nothing.
     pub(crate) fn own_page(&mut self, page: u32) -> Result<(), AllocError>
         requires { page < 1048576 }
         ensures ok { OnOk result (self.new ≡ owning self.old page self.old.memory) }
         ensures err { OnErr result (self.new ≡ self.old) }
         ensures idle { Owns self.old page → IsOk result }
+        ensures again { Owns self.old page → self.new ≡ self.old }
         ensures marks { Marks self.old self.new }
     {
         self.table.own_page(page)

@@ -10,7 +10,7 @@ use page_tree::TreeRef;
 use std::alloc::AllocError;
 
 impl PageTable {
-    // Owns a page, which is dirty then. It takes no memory where the page is owned.
+    // Owns a page, which is dirty then. Where the page is owned, it takes no memory and changes nothing.
     pub fn own_page(&mut self, page: u32) -> Result<(), AllocError>
         requires table { IsTable self.old }
         requires page { page < pages }
@@ -18,6 +18,7 @@ impl PageTable {
         ensures ok { OnOk result (held_of self.new ≡ owning (held_of self.old) page (memory_of self.old.pages)) }
         ensures err { OnErr result (held_of self.new ≡ held_of self.old) }
         ensures idle { Owns (held_of self.old) page → IsOk result }
+        ensures again { Owns (held_of self.old) page → held_of self.new ≡ held_of self.old }
         ensures marks { Marks (held_of self.old) (held_of self.new) }
     {
         if self.dirty.permission(page as usize) == 1 {

@@ -2,7 +2,7 @@ ghost use Rattle.std.specs.Prelude.{◌≡◌, ℕ, ◌+◌, ◌-◌, ◌<◌, �
 ghost use Rattle.memory_model.specs.Memory.{with_permissions};
 ghost use Rattle.memory_model.specs.Ranges.{with_zeros};
 ghost use Rattle.memory_model.specs.Sizes.{pages};
-ghost use Rattle.space_mem.specs.Held.{Marks, OwnSameOutside};
+ghost use Rattle.space_mem.specs.Held.{KeepsMarksOutside, Marks};
 ghost use Rattle.space_mem.specs.Tables.{IsTable, held_of, memory_of};
 
 use crate::table::PageTable;
@@ -37,7 +37,7 @@ impl PageTable {
         ensures table { IsTable self.new }
         ensures ok { OnOk result ((held_of self.new).memory ≡ with_zeros (memory_of self.old.pages) first (end - first)) }
         ensures err { OnErr result (held_of self.new ≡ held_of self.old) }
-        ensures outside { OnOk result (OwnSameOutside first end (held_of self.new) (held_of self.old)) }
+        ensures outside { KeepsMarksOutside first end (held_of self.old) (held_of self.new) }
         ensures marks { Marks (held_of self.old) (held_of self.new) }
     {
         if first == end {

@@ -15,6 +15,7 @@ impl PageTable {
         ensures table { IsTable self.new }
         ensures same { memory_of self.new.pages ≡ memory_of self.old.pages }
         ensures none { OnOk result ((held_of self.new).owned ≡ no_values) }
+        ensures less { (page : ℕ) → Owns (held_of self.new) page → Owns (held_of self.old) page }
         ensures dirty { (held_of self.new).dirty ≡ (held_of self.old).dirty }
     {
         self.pages.freeze(self.alloc)?;

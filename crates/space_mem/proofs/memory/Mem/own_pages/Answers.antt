@@ -1,12 +1,17 @@
-use Rattle.std.proofs.Common.{◌≡◌, ◌∙◌, ap, arith, refl, sym, subst, inl, inr}
+use Rattle.std.proofs.Common.{◌≡◌, ℕ, ◌<◌, ◌≤◌, ◌∙◌, ap, arith, refl, sym, subst, inl, inr}
 use Rattle.std.proofs.lemmas.Bool.{false≢true, cases_eq}
-use Rattle.space_mem.specs.Held.{Held, Owns}
+use Rattle.space_mem.specs.Held.{Held, IsOutside, Owns}
 use Rattle.space_mem.proofs.Dirty.{marks_refl, marks_then}
+use Rattle.space_mem.proofs.Kept.{keeps_beside, keeps_refl, keeps_same, keeps_then}
 use Rattle.space_mem.proofs.Updates.{owns_too}
 use Rattle.space_mem.proofs.memory.Mem.own_pages.Goals as goal
 
+beside : (q page first end : ℕ) → IsOutside first end q → q ≡ page → first ≤ page → page < end → ⊥
+beside q page first end (inl before) here low high = omega arith
+beside q page first end (inr after) here low high = omega arith
+
 pub loop-page-init : goal.loop-page-init
-loop-page-init c = record { same = refl; owned = λ q from to. absurd (omega arith); stays = λ q owns. owns; marks = marks_refl c.args.self.now }
+loop-page-init c = record { same = refl; owned = λ q from to. absurd (omega arith); stays = λ q owns. owns; outside = λ q out. keeps_refl c.args.self.now q; marks = marks_refl c.args.self.now }
 
 pub loop-page-preserved : goal.loop-page-preserved
 loop-page-preserved c =
@@ -20,6 +25,7 @@ loop-page-preserved c =
         | inr other ↦ owns_too mid c.own_page.new.self c.loop-page.page q h.ok (inr (inv.owned q from (omega (arith, other))))
       ];
       stays = λ q owns. owns_too mid c.own_page.new.self c.loop-page.page q h.ok (inr (inv.stays q owns));
+      outside = λ q out. keeps_then c.args.self.now mid c.own_page.new.self q (inv.outside q out) (keeps_beside mid c.own_page.new.self c.loop-page.page mid.memory q h.ok (λ here. beside q c.loop-page.page c.args.first c.args.end out here (omega arith) (omega arith)));
       marks = marks_then c.args.self.now mid c.own_page.new.self inv.marks h.marks;
     }
 
@@ -36,3 +42,6 @@ returns-in_err-own_page-clause-idle c owns =
 
 pub returns-in_err-own_page-clause-marks : goal.returns-in_err-own_page-clause-marks
 returns-in_err-own_page-clause-marks c = marks_then c.args.self.now c.loop-page.self c.own_page.new.self c.loop-page.invariant.marks c.in_err-own_page.ensures.marks
+
+pub returns-in_err-own_page-clause-outside : goal.returns-in_err-own_page-clause-outside
+returns-in_err-own_page-clause-outside c q out = keeps_then c.args.self.now c.loop-page.self c.own_page.new.self q (c.loop-page.invariant.outside q out) (keeps_same c.loop-page.self c.own_page.new.self q c.in_err-own_page.ensures.err)

@@ -1,8 +1,22 @@
-use Rattle.std.proofs.Common.{◌≡◌, ◌+◌, ◌-◌, ◌*◌, ◌/◌, ◌<◌, arith, length, subst, inl, inr}
+use Rattle.std.proofs.Common.{◌≡◌, ◌+◌, ◌-◌, ◌*◌, ◌/◌, ◌<◌, ◌≤◌, arith, ℕ, List, length, subst, inl, inr}
 use Rattle.std.proofs.lemmas.Bool.{cases_lt, false≢true}
 use Rattle.std.proofs.lemmas.Bool.Decides.{nat_tests}
-use Rattle.space_mem.specs.Held.{Owns}
+use Rattle.space_mem.specs.Held.{HasNoneOf, IsOutside, Owns}
+use Rattle.space_mem.proofs.Kept.{keeps_memory, keeps_refl, keeps_then}
 use Rattle.space_mem.proofs.memory.Mem.write_bytes.Goals as goal
+
+-- a page that has none of the bytes is outside of the pages that have some
+beside : (at count end page : ℕ) → 0 < count → at + count ≤ 4096 * end → 4096 * end < at + count + 4096 → HasNoneOf at count page → IsOutside (at / 4096) end page
+beside at count end page some reach most none = elim (cases_lt page (at / 4096)) [
+  | inl before ↦ inl before
+  | inr from ↦ elim (cases_lt page end) [
+    | inr after ↦ inr after
+    | inl within ↦ elim (cases_lt at (4096 * page)) [
+      | inl later ↦ absurd (none (4096 * page - at) (omega arith) (omega arith))
+      | inr earlier ↦ absurd (none 0 some (omega arith))
+    ]
+  ]
+]
 
 pub returns-in_err-own_pages-clause-idle : goal.returns-in_err-own_pages-clause-idle
 returns-in_err-own_pages-clause-idle c owns = absurd (false≢true (c.in_err-own_pages.ensures.idle (λ page from to. elim (cases_lt c.args.at (4096 * page)) [
@@ -14,3 +28,17 @@ returns-in_err-own_pages-clause-idle c owns = absurd (false≢true (c.in_err-own
       let some : 0 < length c.args.bytes.now = grind (arith, nat_tests, c.if-is_empty.ensures, c.is_empty.ensures) in
       subst (Owns c.args.self.now) same (owns 0 some)
 ])))
+
+pub returns-then-is_empty-clause-beside : goal.returns-then-is_empty-clause-beside
+returns-then-is_empty-clause-beside c page none = keeps_refl c.args.self.now page
+
+pub returns-in_err-own_pages-clause-beside : goal.returns-in_err-own_pages-clause-beside
+returns-in_err-own_pages-clause-beside c page none =
+    let some : 0 < length c.args.bytes.now = grind (arith, nat_tests, c.if-is_empty.ensures, c.is_empty.ensures) in
+    c.in_err-own_pages.ensures.outside page (beside c.args.at (length c.args.bytes.now) c.div_ceil-end.result page some (omega arith) (omega arith) none)
+
+pub returns-clause-beside : goal.returns-clause-beside
+returns-clause-beside c page none =
+    let some : 0 < length c.args.bytes.now = grind (arith, nat_tests, c.if-is_empty.ensures, c.is_empty.ensures) in
+    keeps_then c.args.self.now c.own_pages.new.self c.write_owned.new.self page (c.in_ok-own_pages.ensures.outside page (beside c.args.at (length c.args.bytes.now) c.div_ceil-end.result page some (omega arith) (omega arith) none))
+    (keeps_memory c.own_pages.new.self c.write_owned.new.self _ page c.write_owned.ensures.held)

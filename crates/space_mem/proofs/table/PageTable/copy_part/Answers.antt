@@ -2,6 +2,7 @@ use Rattle.std.proofs.Common.{◌≡◌, arith, refl}
 use Rattle.space_mem.specs.declared.table.PageTable.{PageTable}
 use Rattle.space_mem.specs.Tables.{held_of}
 use Rattle.space_mem.proofs.Copies.{IsCopied, IsMarked, at_error, copied_part, marked_part, marked_bare, copied_table, copied_memory, copied_outside, copied_marks, prepared_held, same_marks, same_row}
+use Rattle.space_mem.proofs.Kept.{table_kept}
 use Rattle.space_mem.proofs.table.PageTable.copy_part.Goals as goal
 
 pub returns-in_err-prepare-2-clause-err : goal.returns-in_err-prepare-2-clause-err
@@ -9,6 +10,24 @@ returns-in_err-prepare-2-clause-err c =
     let t : PageTable = c.args.self.now in
     let s : PageTable = record t { dirty = c.prepare-2.new.self } in
     at_error c.from_residual-in_err-prepare-2.result (held_of s ≡ held_of t) (prepared_held t s (same_row t.pages) (λ p below. refl) c.in_err-prepare-2.ensures.same)
+
+pub returns-in_err-made-clause-outside : goal.returns-in_err-made-clause-outside
+returns-in_err-made-clause-outside c = table_kept c.args.self.now c.args.self.now c.args.first c.args.end refl
+
+pub returns-in_err-prepare-clause-outside : goal.returns-in_err-prepare-clause-outside
+returns-in_err-prepare-clause-outside c = table_kept c.args.self.now c.args.self.now c.args.first c.args.end refl
+
+pub returns-in_err-prepare-2-clause-outside : goal.returns-in_err-prepare-2-clause-outside
+returns-in_err-prepare-2-clause-outside c =
+    let t : PageTable = c.args.self.now in
+    let s : PageTable = record t { dirty = c.prepare-2.new.self } in
+    table_kept t s c.args.first c.args.end (prepared_held t s (same_row t.pages) (λ p below. refl) c.in_err-prepare-2.ensures.same)
+
+pub returns-in_err-prepare-3-clause-outside : goal.returns-in_err-prepare-3-clause-outside
+returns-in_err-prepare-3-clause-outside c =
+    let t : PageTable = c.args.self.now in
+    let s : PageTable = record t { pages = c.prepare-3.new.self; dirty = c.prepare-2.new.self } in
+    table_kept t s c.args.first c.args.end (prepared_held t s c.in_err-prepare-3.ensures.same c.in_err-prepare-3.ensures.own c.in_ok-prepare-2.ensures.same)
 
 pub returns-in_err-prepare-2-clause-marks : goal.returns-in_err-prepare-2-clause-marks
 returns-in_err-prepare-2-clause-marks c =
@@ -45,6 +64,6 @@ returns c =
           (marked_bare first end t.dirty c.prepare-2.new.self s.dirty c.in_ok-prepare-2.ensures.same c.permit.ensures.permitted c.requires.table.bare);
       ok = copied_memory from first end source.pages t.pages s.pages (omega arith) c.requires.within c.requires.in_range copied;
       err = tt;
-      outside = copied_outside from first end source.pages t s copied;
+      outside = copied_outside from first end source.pages t s copied marked;
       marks = copied_marks from first end source.pages t s copied marked;
     }
