@@ -2,11 +2,12 @@
 use Rattle.std.specs.Prelude.{◌≡◌, ℕ, ◌+◌, ◌*◌, ◌/◌, ◌%◌, ◌<◌, ◌≤◌, List, [], ◌∷◌, ◌++◌, All, slice_index}
 use Rattle.std.proofs.Common.{sym, ◌∙◌, ap, arith, inl, inr, subst}
 use Rattle.std.proofs.lemmas.Bool.{cases_lt}
-use Rattle.std.proofs.lemmas.List.Elements.{All-nil, All-cons}
+use Rattle.std.proofs.lemmas.List.{get_or_default, same_lists}
+use Rattle.std.proofs.lemmas.List.Elements.{All-nil, All-cons, All-same}
 use Rattle.memory_model.specs.Memory.{Memory, byte_at}
 use Rattle.memory_model.specs.Ranges.{IsPageOf}
-use Rattle.space_mem.specs.Held.{Held, AllClean, AllZero, Covers}
-use Rattle.snapshot.specs.Pages.{AreChanged, SameBytes}
+use Rattle.space_mem.specs.Held.{Held, AllClean, AllZero, Covers, IsClean, SamePage}
+use Rattle.snapshot.specs.Pages.{AreChanged, IsMerged, IsPassedOver, SameBytes}
 
 -- pages of which neither memory has a byte other than 0
 pub same_zero : (m n : Memory) (from end : ℕ) → AllZero m from end → AllZero n from end → SameBytes m n from end
@@ -32,6 +33,11 @@ same_page m n page xs ys p q same a above below =
     let k = a % 4096 in
     let e : a ≡ 4096 * page + k = omega arith in
     ap (byte_at m) e ∙ p.byte k (omega arith) ∙ ap (λ l. slice_index l k) same ∙ sym (q.byte k (omega arith)) ∙ ap (byte_at n) (sym e)
+
+-- and pages of the same bytes are equal lists
+pub equal_bytes : (m n : Memory) (page : ℕ) (xs ys : List ℕ) → IsPageOf m page xs → IsPageOf n page ys → SamePage m n page → xs ≡ ys
+equal_bytes m n page xs ys p q same = same_lists xs ys (p.sized ∙ sym q.sized) (λ k d below. let low : k < 4096 = omega (arith, p.sized) in
+    get_or_default xs k d 0 below ∙ sym (p.byte k low) ∙ same k low ∙ q.byte k low ∙ sym (get_or_default ys k d 0 (omega (arith, q.sized))))
 
 pub same_join : (m n : Memory) (a b c : ℕ) → SameBytes m n a b → SameBytes m n b c → SameBytes m n a c
 same_join m n a b c p q k above below = elim (cases_lt k (4096 * b)) [
@@ -62,3 +68,13 @@ changed_push m n low end page (p ∷ ps) all le same =
 pub changed_below : (m n : Memory) (low end : ℕ) (ps : List ℕ) → AreChanged m n low end ps → end ≤ 1048576 → All (λ p. p < 1048576) ps
 changed_below m n low end [] all le = All-nil (λ p. p < 1048576)
 changed_below m n low end (p ∷ ps) all le = All-cons (λ q. q < 1048576) p ps (omega (arith, all.1.0)) (changed_below m n (p + 1) end ps all.1.1.1 le)
+
+-- a page that a merge passes over is none of those that it merges
+pub passed_over : (h : Held) (s : Memory) (first end page merged : ℕ) → IsPassedOver h s first end page → IsMerged h s first end merged → page ≡ merged → ⊥
+passed_over h s first end page merged (inl (inl before)) is here = omega (arith, is.above)
+passed_over h s first end page merged (inl (inr after)) is here = omega (arith, is.below)
+passed_over h s first end page merged (inr (inl clean)) is here = is.dirty (subst (IsClean h) here clean)
+passed_over h s first end page merged (inr (inr same)) is here = is.differs (subst (SamePage h.memory s) here same)
+
+pub none_merged : (h : Held) (s : Memory) (first end : ℕ) (ps : List ℕ) → ps ≡ [] → All (IsMerged h s first end) ps
+none_merged h s first end ps none = All-same (IsMerged h s first end) ps [] none (All-nil (IsMerged h s first end))

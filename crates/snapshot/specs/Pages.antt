@@ -1,9 +1,10 @@
 -- Pages of a range that a child changed, and what is merged of one page.
 -- Our choice: a restatement for proofs.
-use Rattle.std.specs.Prelude.{◌≡◌, ℕ, ◌+◌, ◌*◌, ◌<◌, ◌≤◌, false, true, List, [], ◌∷◌, slice_index}
+use Rattle.std.specs.Prelude.{◌≡◌, ℕ, ◌+◌, ◌*◌, ◌<◌, ◌≤◌, ◌⊎◌, false, true, List, [], ◌∷◌, slice_index}
 use Rattle.memory_model.specs.Memory.{Memory, byte_at}
 use Rattle.memory_model.specs.Sizes.{page_size, pages}
 use Rattle.merge_model.specs.Merge.{is_conflict, merged_byte}
+use Rattle.space_mem.specs.Held.{Held, IsClean, IsOutside, SamePage}
 
 -- two memories have the same bytes in the pages from one to before another
 abbrev pub SameBytes : Memory → Memory → ℕ → ℕ → Type 0
@@ -34,3 +35,15 @@ pub record IsFirstConflict (snapshot child parent : Memory) (page addr : ℕ) : 
   pub below : addr < page_size * (page + 1)
   pub here : is_conflict snapshot child parent addr ≡ true
   pub least : NoneInConflict snapshot child parent (page_size * page) addr
+
+-- a page that a merge of the pages from one to before another passes over: it is not one of them, or it is clean in the child, or it has the
+-- same bytes in child and snapshot
+abbrev pub IsPassedOver : Held → Memory → ℕ → ℕ → ℕ → Type 0
+IsPassedOver child snapshot first end page = IsOutside first end page ⊎ (IsClean child page ⊎ SamePage child.memory snapshot page)
+
+-- a page that it merges
+pub record IsMerged (child : Held) (snapshot : Memory) (first end page : ℕ) : Type 0 where
+  pub above : first ≤ page
+  pub below : page < end
+  pub dirty : IsClean child page → ⊥
+  pub differs : SamePage child.memory snapshot page → ⊥

@@ -1,9 +1,9 @@
-ghost use Rattle.std.specs.Prelude.{◌≡◌, ℕ, ◌*◌, ◌+◌, ◌<◌, ◌≤◌, IfErr, IfOk, OnOk, Some, None};
+ghost use Rattle.std.specs.Prelude.{◌≡◌, ℕ, ◌*◌, ◌+◌, ◌<◌, ◌≤◌, All, IfErr, IfOk, OnOk, Some, None};
 ghost use Rattle.memory_model.specs.Sizes.{page_size};
 ghost use Rattle.merge_model.specs.Merge.{first_conflict};
 ghost use Rattle.space_mem.specs.Held.{Covers};
 ghost use Rattle.snapshot.specs.Faults.{MayFail};
-ghost use Rattle.snapshot.specs.Pages.{AreChanged, NoneInConflict};
+ghost use Rattle.snapshot.specs.Pages.{AreChanged, IsMerged, NoneInConflict};
 
 use crate::fault::MergeError;
 use crate::page::{SIZE, merge_in_page};
@@ -20,6 +20,7 @@ pub fn changed_pages(
 ) -> Result<Vec<u32>, MergeError>
     requires covers { Covers child.now snapshot.now.memory }
     ensures changed { IfOk result (λ changed. AreChanged child.now.memory snapshot.now.memory range.first (range.first + range.count) changed.items) }
+    ensures each { IfOk result (λ changed. All (IsMerged child.now snapshot.now.memory range.first (range.first + range.count)) changed.items) }
     ensures sure { OnOk result (NoneInConflict snapshot.now.memory child.now.memory parent.now.memory (page_size * range.first) (page_size * (range.first + range.count))) }
     ensures conflict { IfErr result (MayFail (first_conflict snapshot.now.memory child.now.memory parent.now.memory range.first range.count)) }
 {

@@ -1,9 +1,9 @@
 ghost use Rattle.std.specs.Prelude.{◌≡◌, ℕ, ◌*◌, ◌+◌, ◌<◌, ◌≤◌, All, IfErr, IsOk, OnErr, OnOk, Some, None};
 ghost use Rattle.memory_model.specs.Sizes.{page_size, pages};
 ghost use Rattle.merge_model.specs.Merge.{first_conflict, with_merge};
-ghost use Rattle.space_mem.specs.Held.{Covers, Marks, Owns};
+ghost use Rattle.space_mem.specs.Held.{Covers, KeepsMarks, Marks, Owns};
 ghost use Rattle.snapshot.specs.Faults.{MayFail};
-ghost use Rattle.snapshot.specs.Pages.{AreChanged, NoneInConflict};
+ghost use Rattle.snapshot.specs.Pages.{AreChanged, IsPassedOver, NoneInConflict};
 
 use crate::changes::changed_pages;
 use crate::fault::MergeError;
@@ -18,6 +18,7 @@ fn own_each(memory: &mut Mem, each: &[u32]) -> Result<(), AllocError>
     ensures same { memory.new.memory ≡ memory.old.memory }
     ensures owned { OnOk result (All (Owns memory.new) each.now) }
     ensures stays { (page : ℕ) → Owns memory.old page → Owns memory.new page }
+    ensures others { (page : ℕ) → All (λ own. page ≡ own → ⊥) each.now → KeepsMarks memory.old memory.new page }
     ensures marks { Marks memory.old memory.new }
 {
     for page in each {
@@ -43,6 +44,7 @@ fn merge_one(
     ensures ok { OnOk result (parent.new.memory ≡ with_merge snapshot.now.memory child.now.memory parent.old.memory page 1) }
     ensures sure { IsOk result }
     ensures stays { (p : ℕ) → Owns parent.old p → Owns parent.new p }
+    ensures others { (p : ℕ) → (p ≡ page → ⊥) → KeepsMarks parent.old parent.new p }
     ensures marks { Marks parent.old parent.new }
 {
     if !merge_in_page(parent, child, snapshot, page, scratch)? {
@@ -66,6 +68,7 @@ fn merge_each(
     ensures ok { OnOk result (parent.new.memory ≡ with_merge snapshot.now.memory child.now.memory parent.old.memory range.first range.count) }
     ensures sure { IsOk result }
     ensures stays { (page : ℕ) → Owns parent.old page → Owns parent.new page }
+    ensures others { (page : ℕ) → All (λ merged. page ≡ merged → ⊥) changed.now → KeepsMarks parent.old parent.new page }
     ensures marks { Marks parent.old parent.new }
 {
     let mut scratch = [0; SIZE];
@@ -81,7 +84,8 @@ fn merge_each(
 /// snapshot's bytes. A page of the parent that is not dirty afterwards was not dirty before, and has the bytes that it had. The
 /// error is `Conflict` at the least address of the range at which both the child's byte and the parent's differ from the
 /// snapshot's, equal to one another or not, or want of memory. At an error no byte and no permission of the parent has changed;
-/// some pages of the range may be owned that were not.
+/// some pages of the range may be owned that were not. A page outside of the range, a page that is clean in the child, and one
+/// that has the same bytes in child and snapshot, are owned and dirty in the parent where they were, also at an error.
 pub fn merge(parent: &mut Mem, child: &Mem, snapshot: &Mem, range: Pages) -> Result<(), MergeError>
     requires covers { Covers child.now snapshot.now.memory }
     ensures ok { OnOk result (parent.new.memory ≡ with_merge snapshot.now.memory child.now.memory parent.old.memory range.first range.count) }
@@ -89,6 +93,7 @@ pub fn merge(parent: &mut Mem, child: &Mem, snapshot: &Mem, range: Pages) -> Res
     ensures conflict { IfErr result (MayFail (first_conflict snapshot.now.memory child.now.memory parent.old.memory range.first range.count)) }
     ensures err { OnErr result (parent.new.memory ≡ parent.old.memory) }
     ensures stays { (page : ℕ) → Owns parent.old page → Owns parent.new page }
+    ensures kept { (page : ℕ) → IsPassedOver child.now snapshot.now.memory range.first (range.first + range.count) page → KeepsMarks parent.old parent.new page }
     ensures marks { Marks parent.old parent.new }
 {
     let changed = changed_pages(parent, child, snapshot, range)?;

@@ -1,6 +1,7 @@
 ghost use Rattle.std.specs.Prelude.{◌≡◌, ℕ, ◌*◌, ◌+◌, ◌<◌, ◌≤◌, IfErr, IfOk, IsFalse, IsTrue, OnOk};
 ghost use Rattle.memory_model.specs.Ranges.{IsPageOf};
 ghost use Rattle.memory_model.specs.Sizes.{page_size, pages};
+ghost use Rattle.space_mem.specs.Held.{SamePage};
 ghost use Rattle.snapshot.specs.Faults.{IsConflictAt};
 ghost use Rattle.snapshot.specs.Pages.{IsFirstConflict, IsMergedPage, NoneInConflict, SameBytes};
 
@@ -23,7 +24,7 @@ pub fn page_bytes(memory: &Mem, page: u32) -> &[u8; SIZE]
     }
 }
 
-// Whether the child changed a page, which is merged into `out` then. The error is the conflict at the least address of the page.
+// Whether the child changed a byte of a page, which is merged into `out` then. The error is the conflict at the least address of the page.
 pub fn merge_in_page(
     parent: &Mem,
     child: &Mem,
@@ -34,6 +35,7 @@ pub fn merge_in_page(
     requires { page < pages }
     ensures merged { IfOk result (λ changed. IsTrue changed → IsMergedPage snapshot.now.memory child.now.memory parent.now.memory page out.new) }
     ensures same { IfOk result (λ changed. IsFalse changed → SameBytes child.now.memory snapshot.now.memory page (page + 1)) }
+    ensures differs { IfOk result (λ changed. IsTrue changed → SamePage child.now.memory snapshot.now.memory page → ⊥) }
     ensures sure { OnOk result (NoneInConflict snapshot.now.memory child.now.memory parent.now.memory (page_size * page) (page_size * (page + 1))) }
     ensures conflict { IfErr result (IsConflictAt (IsFirstConflict snapshot.now.memory child.now.memory parent.now.memory page)) }
 {

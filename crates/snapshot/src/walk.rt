@@ -1,6 +1,6 @@
 ghost use Rattle.std.specs.Prelude.{◌≡◌, ◌≤◌, min, IfSome, IsNone, Some, None, Option};
 ghost use Rattle.memory_model.specs.Sizes.{pages};
-ghost use Rattle.space_mem.specs.Held.{Covers};
+ghost use Rattle.space_mem.specs.Held.{Covers, IsClean};
 ghost use Rattle.snapshot.specs.Pages.{IsNextToMerge, SameBytes};
 
 use space_mem::Mem;
@@ -10,6 +10,7 @@ use space_mem::Mem;
 pub fn next_page(child: &Mem, snapshot: &Mem, n: u32) -> Option<u32>
     requires covers { Covers child.now snapshot.now.memory }
     ensures some { IfSome result (IsNextToMerge child.now.memory snapshot.now.memory n) }
+    ensures dirty { IfSome result (λ page. IsClean child.now page → ⊥) }
     ensures none { IsNone result → SameBytes child.now.memory snapshot.now.memory n pages }
 {
     let mut at = n;

@@ -1,7 +1,9 @@
 use Rattle.std.proofs.Common.{◌+◌, ◌*◌, arith, refl, subst, sym, ◌∙◌, ap}
 use Rattle.std.proofs.lemmas.Result.{err_from_is_err_and}
-use Rattle.snapshot.specs.Pages.{AreChanged}
-use Rattle.snapshot.proofs.Lists.{changed_more, changed_push, changed_start, same_join, same_less}
+use Rattle.std.specs.Prelude.{All}
+use Rattle.std.proofs.lemmas.List.Elements.{All-push}
+use Rattle.snapshot.specs.Pages.{AreChanged, IsMerged}
+use Rattle.snapshot.proofs.Lists.{changed_more, changed_push, changed_start, none_merged, same_join, same_less}
 use Rattle.snapshot.proofs.Conflicts.{none_join, none_unchanged, fails_at}
 use Rattle.snapshot.proofs.changes.changed_pages.Goals.{then-branch+in_ok-push, else-branch}
 use Rattle.snapshot.proofs.changes.changed_pages.Goals as goal
@@ -11,6 +13,7 @@ loop-page-init c = record {
   above = omega arith;
   within = omega arith;
   changed = changed_start c.args.child.now.memory c.args.snapshot.now.memory c.args.range.first _ c.new-changed.ensures.items;
+  each = none_merged c.args.child.now c.args.snapshot.now.memory c.args.range.first (c.args.range.first + c.args.range.count) _ c.new-changed.ensures.items;
   none = λ a above below. absurd (omega arith);
 }
 
@@ -59,6 +62,14 @@ loop-page-preserved c =
             let is = ap (λ v. v.items) w.changed-is in
             subst (AreChanged d s c.args.range.first (page + 1)) (sym is)
             (changed_more d s c.args.range.first l.from (page + 1) l.changed.items l.invariant.changed (omega (arith, next.above)) (same_join d s l.from page (page + 1) next.same (c.in_ok-merge_in_page.ensures.same w.if-branch.false)))
+      ];
+      each = elim c.if-branch.branch [
+        | then-branch+in_ok-push w ↦
+            let is = ap (λ v. v.items) w.changed-is ∙ w.in_ok-push.ensures.items in
+            subst (All (IsMerged c.args.child.now s c.args.range.first (c.args.range.first + c.args.range.count))) (sym is)
+            (All-push (IsMerged c.args.child.now s c.args.range.first (c.args.range.first + c.args.range.count)) l.changed.items page l.invariant.each
+            (record { above = omega (arith, next.above, l.invariant.above); below = c.if-page-end.false; dirty = c.in-Some.ensures.dirty; differs = c.in_ok-merge_in_page.ensures.differs w.if-branch.true }))
+        | else-branch w ↦ subst (All (IsMerged c.args.child.now s c.args.range.first (c.args.range.first + c.args.range.count))) (sym (ap (λ v. v.items) w.changed-is)) l.invariant.each
       ];
       none = none_join s d p _ (4096 * page) _
           (none_join s d p _ (4096 * l.from) _ l.invariant.none (none_unchanged s d p l.from page next.same))

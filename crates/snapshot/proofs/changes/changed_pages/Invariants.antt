@@ -1,5 +1,5 @@
-use Rattle.std.proofs.Common.{◌≤◌, ◌*◌, ◌-◌}
-use Rattle.snapshot.specs.Pages.{AreChanged, NoneInConflict}
+use Rattle.std.proofs.Common.{◌≤◌, ◌+◌, ◌*◌, ◌-◌, All}
+use Rattle.snapshot.specs.Pages.{AreChanged, IsMerged, NoneInConflict}
 use Rattle.snapshot.proofs.changes.changed_pages.Given as goal
 
 abbrev pub invariant-loop-page : goal.invariant-loop-page
@@ -7,6 +7,7 @@ invariant-loop-page l = record {
   above : l.fn.range.first ≤ l.from;
   within : l.from ≤ l.end;
   changed : AreChanged l.child.memory l.snapshot.memory l.fn.range.first l.from l.changed.items;
+  each : All (IsMerged l.child l.snapshot.memory l.fn.range.first (l.fn.range.first + l.fn.range.count)) l.changed.items;
   none : NoneInConflict l.snapshot.memory l.child.memory l.parent.memory (4096 * l.fn.range.first) (4096 * l.from);
 }
 

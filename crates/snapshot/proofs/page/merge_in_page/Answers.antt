@@ -1,6 +1,7 @@
-use Rattle.std.proofs.Common.{◌+◌, ◌*◌, arith, subst, sym}
+use Rattle.std.proofs.Common.{◌+◌, ◌*◌, ◌∙◌, arith, subst, sym}
+use Rattle.std.proofs.lemmas.Bool.{false≢true}
 use Rattle.snapshot.specs.Pages.{IsFirstConflict}
-use Rattle.snapshot.proofs.Lists.{same_page}
+use Rattle.snapshot.proofs.Lists.{equal_bytes, same_page}
 use Rattle.snapshot.proofs.Conflicts.{none_in_page, none_unchanged, first_in_page, merged_in_page}
 use Rattle.snapshot.proofs.page.merge_in_page.Goals as goal
 
@@ -25,3 +26,7 @@ pub returns-in-Err-clause-conflict : goal.returns-in-Err-clause-conflict
 returns-in-Err-clause-conflict c =
     let found = first_in_page _ _ _ c.args.page _ _ _ c.in-Err.offset c.page_bytes-before.ensures c.page_bytes-written.ensures c.page_bytes.ensures c.in-Err.ensures.conflict in
     subst (λ k. IsFirstConflict c.args.snapshot.now.memory c.args.child.now.memory c.args.parent.now.memory c.args.page (4096 * c.args.page + k)) (sym c.from.ensures) found
+
+pub returns-in-Ok-clause-differs : goal.returns-in-Ok-clause-differs
+returns-in-Ok-clause-differs c _ same =
+    absurd (false≢true (sym c.if-same_page.false ∙ c.same_page.ensures.1 (sym (equal_bytes _ _ c.args.page _ _ c.page_bytes-written.ensures c.page_bytes-before.ensures same))))
