@@ -46,6 +46,20 @@ pub used_has : {E : Type 0} (r : Result (List Bool) E) (m n : Held) (bits : ℕ)
 used_has (Err e) m n bits same told has = tt
 used_has (Ok slots) m n bits same told has = λ (k : ℕ) file. has k file.within (ap (λ i. i / 2 ^ k % 2) (told ∙ ap (λ (h : Held). bits_of (map is_used (slots_of (file_bytes h.memory)))) same) ∙ used_bit (file_bytes m.memory) k file)
 
+is_set : (t : Bool) → ◌≡◌ {A = ℕ} (cond t 1 0) 1 → t ≡ true
+is_set true e = refl
+is_set false e = absurd (omega arith)
+
+-- and a bit that is set is that of a slot in use
+pub used_file : (m n : Held) (bits k : ℕ) → k < slot_count → n ≡ m → bits ≡ bits_of (map is_used (slots_of (file_bytes n.memory))) → bits / 2 ^ k % 2 ≡ 1 → HasFile (file_bytes m.memory) k
+used_file m n bits k below same told bit =
+    let b : ℕ → ℕ = file_bytes m.memory in
+    let is : bits ≡ bits_of (map is_used (slots_of b)) = told ∙ ap (λ (h : Held). bits_of (map is_used (slots_of (file_bytes h.memory)))) same in
+    record {
+      within = below;
+      used = sym (used_at b 64 0 k below ∙ ap (λ i. is_in_use b (slot_start i)) {x = 0 + k} {y = k} (omega arith)) ∙ is_set _ (sym (bit_of_mark (map is_used (slots_of b)) k) ∙ ap (λ i. i / 2 ^ k % 2) (sym is) ∙ bit);
+    }
+
 -- ---- no bytes of slots
 
 zero_byte : (m : Memory) (a : ℕ) → AllZero m first_page (slot_page slot_count) → a < all_slots_size → file_bytes m a ≡ 0

@@ -10,7 +10,7 @@ use Rattle.file_model.specs.Operations.{Entry, usable, get, length_of, ◌>>=◌
 use Rattle.file_image.specs.Answers.{buffer_after}
 use Rattle.space_mem.specs.Held.{Held}
 use Rattle.space_model.specs.Files.{files_in}
-use Rattle.memory_files.specs.Answers.{HasLength, IsPart}
+use Rattle.memory_files.specs.Answers.{HasLength, IsFound, IsPart}
 
 none_left : (p xs : List ℕ) → length p ≡ length xs → p ++ drop (length p) xs ≡ p
 none_left [] [] e = refl
@@ -57,6 +57,13 @@ get_long slots name offset count l n long is = part_long (usable slots name) off
 
 pub get_part : (slots : List (Option File)) (name : List ℕ) (offset count l n : ℕ) (v : Vec ℕ Global) → length_of slots name ≡ Ok l → n ≡ min count (l - offset) → get slots name offset n ≡ Ok v.items → IsPart (get slots name offset count) (Ok v)
 get_part slots name offset count l n v long is read = subst (λ r. IsPart r (Ok v)) (sym (part_same (usable slots name) offset count l n long is ∙ read)) refl
+
+found_in : (u : Result Entry FileError) (offset count l : ℕ) → length_in u ≡ Ok l → IsFound (part_in u offset count)
+found_in (Ok e) offset count l long = tt
+found_in (Err f) offset count l long = cc
+
+pub get_found : (slots : List (Option File)) (name : List ℕ) (offset count l : ℕ) → length_of slots name ≡ Ok l → IsFound (get slots name offset count)
+get_found slots name offset count l long = found_in (usable slots name) offset count l long
 
 pub get_none : (slots : List (Option File)) (name : List ℕ) (offset count : ℕ) (f : FileError) → length_of slots name ≡ Err f → IsPart (get slots name offset count) (Err f)
 get_none slots name offset count f is = subst (λ r. IsPart r (Err f)) (sym (part_none (usable slots name) offset count f is)) refl

@@ -1,5 +1,5 @@
 -- Slots that are owned one after the other, as bits tell.
-use Rattle.std.proofs.Common.{◌≡◌, ℕ, zero, suc, ◌+◌, ◌*◌, ◌/◌, ◌%◌, ◌^◌, ◌<◌, ◌==◌, Bool, true, false, List, length, get_or, Option, Some, refl, sym, ◌∙◌, ap, arith, inl, inr, replicate, add-one}
+use Rattle.std.proofs.Common.{◌≡◌, ℕ, zero, suc, ◌+◌, ◌*◌, ◌/◌, ◌%◌, ◌^◌, ◌<◌, ◌==◌, Bool, true, false, List, length, get_or, refl, sym, ◌∙◌, ap, arith, inl, inr, replicate, add-one}
 use Rattle.std.proofs.Math.ListN.{set}
 use Rattle.std.proofs.lemmas.Bool.{cases_eq, false≢true}
 use Rattle.std.proofs.lemmas.Bool.Decides.{nat_tests}
@@ -20,10 +20,8 @@ none_owned h n k e = absurd (false≢true (sym (no_slot 64 k) ∙ e))
 pub none_within : (slots : List Bool) (k : ℕ) → has_slot (replicate 64 false) k ≡ true → has_slot slots k ≡ true
 none_within slots k e = absurd (false≢true (sym (no_slot 64 k) ∙ e))
 
-pub one_owned : (old new : List Bool) (o : Option ℕ) (j k : ℕ) → j < length old → new ≡ set old j true → o ≡ Some j → o ≡ Some k → has_slot new k ≡ true
-one_owned old new o j k within is first second =
-    let same : j ≡ k = cc in
-    ap (λ s. get_or s k false) is ∙ ap (λ n. get_or (set old j true) n false) (sym same) ∙ get_or-set_same old j true false within
+pub one_owned : (old new : List Bool) (k : ℕ) → k < length old → new ≡ set old k true → has_slot new k ≡ true
+one_owned old new k within is = ap (λ s. get_or s k false) is ∙ get_or-set_same old k true false within
 
 -- the bits from slot k on
 pub rest_next : (bits k rest : ℕ) → rest ≡ bits / 2 ^ k → rest / 2 ≡ bits / 2 ^ (k + 1)
@@ -33,6 +31,12 @@ rest_next bits k rest is =
 
 is_set : (n : ℕ) → n ≡ 1 → (n == 1) ≡ true
 is_set n e = grind (arith, nat_tests)
+
+is_one : (n : ℕ) → (n == 1) ≡ true → n ≡ 1
+is_one n e = grind (arith, nat_tests)
+
+pub bit_here : (bits k rest : ℕ) → rest ≡ bits / 2 ^ k → (rest % 2 == 1) ≡ true → bits / 2 ^ k % 2 ≡ 1
+bit_here bits k rest is set = ap (λ n. n % 2) (sym is) ∙ is_one (rest % 2) set
 
 pub slots_next : (bits : ℕ) (old new : List Bool) (j rest : ℕ) → j < length old → rest ≡ bits / 2 ^ j → new ≡ set old j (rest % 2 == 1)
     → ((k : ℕ) → k < j → bits / 2 ^ k % 2 ≡ 1 → has_slot old k ≡ true) → (k : ℕ) → k < j + 1 → bits / 2 ^ k % 2 ≡ 1 → has_slot new k ≡ true

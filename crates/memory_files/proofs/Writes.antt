@@ -3,12 +3,13 @@ use Rattle.std.proofs.Common.{◌≡◌, ℕ, ◌+◌, ◌/◌, ◌%◌, ◌<◌
 use Rattle.std.proofs.lemmas.Bool.{cases_eq, cases_lt}
 use Rattle.std.proofs.lemmas.Bool.Decides.{nat_tests}
 use Rattle.memory_model.specs.Sparse.{put, value_at, value_at-put}
-use Rattle.memory_model.specs.Memory.{byte_at}
+use Rattle.memory_model.specs.Memory.{byte_at, with_byte}
 use Rattle.memory_model.proofs.Rows.{value_at-put_same, value_at-put_other}
 use Rattle.memory_model.proofs.Runs.{byte_at-with_byte_other}
 use Rattle.file_model.specs.Sizes.{first_address, slot_size, all_slots_size, content_offset}
 use Rattle.space_model.specs.Files.{file_bytes}
 use Rattle.space_mem.specs.Held.{Held, Owns, Marks, with_written}
+use Rattle.space_mem.proofs.Kept.{keeps_memory}
 use Rattle.memory_files.specs.Slots.{OwnsSlots, KeepsRest, has_slot}
 
 -- the page of an offset in a slot that is owned, or in its header
@@ -29,10 +30,11 @@ still_owned h page v q owned = elim (cases_eq q page) [
 pub owned_after : (h g : Held) (a v n : ℕ) (slots : List Bool) → g ≡ with_written h a v → OwnsSlots h n slots → OwnsSlots g n slots
 owned_after h g a v n slots is owned k ready page low high = ap (λ x. value_at x.owned page) is ∙ still_owned h (a / 4096) v page (owned k ready page low high)
 
-pub rest_kept : (h g : Held) (offset v : ℕ) → offset < all_slots_size → g ≡ with_written h (first_address + offset) v → Marks h g → KeepsRest h g
-rest_kept h g offset v within is marks = record {
+pub rest_kept : (h g : Held) (offset v : ℕ) → offset < all_slots_size → g ≡ with_written h (first_address + offset) v → g ≡ record h { memory = with_byte h.memory (first_address + offset) v } → Marks h g → KeepsRest h g
+rest_kept h g offset v within is place marks = record {
   permissions = ap (λ x. x.memory.permissions) is;
   elsewhere = λ a out. ap (λ x. byte_at x.memory a) is ∙ byte_at-with_byte_other h.memory (first_address + offset) v a (λ e. elim out [ inl before ↦ omega arith | inr after ↦ omega arith ]);
+  kept = λ page. keeps_memory h g _ page place;
   marks = marks;
 }
 

@@ -3,7 +3,7 @@
 use Rattle.std.specs.Prelude.{◌≡◌, ℕ, ◌+◌, ◌*◌, ◌/◌, ◌%◌, ◌^◌, ◌<◌, ◌≤◌, ◌⊎◌, Bool, true, false, List, get_or}
 use Rattle.memory_model.specs.Memory.{Memory, byte_at}
 use Rattle.file_model.specs.Sizes.{first_address, slot_count, all_slots_size}
-use Rattle.space_mem.specs.Held.{Held, Owns, Marks}
+use Rattle.space_mem.specs.Held.{Held, IsOutside, KeepsMarks, Owns, Marks}
 
 -- the page that the first slot begins with, at the first address of the slots
 abbrev pub first_page : ℕ
@@ -36,11 +36,20 @@ HasBytes m = (a : ℕ) → byte_at m a < 256
 abbrev pub IsElsewhere : ℕ → Type 0
 IsElsewhere a = (a < first_address) ⊎ (first_address + all_slots_size ≤ a)
 
--- all but the bytes of slots stays, and what changes is dirty
+-- all but the bytes of slots stays, also which pages are owned and dirty
 pub record KeepsRest (before after : Held) : Type 0 where
   pub permissions : after.memory.permissions ≡ before.memory.permissions
   pub elsewhere : (a : ℕ) → IsElsewhere a → byte_at after.memory a ≡ byte_at before.memory a
+  pub kept : (page : ℕ) → KeepsMarks before after page
   pub marks : Marks before after
+
+-- a page that is none of n pages from the start of slot k on
+abbrev pub IsBesideSlot : ℕ → ℕ → ℕ → Type 0
+IsBesideSlot n k page = IsOutside (slot_page k) (slot_page k + n) page
+
+-- nor of those of each slot that bits tell
+abbrev pub IsBesideBits : ℕ → ℕ → ℕ → Type 0
+IsBesideBits n bits page = (k : ℕ) → k < slot_count → bits / 2 ^ k % 2 ≡ 1 → IsBesideSlot n k page
 
 -- slots with those that bits tell, the lowest for slot 0
 abbrev pub HasBits : ℕ → List Bool → Type 0

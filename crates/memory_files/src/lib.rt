@@ -6,6 +6,7 @@ mod calling;
 mod editing;
 mod files;
 mod lent;
+mod naming;
 mod owning;
 mod reading;
 mod reconciling;

@@ -1,7 +1,7 @@
-ghost use Rattle.std.specs.Prelude.{◌≡◌, ℕ, ◌<◌, ◌≤◌, true, false, List, Bool, Some, None, length, slice_set, IfOk, OnOk};
+ghost use Rattle.std.specs.Prelude.{◌≡◌, ℕ, ◌<◌, ◌≤◌, true, false, List, Bool, length, slice_set, IfOk, OnOk};
 ghost use Rattle.file_model.specs.Sizes.{slot_count};
-ghost use Rattle.space_mem.specs.Held.{Marks, Owns};
-ghost use Rattle.memory_files.specs.Slots.{OwnsSlot, OwnsSlots, has_slot, slot_pages, HasBits};
+ghost use Rattle.space_mem.specs.Held.{KeepsMarks, Marks, Owns};
+ghost use Rattle.memory_files.specs.Slots.{OwnsSlot, OwnsSlots, has_slot, slot_pages, HasBits, IsBesideBits, IsBesideSlot};
 
 use space_mem::{Mem, Pages};
 use std::alloc::AllocError;
@@ -22,6 +22,7 @@ fn own_pages(memory: &mut Mem, slot: u32, count: u32) -> Result<(), AllocError>
     ensures same { memory.new.memory ≡ memory.old.memory }
     ensures owned { OnOk result (OwnsSlot memory.new count slot) }
     ensures stays { (page : ℕ) → Owns memory.old page → Owns memory.new page }
+    ensures beside { (page : ℕ) → IsBesideSlot count slot page → KeepsMarks memory.old memory.new page }
     ensures marks { Marks memory.old memory.new }
 {
     memory.own(Pages {
@@ -43,6 +44,7 @@ fn own_if(
     ensures same { memory.new.memory ≡ memory.old.memory }
     ensures owned { OnOk result (OwnsSlots memory.old count slots.old → OwnsSlots memory.new count slots.new) }
     ensures slots { OnOk result (slots.new ≡ slice_set slots.old slot is_wanted) }
+    ensures beside { (page : ℕ) → (is_wanted ≡ true → IsBesideSlot count slot page) → KeepsMarks memory.old memory.new page }
     ensures marks { Marks memory.old memory.new }
 {
     if is_wanted {
@@ -52,23 +54,18 @@ fn own_if(
     Ok(())
 }
 
-// Owns some pages of a slot, if there is one, and answers of which slots they are owned. The one error is want of memory.
-pub(crate) fn own_slot(
-    memory: &mut Mem,
-    slot: Option<u32>,
-    count: u32,
-) -> Result<[bool; 64], AllocError>
-    requires slot { (k : ℕ) → slot ≡ Some k → k < slot_count }
+// Owns some pages of a slot, and answers of which slots they are owned. The one error is want of memory.
+pub(crate) fn own_slot(memory: &mut Mem, slot: u32, count: u32) -> Result<[bool; 64], AllocError>
+    requires slot { slot < slot_count }
     requires count { count ≤ slot_pages }
     ensures same { memory.new.memory ≡ memory.old.memory }
     ensures owned { IfOk result (λ slots. OwnsSlots memory.new count slots) }
-    ensures slots { IfOk result (λ slots. (k : ℕ) → slot ≡ Some k → has_slot slots k ≡ true) }
+    ensures slots { IfOk result (λ slots. has_slot slots slot ≡ true) }
+    ensures beside { (page : ℕ) → IsBesideSlot count slot page → KeepsMarks memory.old memory.new page }
     ensures marks { Marks memory.old memory.new }
 {
     let mut slots = [false; 64];
-    if let Some(k) = slot {
-        own_if(memory, &mut slots, k, count, true)?;
-    }
+    own_if(memory, &mut slots, slot, count, true)?;
     Ok(slots)
 }
 
@@ -78,6 +75,7 @@ pub(crate) fn own_slots(memory: &mut Mem, bits: u64, count: u32) -> Result<[bool
     ensures same { memory.new.memory ≡ memory.old.memory }
     ensures owned { IfOk result (λ slots. OwnsSlots memory.new count slots) }
     ensures slots { IfOk result (λ slots. HasBits bits slots) }
+    ensures beside { (page : ℕ) → IsBesideBits count bits page → KeepsMarks memory.old memory.new page }
     ensures marks { Marks memory.old memory.new }
 {
     let mut slots = [false; 64];

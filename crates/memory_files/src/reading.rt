@@ -1,9 +1,12 @@
-ghost use Rattle.std.specs.Prelude.{◌≡◌, ◌+◌, ◌-◌, ◌≤◌, ◌^◌, min, Ok, IfOk};
+ghost use Rattle.std.specs.Prelude.{◌≡◌, ◌+◌, ◌-◌, ◌≤◌, ◌^◌, min, Ok, IfOk, OnErr};
+ghost use Rattle.memory_model.specs.Memory.{bytes_from};
 ghost use Rattle.file_model.specs.Operations as operations;
+ghost use Rattle.call_model.specs.Reading.{IsSpan};
 ghost use Rattle.space_model.specs.Files.{files_in, part_result, length_result};
-ghost use Rattle.memory_files.specs.Answers.{HasResult, HasLength, IsPart};
+ghost use Rattle.memory_files.specs.Answers.{HasResult, HasLength, IsBesidePart, IsFound, IsPart};
 
 use crate::files::Files;
+use crate::naming::{is_short, name_at};
 use file_image::{FileError, get, len};
 use space_mem::Mem;
 use space_model::FileAnswer;
@@ -37,7 +40,8 @@ fn part_of(
     offset: u32,
     count: u32,
 ) -> Result<Result<Vec<u8>, FileError>, AllocError>
-    ensures { IfOk result (λ part. IsPart (operations.get (files_in memory.now.memory) name.now offset count) part) }
+    ensures part { IfOk result (λ part. IsPart (operations.get (files_in memory.now.memory) name.now offset count) part) }
+    ensures wanted { OnErr result (IsFound (operations.get (files_in memory.now.memory) name.now offset count)) }
 {
     match len(&Files::new(memory), name) {
         Ok(length) => {
@@ -49,8 +53,8 @@ fn part_of(
     }
 }
 
-// Writes a part of a file's content from an address on, and counts its bytes. The one error is want of memory.
-pub(crate) fn read_file(
+// Writes a part of the content of this name's file from an address on, and counts its bytes. The one error is want of memory.
+fn read_named(
     memory: &mut Mem,
     name: &[u8],
     addr: u32,
@@ -58,23 +62,56 @@ pub(crate) fn read_file(
     offset: u32,
 ) -> Result<FileAnswer, AllocError>
     requires { addr + count ≤ 2 ^ 32 }
-    ensures { HasResult (part_result memory.old.memory addr (operations.get (files_in memory.old.memory) name.now offset count)) result memory.old memory.new }
+    ensures { HasResult (part_result memory.old.memory addr (operations.get (files_in memory.old.memory) name.now offset count)) result memory.old memory.new (IsBesidePart addr (operations.get (files_in memory.old.memory) name.now offset count)) }
 {
-    match part_of(memory, name, offset, count)? {
-        Ok(part) => {
-            memory.write_bytes(addr, &part)?;
-            Ok(FileAnswer::Done(Some(part.len() as u32)))
-        }
-        Err(error) => Ok(FileAnswer::Refused(error)),
+    match part_of(memory, name, offset, count) {
+        Err(error) => Err(error),
+        Ok(Err(error)) => Ok(FileAnswer::Refused(error)),
+        Ok(Ok(part)) => match memory.write_bytes(addr, &part) {
+            Err(error) => Err(error),
+            Ok(()) => Ok(FileAnswer::Done(Some(part.len() as u32))),
+        },
     }
 }
 
-// Tells how long a file is.
-pub(crate) fn tell_length(memory: &Mem, name: &[u8]) -> FileAnswer
+// Writes a part of a file's content from an address on, and counts its bytes; the name stands in the memory. The one error is want of memory.
+pub(crate) fn read_file(
+    memory: &mut Mem,
+    name: u32,
+    name_len: u32,
+    addr: u32,
+    count: u32,
+    offset: u32,
+) -> Result<FileAnswer, AllocError>
+    requires name { IsSpan name name_len }
+    requires buffer { IsSpan addr count }
+    ensures { HasResult (part_result memory.old.memory addr (operations.get (files_in memory.old.memory) (bytes_from memory.old.memory name name_len) offset count)) result memory.old memory.new (IsBesidePart addr (operations.get (files_in memory.old.memory) (bytes_from memory.old.memory name name_len) offset count)) }
+{
+    if !is_short(name_len) {
+        return Ok(FileAnswer::Refused(FileError::BadName));
+    }
+    let bytes = name_at(memory, name, name_len);
+    read_named(memory, &bytes[..name_len as usize], addr, count, offset)
+}
+
+// Tells how long the file of this name is.
+fn length_named(memory: &Mem, name: &[u8]) -> FileAnswer
     ensures { result ≡ (length_result memory.now.memory (operations.length_of (files_in memory.now.memory) name.now)).answer }
 {
     match len(&Files::new(memory), name) {
         Ok(length) => FileAnswer::Done(Some(length)),
         Err(error) => FileAnswer::Refused(error),
     }
+}
+
+// Tells how long a file is, whose name stands in the memory.
+pub(crate) fn tell_length(memory: &Mem, name: u32, name_len: u32) -> FileAnswer
+    requires { IsSpan name name_len }
+    ensures { result ≡ (length_result memory.now.memory (operations.length_of (files_in memory.now.memory) (bytes_from memory.now.memory name name_len))).answer }
+{
+    if !is_short(name_len) {
+        return FileAnswer::Refused(FileError::BadName);
+    }
+    let bytes = name_at(memory, name, name_len);
+    length_named(memory, &bytes[..name_len as usize])
 }

@@ -1,9 +1,9 @@
-ghost use Rattle.std.specs.Prelude.{◌≡◌, IfOk, OnErr, OnOk};
+ghost use Rattle.std.specs.Prelude.{◌≡◌, ℕ, All, IfOk, OnErr, OnOk};
 ghost use Rattle.file_model.specs.Reconcile as reconciling;
 ghost use Rattle.file_image.specs.Outcomes.{AreReady};
-ghost use Rattle.space_mem.specs.Held.{Marks};
+ghost use Rattle.space_mem.specs.Held.{KeepsMarks, Marks};
 ghost use Rattle.space_model.specs.Files.{files_in, with_files_of, files_left_out};
-ghost use Rattle.memory_files.specs.Slots.{OwnsSlots, has_slot};
+ghost use Rattle.memory_files.specs.Slots.{IsBesideSlot, OwnsSlots, has_slot};
 
 use crate::basing::are_kept;
 use crate::files::Files;
@@ -18,6 +18,7 @@ fn own_touched(parent: &mut Mem, child: &Mem) -> Result<[bool; 64], AllocError>
     ensures same { parent.new.memory ≡ parent.old.memory }
     ensures owned { IfOk result (λ slots. OwnsSlots parent.new 16 slots) }
     ensures ready { IfOk result (λ slots. AreReady (has_slot slots) (reconciling.reconcile (files_in parent.old.memory) (files_in child.now.memory))) }
+    ensures kept { (page : ℕ) → All (λ e. IsBesideSlot 16 e.slot page) (reconciling.reconcile (files_in parent.old.memory) (files_in child.now.memory)).edits → KeepsMarks parent.old parent.new page }
     ensures marks { Marks parent.old parent.new }
 {
     let bits = touched(&Files::new(parent), &Files::new(child));
@@ -31,6 +32,7 @@ fn reconcile_owned(parent: &mut Mem, slots: [bool; 64], child: &Mem) -> u32
     requires ready { AreReady (has_slot slots) (reconciling.reconcile (files_in parent.old.memory) (files_in child.now.memory)) }
     ensures memory { parent.new.memory ≡ with_files_of child.now.memory parent.old.memory }
     ensures count { result ≡ files_left_out child.now.memory parent.old.memory }
+    ensures kept { (page : ℕ) → KeepsMarks parent.old parent.new page }
     ensures marks { Marks parent.old parent.new }
 {
     let mut files = Slots::take(parent, slots);
@@ -40,11 +42,12 @@ fn reconcile_owned(parent: &mut Mem, slots: [bool; 64], child: &Mem) -> u32
 }
 
 /// Takes over what a child changed in its files since its base, and tells how many of them found no free slot. The one error is want of memory:
-/// no byte has changed then, and no permission.
+/// no byte has changed then, and no permission. A page that is of no slot that is written is owned, and dirty, where it was, also at an error.
 pub fn reconcile(parent: &mut Mem, child: &Mem) -> Result<u32, AllocError>
     ensures ok { OnOk result (parent.new.memory ≡ with_files_of child.now.memory parent.old.memory) }
     ensures count { IfOk result (λ n. n ≡ files_left_out child.now.memory parent.old.memory) }
     ensures err { OnErr result (parent.new.memory ≡ parent.old.memory) }
+    ensures kept { (page : ℕ) → All (λ e. IsBesideSlot 16 e.slot page) (reconciling.reconcile (files_in parent.old.memory) (files_in child.now.memory)).edits → KeepsMarks parent.old parent.new page }
     ensures marks { Marks parent.old parent.new }
 {
     if !are_kept(child) {

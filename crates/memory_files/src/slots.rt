@@ -1,6 +1,7 @@
 ghost use Rattle.std.specs.Prelude.{◌≡◌, ℕ, ◌+◌, ◌/◌, ◌%◌, ◌<◌, ◌≤◌, true};
 ghost use Rattle.file_model.specs.Sizes.{first_address, slot_size, slot_count, all_slots_size, content_offset};
 ghost use Rattle.space_model.specs.Files.{file_bytes};
+ghost use Rattle.memory_model.specs.Memory.{with_byte};
 ghost use Rattle.memory_model.specs.Sizes.{page_size};
 ghost use Rattle.space_mem.specs.Held.{Marks, Owns, with_written};
 ghost use Rattle.memory_files.specs.Slots.{OwnsSlots, HasBytes, KeepsRest, has_slot};
@@ -81,6 +82,7 @@ impl Slots {
 fn write_owned(memory: &mut Mem, at: u32, value: u8)
     requires { Owns memory.old (at / page_size) }
     ensures written { memory.new ≡ with_written memory.old at value }
+    ensures in_place { memory.new ≡ record memory.old { memory = with_byte memory.old.memory at value } }
     ensures small { HasBytes memory.new.memory }
     ensures marks { Marks memory.old memory.new }
 {

@@ -16,4 +16,4 @@ invariant_of-self c = record {
 }
 
 pub returns-clause-kept : goal.returns-clause-kept
-returns-clause-kept c = rest_kept c.args.self.now.memory c.write_owned.new.memory c.args.offset c.args.value c.requires.within c.write_owned.ensures.written c.write_owned.ensures.marks
+returns-clause-kept c = rest_kept c.args.self.now.memory c.write_owned.new.memory c.args.offset c.args.value c.requires.within c.write_owned.ensures.written c.write_owned.ensures.in_place c.write_owned.ensures.marks
