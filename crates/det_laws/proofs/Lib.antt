@@ -3,3 +3,4 @@ pub mod Commutes
 pub mod Leading
 pub mod Reaching
 pub mod Console
+pub mod Ending

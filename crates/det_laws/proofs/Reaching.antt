@@ -1,5 +1,5 @@
 -- What a space runs or settles to is reached by events that may happen, as many as its meaning counts.
-use Rattle.std.proofs.Common.{◌≡◌, ℕ, zero, suc, pred, ◌≤◌, Bool, true, false, cond, List, [], ◌∷◌, length, Option, Some, None, refl, sym, ◌∙◌, ap, arith, inl, inr, ◌⊎◌, subst}
+use Rattle.std.proofs.Common.{◌≡◌, ℕ, zero, suc, pred, ◌≤◌, Bool, true, false, cond, List, [], ◌∷◌, Option, Some, None, refl, sym, ◌∙◌, ap, arith, inl, inr, ◌⊎◌, subst}
 use Rattle.std.proofs.lemmas.Bool.{cases_eq, and_from}
 use Rattle.std.specs.Prelude.{option_map}
 use Rattle.space_model.specs.declared.Reach.{Reach}
@@ -19,7 +19,6 @@ use Rattle.run_model.specs.Demand.{Ran, Waited, Meaning, wait_for_child, wait_fo
 use Rattle.run_model.proofs.Run.{run-stops}
 use Rattle.run_model.proofs.Settled.{settle-settled}
 use Rattle.run_model.proofs.Sound.{next_meets_sound, run_for_sound, meaning_sound, step_sound, try_step_sound}
-use Rattle.det_laws.specs.Tree.{MayAllHappen, after, after_all}
 use Rattle.det_laws.proofs.Commutes.{settled_stopped}
 use Rattle.det_laws.proofs.Leading.{Leads, Reaches, stays, goes_on, begins, child_reaches, settled_stays, bring_forward, one_end}
 
@@ -212,18 +211,3 @@ never_stuck levels root fuel s ok busy = let a = meaning_reached levels Whole ro
     go : (ps : List (List ℕ)) → Leads levels ps s (settle levels s) → is_settled (settle levels s) ≡ true → (p : List ℕ) × (is_enabled p levels s ≡ true)
     go [] a still = absurd (busy (ap is_settled a ∙ still))
     go (p ∷ ps) a still = (p, a.0)
-
--- the events at these paths lead to what their schedule leads to, and to nothing else
-all_lead : (ps : List (List ℕ)) (s : Space) → MayAllHappen ps s → Leads 8 ps s (after_all ps s)
-all_lead [] s all = refl
-all_lead (p ∷ ps) s all =
-    let first : try_step p 8 s ≡ after p s = ap (λ b. cond b (after p s) s) all.0 in
-    (all.0, rw first (all_lead ps (after p s) all.1))
-
--- of a schedule in which each path may go on in its turn, until the tree is settled
-pub whole_schedule : (ps : List (List ℕ)) (fuel : ℕ) (s : Space) → IsSoundAt 8 true fuel s → MayAllHappen ps s → is_settled (after_all ps s) ≡ true
-    → (after_all ps s ≡ settle 8 s) × (length ps ≡ work 8 s)
-whole_schedule ps fuel s ok all still =
-    let a = meaning_reached 8 Whole true fuel s ok in
-    let e = one_end 8 a.0 ps s (after_all ps s) (settle 8 s) (all_lead ps s all) still a.2 (settle-settled 8 true fuel s ok) in
-    (e.0, e.1 ∙ a.1)

@@ -1,6 +1,6 @@
 -- What the laws speak of, each of a whole tree: from its root on, with all levels of children left below it.
 -- Our choice: names alone; what they stand for is defined for a space at any depth.
-use Rattle.std.specs.Prelude.{◌≡◌, ℕ, true, List, [], ◌∷◌, ◌++◌}
+use Rattle.std.specs.Prelude.{◌≡◌, ℕ, ◌+◌, true, cond, List, [], ◌∷◌, ◌++◌}
 use Rattle.call_model.specs.Limits.{greatest_depth}
 use Rattle.space_model.specs.Space.{Space}
 use Rattle.run_model.specs.Schedule.{is_enabled, step}
@@ -23,6 +23,15 @@ MayAllHappen (p ∷ ps) s = MayHappen p s × MayAllHappen ps (after p s)
 -- the tree after a schedule, in which a path at which no event may happen changes nothing
 abbrev pub after_all : List (List ℕ) → Space → Space
 after_all ps s = replay ps greatest_depth s
+
+-- no event may happen any more
+abbrev pub NoneMayHappen : Space → Type 0
+NoneMayHappen s = (p : List ℕ) → MayHappen p s → ⊥
+
+-- how many events of a schedule happen: a path at which no event may happen in its turn counts nothing, and changes nothing
+abbrev pub effective_steps : List (List ℕ) → Space → ℕ
+effective_steps [] s = 0
+effective_steps (p ∷ ps) s = cond (is_enabled p greatest_depth s) (1 + effective_steps ps (after p s)) (effective_steps ps s)
 
 -- how many events there are until no space in the tree runs
 abbrev pub events_left : Space → ℕ

@@ -1,9 +1,9 @@
-ghost use Rattle.std.specs.Prelude.{◌≡◌, ◌≢◌, ℕ, suc, List, length, true, false};
+ghost use Rattle.std.specs.Prelude.{◌≡◌, ◌≢◌, ℕ, suc, ◌+◌, List, length, true, false};
 ghost use Rattle.space_model.specs.Space.{Space, is_settled};
 ghost use Rattle.space_model.specs.Sound.{IsSound};
 ghost use Rattle.run_model.specs.Demand.{settle_tree};
 ghost use Rattle.report_model.specs.Report.{console_of};
-ghost use Rattle.det_laws.specs.Tree.{MayHappen, MayAllHappen, after, after_all, events_left, IsPrefix};
+ghost use Rattle.det_laws.specs.Tree.{MayHappen, MayAllHappen, NoneMayHappen, after, after_all, effective_steps, events_left, IsPrefix};
 
 /// Of two different events that may happen in a tree, each may still happen after the other, and both orders lead to one tree.
 pub fn commutation()
@@ -22,12 +22,21 @@ pub fn never_stuck()
     ensures rests { (s : Space) (p : List ℕ) → is_settled s ≡ true → MayHappen p s → ⊥ }
 {}
 
-/// Each event that may happen in a sound tree is one of those that are left: after it there is one fewer. So all schedules of events that
-/// may happen, each in its turn, until the tree is settled, are as long as one another, and lead to one tree.
+/// A sound tree is sound after every schedule.
+pub fn stays_sound()
+    ensures { (s : Space) (ps : List (List ℕ)) → IsSound s → IsSound (after_all ps s) }
+{}
+
+/// Each event that may happen in a sound tree is one of those that are left: after it there is one fewer. So of every schedule the events that
+/// happen, and those that are left after it, are as many as those that are left before it. All schedules after which no event may
+/// happen have as many events that happen, and lead to one tree, whatever paths at which nothing may happen stand among them; where each path may
+/// happen in its turn, they are as long as one another.
 pub fn one_length()
     ensures one_fewer { (s : Space) (p : List ℕ) → IsSound s → MayHappen p s → events_left s ≡ suc (events_left (after p s)) }
-    ensures as_long { (s : Space) (ps : List (List ℕ)) → IsSound s → MayAllHappen ps s → is_settled (after_all ps s) ≡ true → length ps ≡ events_left s }
-    ensures one_end { (s : Space) (ps : List (List ℕ)) → IsSound s → MayAllHappen ps s → is_settled (after_all ps s) ≡ true → after_all ps s ≡ settle_tree s }
+    ensures counted { (s : Space) (ps : List (List ℕ)) → IsSound s → effective_steps ps s + events_left (after_all ps s) ≡ events_left s }
+    ensures as_many { (s : Space) (ps : List (List ℕ)) → IsSound s → NoneMayHappen (after_all ps s) → effective_steps ps s ≡ events_left s }
+    ensures as_long { (s : Space) (ps : List (List ℕ)) → IsSound s → MayAllHappen ps s → NoneMayHappen (after_all ps s) → length ps ≡ events_left s }
+    ensures one_end { (s : Space) (ps : List (List ℕ)) → IsSound s → NoneMayHappen (after_all ps s) → after_all ps s ≡ settle_tree s }
 {}
 
 /// What the root of a sound tree has written to its console after any schedule is the beginning of what it has written when the tree is settled.

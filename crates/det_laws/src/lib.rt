@@ -4,4 +4,4 @@
 
 mod laws;
 
-pub use laws::{commutation, confluence, console_prefix, never_stuck, one_length};
+pub use laws::{commutation, confluence, console_prefix, never_stuck, one_length, stays_sound};
