@@ -4,3 +4,4 @@ pub mod Leading
 pub mod Reaching
 pub mod Console
 pub mod Ending
+pub mod Paths

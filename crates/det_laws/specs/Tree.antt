@@ -1,11 +1,13 @@
 -- What the laws speak of, each of a whole tree: from its root on, with all levels of children left below it.
 -- Our choice: names alone; what they stand for is defined for a space at any depth.
-use Rattle.std.specs.Prelude.{◌≡◌, ℕ, ◌+◌, true, cond, List, [], ◌∷◌, ◌++◌}
+use Rattle.std.specs.Prelude.{◌≡◌, ℕ, ◌+◌, Bool, true, cond, List, [], ◌∷◌, ◌++◌, Option, Some, None}
 use Rattle.call_model.specs.Limits.{greatest_depth}
-use Rattle.space_model.specs.Space.{Space}
+use Rattle.space_model.specs.Space.{Space, top_of}
+use Rattle.space_model.specs.Path.{at}
 use Rattle.run_model.specs.Schedule.{is_enabled, step}
 use Rattle.run_model.specs.Replay.{replay}
 use Rattle.run_model.specs.Demand.{work}
+use Rattle.report_model.specs.Report.{line}
 
 -- the event at a path may happen
 abbrev pub MayHappen : List ℕ → Space → Type 0
@@ -40,3 +42,11 @@ events_left s = work greatest_depth s
 -- the second list begins with the first
 abbrev pub IsPrefix : List ℕ → List ℕ → Type 0
 IsPrefix xs ys = (rest : List ℕ) × (ys ≡ xs ++ rest)
+
+-- the line of a path in the report of a tree, with digests or without, where a space stands there
+abbrev pub line_of : Bool → List ℕ → Option Space → List ℕ
+line_of digest p None = []
+line_of digest p (Some s) = line digest p (top_of s)
+
+abbrev pub line_at : Bool → Space → List ℕ → List ℕ
+line_at digest s p = line_of digest p (at p s)

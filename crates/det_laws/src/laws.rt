@@ -1,9 +1,11 @@
-ghost use Rattle.std.specs.Prelude.{◌≡◌, ◌≢◌, ℕ, suc, ◌+◌, List, length, true, false};
+ghost use Rattle.std.specs.Prelude.{◌≡◌, ◌≢◌, ◌⊎◌, ℕ, suc, ◌+◌, ◌<◌, List, ◌∷◌, ◌++◌, length, Bool, true, false};
+ghost use Rattle.std.specs.List.{flat_map};
 ghost use Rattle.space_model.specs.Space.{Space, is_settled};
+ghost use Rattle.space_model.specs.PathOrder.{IsBefore, ArePaths};
 ghost use Rattle.space_model.specs.Sound.{IsSound};
 ghost use Rattle.run_model.specs.Demand.{settle_tree};
-ghost use Rattle.report_model.specs.Report.{console_of};
-ghost use Rattle.det_laws.specs.Tree.{MayHappen, MayAllHappen, NoneMayHappen, after, after_all, effective_steps, events_left, IsPrefix};
+ghost use Rattle.report_model.specs.Report.{console_of, report};
+ghost use Rattle.det_laws.specs.Tree.{MayHappen, MayAllHappen, NoneMayHappen, after, after_all, effective_steps, events_left, IsPrefix, line_at};
 
 /// Of two different events that may happen in a tree, each may still happen after the other, and both orders lead to one tree.
 pub fn commutation()
@@ -42,4 +44,19 @@ pub fn one_length()
 /// What the root of a sound tree has written to its console after any schedule is the beginning of what it has written when the tree is settled.
 pub fn console_prefix()
     ensures { (s : Space) (ps : List (List ℕ)) → IsSound s → IsPrefix (console_of (after_all ps s)) (console_of (settle_tree s)) }
+{}
+
+/// The order of paths is a strict total order: none comes before itself, what comes before a path comes before those behind that one as well, and of
+/// two paths one comes first. A path comes before each that goes on from it, and of two others the first number that differs decides.
+pub fn path_order()
+    ensures never_itself { (p : List ℕ) → IsBefore p p → ⊥ }
+    ensures passes_on { (p q r : List ℕ) → IsBefore p q → IsBefore q r → IsBefore p r }
+    ensures one_first { (p q : List ℕ) → p ≢ q → IsBefore p q ⊎ IsBefore q p }
+    ensures beginning_first { (p q : List ℕ) (n : ℕ) → IsBefore p (p ++ n ∷ q) }
+    ensures by_number { (r p q : List ℕ) (n m : ℕ) → n < m → IsBefore (r ++ n ∷ p) (r ++ m ∷ q) }
+{}
+
+/// The report of a sound tree has one line for each path at which a space stands, in the order of paths.
+pub fn report_order()
+    ensures { (digest : Bool) (s : Space) → IsSound s → (ps : List (List ℕ)) × ArePaths ps s × (report digest s ≡ flat_map (line_at digest s) ps) }
 {}

@@ -4,4 +4,7 @@
 
 mod laws;
 
-pub use laws::{commutation, confluence, console_prefix, never_stuck, one_length, stays_sound};
+pub use laws::{
+    commutation, confluence, console_prefix, never_stuck, one_length, path_order, report_order,
+    stays_sound,
+};

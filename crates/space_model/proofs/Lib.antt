@@ -4,3 +4,4 @@ pub mod Parts
 pub mod Sound
 pub mod Next
 pub mod NoFiles
+pub mod PathOrder

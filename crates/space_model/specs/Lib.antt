@@ -4,6 +4,7 @@ pub mod Encoding
 pub mod Beginning
 pub mod Sound
 pub mod Path
+pub mod PathOrder
 pub mod Change
 pub mod Refusals
 pub mod Files
