@@ -1,6 +1,8 @@
--- The bytes of a source, by their codes in ASCII, and its lines.
+-- The bytes of a source, by their codes in ASCII, and its lines, which are those of any text, with the carriage returns at their ends.
 -- Our choice: which bytes are blanks, which stand in labels, and which begin a comment; what ends a line.
-use Rattle.std.specs.Prelude.{ℕ, Bool, not, ◌&&◌, ◌||◌, ◌==◌, nat_lt, List, [], ◌∷◌, if◌then◌else◌}
+use Rattle.std.specs.Prelude.{ℕ, Bool, not, ◌&&◌, ◌||◌, ◌==◌, nat_lt}
+pub use Rattle.text_lines.specs.Lines.{add_first}
+unfoldable pub use Rattle.text_lines.specs.Lines.{lines_with_returns as lines_of}
 
 abbrev pub is_between : ℕ → ℕ → ℕ → Bool
 is_between low high b = not (nat_lt b low) && not (nat_lt high b)
@@ -28,12 +30,3 @@ is_word_end b = is_blank b || (b == 44) || (b == 40) || (b == 41)
 -- no byte of ASCII
 abbrev pub is_foreign : ℕ → Bool
 is_foreign b = nat_lt 127 b
-
-abbrev pub add_first : ℕ → List (List ℕ) → List (List ℕ)
-add_first b [] = (b ∷ []) ∷ []
-add_first b (l ∷ ls) = (b ∷ l) ∷ ls
-
--- a line feed ends a line, and the last line may lack it
-unfoldable pub lines_of : List ℕ → List (List ℕ)
-lines_of [] = []
-lines_of (b ∷ bs) = if b == 10 then [] ∷ lines_of bs else add_first b (lines_of bs)

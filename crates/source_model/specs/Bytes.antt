@@ -2,7 +2,8 @@
 -- Our choice: a restatement for proofs.
 use Rattle.std.specs.Prelude.{ℕ, ◌-◌, Bool, true, false, ◌==◌, List, [], ◌∷◌, length, slice_index, take, if◌then◌else◌}
 use Rattle.std.specs.Str.{bytes_eq}
-unfoldable pub use Rattle.source_model.specs.Ascii.{is_between, is_digit, is_letter, is_blank, is_comment, is_word_end, is_foreign, add_first, lines_of}
+unfoldable pub use Rattle.source_model.specs.Ascii.{is_between, is_digit, is_letter, is_blank, is_comment, is_word_end, is_foreign, lines_of}
+pub use Rattle.source_model.specs.Ascii.{add_first}
 
 abbrev pub is_empty : List ℕ → Bool
 is_empty [] = true
