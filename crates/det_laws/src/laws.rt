@@ -47,13 +47,15 @@ pub fn console_prefix()
 {}
 
 /// The order of paths is a strict total order: none comes before itself, what comes before a path comes before those behind that one as well, and of
-/// two paths one comes first. A path comes before each that goes on from it, and of two others the first number that differs decides.
+/// two paths one comes first. A path comes before each that goes on from it, and of two others the first number that differs decides. The paths of a tree
+/// are one list in this order.
 pub fn path_order()
     ensures never_itself { (p : List ℕ) → IsBefore p p → ⊥ }
     ensures passes_on { (p q r : List ℕ) → IsBefore p q → IsBefore q r → IsBefore p r }
     ensures one_first { (p q : List ℕ) → p ≢ q → IsBefore p q ⊎ IsBefore q p }
     ensures beginning_first { (p q : List ℕ) (n : ℕ) → IsBefore p (p ++ n ∷ q) }
     ensures by_number { (r p q : List ℕ) (n m : ℕ) → n < m → IsBefore (r ++ n ∷ p) (r ++ m ∷ q) }
+    ensures one_list { (ps qs : List (List ℕ)) (s : Space) → ArePaths ps s → ArePaths qs s → ps ≡ qs }
 {}
 
 /// The report of a sound tree has one line for each path at which a space stands, in the order of paths.
