@@ -14,7 +14,7 @@ use Rattle.clap.specs.Takes.{is_given}
 use Rattle.clap.specs.Faults.{built_fault, check_fault, entered_fault, fault_of, level_fault, settle_fault, defaults_fault, walk_fault}
 use Rattle.clap.specs.declared.builder.value_parser.ValueParser.TheVariants as vp
 use Rattle.command_line.specs.declared.command.Command.{Command}
-use Rattle.command_line.specs.Line.{IsRefused, Line, asm, asm_app, bench, bench_app, command_line, flag, fuel_of, fuel_rule, greatest_number, has_flag, line, line_of, number_in, number_of, program_app, required_rule, run_app, run_line, run_of, seed_of, seed_rule, walk_app, walk_line, walk_of}
+use Rattle.command_line.specs.Line.{Engine, IsRefused, Line, asm, asm_app, bench, bench_app, command_line, demand, flag, fuel_of, fuel_rule, greatest_number, has_flag, line, line_of, number_in, number_of, program_app, required_rule, run_app, run_by, run_line, run_with, schedule, seed_of, seed_rule, walk_app, walk_line}
 use Rattle.command_line.proofs.Complete.{HasValue, level_complete}
 use Rattle.command_line.proofs.Kept.{AreOurs, IsHelp, IsSet, found_is, or_else_none}
 
@@ -100,18 +100,12 @@ seed_there rows v = number_there 0 greatest_number (codes "seed") rows v.0 v.1.o
 name_there : (n : ℕ) (id : Text) (rows : List Row) → HasValue rows (name_filled n id) → IsSome (first_of id rows)
 name_there n id rows v = subst (λ (o : Option Text). IsSome o) (sym v.1.first) refl
 
-run_there : (fuel : Option ℕ) (digest : Bool) (image script : Option Text) → IsSome fuel → IsSome image → IsSome script → IsSome (run_of fuel digest image script)
-run_there (Some n) d (Some i) (Some s) a b c = refl
-run_there (Some n) d (Some i) None a b c = absurd cc
-run_there (Some n) d None s a b c = absurd cc
-run_there None d i s a b c = absurd cc
-
-walk_there : (fuel : Option ℕ) (image script schedule : Option Text) → IsSome fuel → IsSome image → IsSome script → IsSome schedule → IsSome (walk_of fuel image script schedule)
-walk_there (Some n) (Some i) (Some s) (Some l) a b c d = refl
-walk_there (Some n) (Some i) (Some s) None a b c d = absurd cc
-walk_there (Some n) (Some i) None l a b c d = absurd cc
-walk_there (Some n) None s l a b c d = absurd cc
-walk_there None i s l a b c d = absurd cc
+run_there : (fuel : Option ℕ) (digest : Bool) (engine : Option Engine) (image script : Option Text) → IsSome fuel → IsSome engine → IsSome image → IsSome script → IsSome (run_with fuel digest engine image script)
+run_there (Some n) d (Some e) (Some i) (Some s) a b c f = refl
+run_there (Some n) d (Some e) (Some i) None a b c f = absurd cc
+run_there (Some n) d (Some e) None s a b c f = absurd cc
+run_there (Some n) d None i s a b c f = absurd cc
+run_there None d e i s a b c f = absurd cc
 
 mapped_there : {A B : Type 0} (f : A → B) (o : Option A) → IsSome o → IsSome (option_map f o)
 mapped_there f None h = absurd cc
@@ -123,20 +117,21 @@ abbrev IsAccepted : Shape → Type 0
 IsAccepted s = (words : List Text) → level_fault s [] nothing_held words false [] ≡ [] → IsSome (command_line (rows_at s words))
 
 run_accepted : IsAccepted run_built
-unfolding run_line
+unfolding run_line run_by
 run_accepted words e =
     let rows = rows_after run_built.rules [] words in
     let l = level_complete run_built words run_is_ours e in
-    run_there (fuel_of rows) (has_flag (codes "digest") rows) (first_of (codes "image") rows) (first_of (codes "script") rows)
-    (fuel_there rows (l.0 (inr (omega arith)))) (name_there 1 (codes "image") rows (l.1.1.0 (inl refl))) (name_there 2 (codes "script") rows (l.1.1.1.0 (inl refl)))
+    run_there (fuel_of rows) (has_flag (codes "digest") rows) (Some demand) (first_of (codes "image") rows) (first_of (codes "script") rows)
+    (fuel_there rows (l.0 (inr (omega arith)))) refl (name_there 1 (codes "image") rows (l.1.1.0 (inl refl))) (name_there 2 (codes "script") rows (l.1.1.1.0 (inl refl)))
 
 walk_accepted : IsAccepted walk_built
-unfolding walk_line
+unfolding walk_line run_by
 walk_accepted words e =
     let rows = rows_after walk_built.rules [] words in
     let l = level_complete walk_built words walk_is_ours e in
-    walk_there (fuel_of rows) (first_of (codes "image") rows) (first_of (codes "script") rows) (first_of (codes "schedule") rows)
-    (fuel_there rows (l.0 (inr (omega arith)))) (name_there 1 (codes "image") rows (l.1.0 (inl refl))) (name_there 2 (codes "script") rows (l.1.1.0 (inl refl))) (name_there 3 (codes "schedule") rows (l.1.1.1.0 (inl refl)))
+    run_there (fuel_of rows) false (option_map (λ name. schedule name) (first_of (codes "schedule") rows)) (first_of (codes "image") rows) (first_of (codes "script") rows)
+    (fuel_there rows (l.0 (inr (omega arith)))) (mapped_there (λ name. schedule name) (first_of (codes "schedule") rows) (name_there 3 (codes "schedule") rows (l.1.1.1.0 (inl refl))))
+    (name_there 1 (codes "image") rows (l.1.0 (inl refl))) (name_there 2 (codes "script") rows (l.1.1.0 (inl refl)))
 
 asm_accepted : IsAccepted asm_built
 asm_accepted words e =
@@ -146,7 +141,7 @@ asm_accepted words e =
 bench_accepted : IsAccepted bench_built
 bench_accepted words e =
     let rows = rows_after bench_built.rules [] words in
-    mapped_there bench (seed_of rows) (seed_there rows ((level_complete bench_built words bench_is_ours e).0 (inl refl)))
+    mapped_there (λ seed. bench demand seed) (seed_of rows) (seed_there rows ((level_complete bench_built words bench_is_ours e).0 (inl refl)))
 
 all_accepted : AllByRecursion IsAccepted built_commands
 all_accepted = (run_accepted, (walk_accepted, (asm_accepted, (bench_accepted, tt))))

@@ -8,7 +8,7 @@ use Rattle.clap.specs.ValueTests.{accepts}
 use Rattle.clap.specs.declared.builder.value_parser.ValueParser.TheVariants as vp
 use Rattle.clap.proofs.ValueTestLemmas.{accepts-Accepts}
 use Rattle.command_line.specs.declared.command.Command.{Command}
-use Rattle.command_line.specs.Line.{IsInRange, asm, asm_line, bench, bench_line, Line, command_line, fuel_of, greatest_number, has_flag, line_of, number_in, run_line, run_of, seed_of, walk_line, walk_of}
+use Rattle.command_line.specs.Line.{Engine, IsInRange, asm, asm_line, bench, bench_line, Line, command_line, demand, fuel_of, greatest_number, has_flag, line_of, number_in, run_by, run_line, run_with, seed_of, walk_line}
 
 pub number_bounds : (low high : ℕ) (t : List ℕ) (n : ℕ) → number_in low high t ≡ Some n → (low ≤ n) × (n ≤ high)
 unfolding number_in
@@ -32,24 +32,16 @@ AllInRange o = IfSome o IsInRange
 abbrev IsFuel : Option ℕ → Type 0
 IsFuel fuel = (n : ℕ) → fuel ≡ Some n → (1 ≤ n) × (n ≤ greatest_number)
 
-run_in_range : (fuel : Option ℕ) (digest : Bool) (image script : Option Text) → IsFuel fuel → AllInRange (run_of fuel digest image script)
-run_in_range (Some n) d (Some i) (Some s) h =
+run_in_range : (fuel : Option ℕ) (digest : Bool) (engine : Option Engine) (image script : Option Text) → IsFuel fuel → AllInRange (run_with fuel digest engine image script)
+run_in_range (Some n) d (Some e) (Some i) (Some s) h =
     let b = h n refl in
     (b.0, omega arith)
-run_in_range (Some n) d (Some i) None h = tt
-run_in_range (Some n) d None s h = tt
-run_in_range None d i s h = tt
+run_in_range (Some n) d (Some e) (Some i) None h = tt
+run_in_range (Some n) d (Some e) None s h = tt
+run_in_range (Some n) d None i s h = tt
+run_in_range None d e i s h = tt
 
-walk_in_range : (fuel : Option ℕ) (image script schedule : Option Text) → IsFuel fuel → AllInRange (walk_of fuel image script schedule)
-walk_in_range (Some n) (Some i) (Some s) (Some l) h =
-    let b = h n refl in
-    (b.0, omega arith)
-walk_in_range (Some n) (Some i) (Some s) None h = tt
-walk_in_range (Some n) (Some i) None l h = tt
-walk_in_range (Some n) None s l h = tt
-walk_in_range None i s l h = tt
-
-bench_in_range : (seed : Option ℕ) → ((n : ℕ) → seed ≡ Some n → (0 ≤ n) × (n ≤ greatest_number)) → AllInRange (option_map bench seed)
+bench_in_range : (seed : Option ℕ) → ((n : ℕ) → seed ≡ Some n → (0 ≤ n) × (n ≤ greatest_number)) → AllInRange (option_map (λ n. bench demand n) seed)
 bench_in_range None h = tt
 bench_in_range (Some n) h =
     let b = h n refl in
@@ -59,13 +51,17 @@ asm_in_range : (o : Option Text) → AllInRange (option_map asm o)
 asm_in_range None = tt
 asm_in_range (Some t) = tt
 
+run_by_in_range : (digest : Bool) (engine : Option Engine) (rows : List Row) → AllInRange (run_by digest engine rows)
+unfolding run_by
+run_by_in_range digest engine rows = run_in_range (fuel_of rows) digest engine (first_of (codes "image") rows) (first_of (codes "script") rows) (number_of_bounds 1 greatest_number (one_of (codes "limit") rows))
+
 line_of_run : (rows : List Row) → AllInRange (run_line rows)
 unfolding run_line
-line_of_run rows = run_in_range (fuel_of rows) (has_flag (codes "digest") rows) (first_of (codes "image") rows) (first_of (codes "script") rows) (number_of_bounds 1 greatest_number (one_of (codes "limit") rows))
+line_of_run rows = run_by_in_range _ _ rows
 
 line_of_walk : (rows : List Row) → AllInRange (walk_line rows)
 unfolding walk_line
-line_of_walk rows = walk_in_range (fuel_of rows) (first_of (codes "image") rows) (first_of (codes "script") rows) (first_of (codes "schedule") rows) (number_of_bounds 1 greatest_number (one_of (codes "limit") rows))
+line_of_walk rows = run_by_in_range _ _ rows
 
 line_of_bench : (rows : List Row) → AllInRange (bench_line rows)
 line_of_bench rows = bench_in_range (seed_of rows) (number_of_bounds 0 greatest_number (one_of (codes "seed") rows))

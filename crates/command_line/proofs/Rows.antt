@@ -1,173 +1,177 @@
 -- The line of words that are written out.
-use Rattle.std.proofs.Common.{◌≡◌, refl, true, false, List, [], ◌∷◌, Some, None, codes}
+use Rattle.std.proofs.Common.{◌≡◌, refl, ℕ, Bool, true, false, List, [], ◌∷◌, Some, None, codes}
 use Rattle.clap.specs.Words.{Text}
 use Rattle.clap.proofs.OnLiterals.{clap_on_literals}
-use Rattle.command_line.specs.Line.{asm, asm_app, bench, bench_app, files_of, line, number_in, program_app, run, run_app, run_line, walk, walk_app, walk_line}
+use Rattle.command_line.specs.Line.{Engine, Line, asm, asm_app, bench, bench_app, demand, files_of, line, number_in, program_app, run, run_app, run_by, run_line, schedule, walk_app, walk_line}
+
+-- a run, by its parts
+abbrev runs : ℕ → Bool → Engine → Text → Text → Line
+runs fuel digest engine image script = run (record { fuel = fuel; digest = digest; engine = engine; image = image; script = script })
 
 -- after the program's name and `run`
 abbrev run_words : List Text → List Text
 run_words words = codes "det" ∷ codes "run" ∷ words
 
-pub plain_run : line (run_words (codes "I" ∷ codes "S" ∷ [])) ≡ Some (run 1000000 false (codes "I") (codes "S"))
-unfolding clap_on_literals line program_app run_app walk_app asm_app bench_app run_line walk_line number_in
+pub plain_run : line (run_words (codes "I" ∷ codes "S" ∷ [])) ≡ Some (runs 1000000 false demand (codes "I") (codes "S"))
+unfolding clap_on_literals line program_app run_app walk_app asm_app bench_app run_line walk_line run_by number_in
 plain_run = refl
 
-pub run_with_fuel : line (run_words (codes "--limit" ∷ codes "2" ∷ codes "I" ∷ codes "S" ∷ [])) ≡ Some (run 2 false (codes "I") (codes "S"))
-unfolding clap_on_literals line program_app run_app walk_app asm_app bench_app run_line walk_line number_in
+pub run_with_fuel : line (run_words (codes "--limit" ∷ codes "2" ∷ codes "I" ∷ codes "S" ∷ [])) ≡ Some (runs 2 false demand (codes "I") (codes "S"))
+unfolding clap_on_literals line program_app run_app walk_app asm_app bench_app run_line walk_line run_by number_in
 run_with_fuel = refl
 
-pub largest_fuel : line (run_words (codes "I" ∷ codes "--limit=4294967295" ∷ codes "S" ∷ [])) ≡ Some (run 4294967295 false (codes "I") (codes "S"))
-unfolding clap_on_literals line program_app run_app walk_app asm_app bench_app run_line walk_line number_in
+pub largest_fuel : line (run_words (codes "I" ∷ codes "--limit=4294967295" ∷ codes "S" ∷ [])) ≡ Some (runs 4294967295 false demand (codes "I") (codes "S"))
+unfolding clap_on_literals line program_app run_app walk_app asm_app bench_app run_line walk_line run_by number_in
 largest_fuel = refl
 
-pub dashes_before_names : line (run_words (codes "--" ∷ codes "--help" ∷ codes "-h" ∷ [])) ≡ Some (run 1000000 false (codes "--help") (codes "-h"))
-unfolding clap_on_literals line program_app run_app walk_app asm_app bench_app run_line walk_line number_in
+pub dashes_before_names : line (run_words (codes "--" ∷ codes "--help" ∷ codes "-h" ∷ [])) ≡ Some (runs 1000000 false demand (codes "--help") (codes "-h"))
+unfolding clap_on_literals line program_app run_app walk_app asm_app bench_app run_line walk_line run_by number_in
 dashes_before_names = refl
 
 pub no_fuel : line (run_words (codes "--limit" ∷ codes "0" ∷ codes "I" ∷ codes "S" ∷ [])) ≡ None
-unfolding clap_on_literals line program_app run_app walk_app asm_app bench_app run_line walk_line number_in
+unfolding clap_on_literals line program_app run_app walk_app asm_app bench_app run_line walk_line run_by number_in
 no_fuel = refl
 
 pub too_much_fuel : line (run_words (codes "--limit" ∷ codes "4294967296" ∷ codes "I" ∷ codes "S" ∷ [])) ≡ None
-unfolding clap_on_literals line program_app run_app walk_app asm_app bench_app run_line walk_line number_in
+unfolding clap_on_literals line program_app run_app walk_app asm_app bench_app run_line walk_line run_by number_in
 too_much_fuel = refl
 
 pub run_alone : line (run_words []) ≡ None
-unfolding clap_on_literals line program_app run_app walk_app asm_app bench_app run_line walk_line number_in
+unfolding clap_on_literals line program_app run_app walk_app asm_app bench_app run_line walk_line run_by number_in
 run_alone = refl
 
 pub one_name : line (run_words (codes "I" ∷ [])) ≡ None
-unfolding clap_on_literals line program_app run_app walk_app asm_app bench_app run_line walk_line number_in
+unfolding clap_on_literals line program_app run_app walk_app asm_app bench_app run_line walk_line run_by number_in
 one_name = refl
 
 pub three_names : line (run_words (codes "I" ∷ codes "S" ∷ codes "T" ∷ [])) ≡ None
-unfolding clap_on_literals line program_app run_app walk_app asm_app bench_app run_line walk_line number_in
+unfolding clap_on_literals line program_app run_app walk_app asm_app bench_app run_line walk_line run_by number_in
 three_names = refl
 
 pub unknown_option : line (run_words (codes "--fast" ∷ codes "I" ∷ codes "S" ∷ [])) ≡ None
-unfolding clap_on_literals line program_app run_app walk_app asm_app bench_app run_line walk_line number_in
+unfolding clap_on_literals line program_app run_app walk_app asm_app bench_app run_line walk_line run_by number_in
 unknown_option = refl
 
 pub help_of_run : line (run_words (codes "I" ∷ codes "S" ∷ codes "--help" ∷ [])) ≡ None
-unfolding clap_on_literals line program_app run_app walk_app asm_app bench_app run_line walk_line number_in
+unfolding clap_on_literals line program_app run_app walk_app asm_app bench_app run_line walk_line run_by number_in
 help_of_run = refl
 
-pub run_with_digest : line (run_words (codes "--digest" ∷ codes "I" ∷ codes "S" ∷ [])) ≡ Some (run 1000000 true (codes "I") (codes "S"))
-unfolding clap_on_literals line program_app run_app walk_app asm_app bench_app run_line walk_line number_in
+pub run_with_digest : line (run_words (codes "--digest" ∷ codes "I" ∷ codes "S" ∷ [])) ≡ Some (runs 1000000 true demand (codes "I") (codes "S"))
+unfolding clap_on_literals line program_app run_app walk_app asm_app bench_app run_line walk_line run_by number_in
 run_with_digest = refl
 
-pub digest_between_names : line (run_words (codes "I" ∷ codes "--digest" ∷ codes "--limit" ∷ codes "2" ∷ codes "S" ∷ [])) ≡ Some (run 2 true (codes "I") (codes "S"))
-unfolding clap_on_literals line program_app run_app walk_app asm_app bench_app run_line walk_line number_in
+pub digest_between_names : line (run_words (codes "I" ∷ codes "--digest" ∷ codes "--limit" ∷ codes "2" ∷ codes "S" ∷ [])) ≡ Some (runs 2 true demand (codes "I") (codes "S"))
+unfolding clap_on_literals line program_app run_app walk_app asm_app bench_app run_line walk_line run_by number_in
 digest_between_names = refl
 
-pub digest_after_dashes : line (run_words (codes "--" ∷ codes "--digest" ∷ codes "S" ∷ [])) ≡ Some (run 1000000 false (codes "--digest") (codes "S"))
-unfolding clap_on_literals line program_app run_app walk_app asm_app bench_app run_line walk_line number_in
+pub digest_after_dashes : line (run_words (codes "--" ∷ codes "--digest" ∷ codes "S" ∷ [])) ≡ Some (runs 1000000 false demand (codes "--digest") (codes "S"))
+unfolding clap_on_literals line program_app run_app walk_app asm_app bench_app run_line walk_line run_by number_in
 digest_after_dashes = refl
 
 pub digest_with_value : line (run_words (codes "--digest=true" ∷ codes "I" ∷ codes "S" ∷ [])) ≡ None
-unfolding clap_on_literals line program_app run_app walk_app asm_app bench_app run_line walk_line number_in
+unfolding clap_on_literals line program_app run_app walk_app asm_app bench_app run_line walk_line run_by number_in
 digest_with_value = refl
 
 pub digest_given_again : line (run_words (codes "--digest" ∷ codes "--digest" ∷ codes "I" ∷ codes "S" ∷ [])) ≡ None
-unfolding clap_on_literals line program_app run_app walk_app asm_app bench_app run_line walk_line number_in
+unfolding clap_on_literals line program_app run_app walk_app asm_app bench_app run_line walk_line run_by number_in
 digest_given_again = refl
 
 pub program_alone : line (codes "det" ∷ []) ≡ None
-unfolding clap_on_literals line program_app run_app walk_app asm_app bench_app run_line walk_line number_in
+unfolding clap_on_literals line program_app run_app walk_app asm_app bench_app run_line walk_line run_by number_in
 program_alone = refl
 
 pub help_flag : line (codes "det" ∷ codes "--help" ∷ []) ≡ None
-unfolding clap_on_literals line program_app run_app walk_app asm_app bench_app run_line walk_line number_in
+unfolding clap_on_literals line program_app run_app walk_app asm_app bench_app run_line walk_line run_by number_in
 help_flag = refl
 
 pub short_help_flag : line (codes "det" ∷ codes "-h" ∷ []) ≡ None
-unfolding clap_on_literals line program_app run_app walk_app asm_app bench_app run_line walk_line number_in
+unfolding clap_on_literals line program_app run_app walk_app asm_app bench_app run_line walk_line run_by number_in
 short_help_flag = refl
 
 pub help_word : line (codes "det" ∷ codes "help" ∷ []) ≡ None
-unfolding clap_on_literals line program_app run_app walk_app asm_app bench_app run_line walk_line number_in
+unfolding clap_on_literals line program_app run_app walk_app asm_app bench_app run_line walk_line run_by number_in
 help_word = refl
 
 pub version_flag : line (codes "det" ∷ codes "--version" ∷ []) ≡ None
-unfolding clap_on_literals line program_app run_app walk_app asm_app bench_app run_line walk_line number_in
+unfolding clap_on_literals line program_app run_app walk_app asm_app bench_app run_line walk_line run_by number_in
 version_flag = refl
 
 pub plain_asm : line (codes "det" ∷ codes "asm" ∷ codes "A" ∷ []) ≡ Some (asm (codes "A"))
-unfolding clap_on_literals line program_app run_app walk_app asm_app bench_app run_line walk_line number_in
+unfolding clap_on_literals line program_app run_app walk_app asm_app bench_app run_line walk_line run_by number_in
 plain_asm = refl
 
 pub asm_with_fuel : line (codes "det" ∷ codes "asm" ∷ codes "--limit" ∷ codes "2" ∷ codes "A" ∷ []) ≡ None
-unfolding clap_on_literals line program_app run_app walk_app asm_app bench_app run_line walk_line number_in
+unfolding clap_on_literals line program_app run_app walk_app asm_app bench_app run_line walk_line run_by number_in
 asm_with_fuel = refl
 
 -- after the program's name and `walk`
 abbrev walk_words : List Text → List Text
 walk_words words = codes "det" ∷ codes "walk" ∷ words
 
-pub plain_walk : line (walk_words (codes "I" ∷ codes "S" ∷ codes "T" ∷ [])) ≡ Some (walk 1000000 (codes "I") (codes "S") (codes "T"))
-unfolding clap_on_literals line program_app run_app walk_app asm_app bench_app run_line walk_line number_in
+pub plain_walk : line (walk_words (codes "I" ∷ codes "S" ∷ codes "T" ∷ [])) ≡ Some (runs 1000000 false (schedule (codes "T")) (codes "I") (codes "S"))
+unfolding clap_on_literals line program_app run_app walk_app asm_app bench_app run_line walk_line run_by number_in
 plain_walk = refl
 
-pub walk_with_fuel : line (walk_words (codes "--limit" ∷ codes "2" ∷ codes "I" ∷ codes "S" ∷ codes "T" ∷ [])) ≡ Some (walk 2 (codes "I") (codes "S") (codes "T"))
-unfolding clap_on_literals line program_app run_app walk_app asm_app bench_app run_line walk_line number_in
+pub walk_with_fuel : line (walk_words (codes "--limit" ∷ codes "2" ∷ codes "I" ∷ codes "S" ∷ codes "T" ∷ [])) ≡ Some (runs 2 false (schedule (codes "T")) (codes "I") (codes "S"))
+unfolding clap_on_literals line program_app run_app walk_app asm_app bench_app run_line walk_line run_by number_in
 walk_with_fuel = refl
 
 pub walk_with_two_names : line (walk_words (codes "I" ∷ codes "S" ∷ [])) ≡ None
-unfolding clap_on_literals line program_app run_app walk_app asm_app bench_app run_line walk_line number_in
+unfolding clap_on_literals line program_app run_app walk_app asm_app bench_app run_line walk_line run_by number_in
 walk_with_two_names = refl
 
 pub walk_with_four_names : line (walk_words (codes "I" ∷ codes "S" ∷ codes "T" ∷ codes "U" ∷ [])) ≡ None
-unfolding clap_on_literals line program_app run_app walk_app asm_app bench_app run_line walk_line number_in
+unfolding clap_on_literals line program_app run_app walk_app asm_app bench_app run_line walk_line run_by number_in
 walk_with_four_names = refl
 
 pub walk_with_digest : line (walk_words (codes "--digest" ∷ codes "I" ∷ codes "S" ∷ codes "T" ∷ [])) ≡ None
-unfolding clap_on_literals line program_app run_app walk_app asm_app bench_app run_line walk_line number_in
+unfolding clap_on_literals line program_app run_app walk_app asm_app bench_app run_line walk_line run_by number_in
 walk_with_digest = refl
 
 -- after the program's name and `bench`
 abbrev bench_words : List Text → List Text
 bench_words words = codes "det" ∷ codes "bench" ∷ words
 
-pub least_seed : line (bench_words (codes "0" ∷ [])) ≡ Some (bench 0)
-unfolding clap_on_literals line program_app run_app walk_app asm_app bench_app run_line walk_line number_in
+pub least_seed : line (bench_words (codes "0" ∷ [])) ≡ Some (bench demand 0)
+unfolding clap_on_literals line program_app run_app walk_app asm_app bench_app run_line walk_line run_by number_in
 least_seed = refl
 
-pub largest_seed : line (bench_words (codes "4294967295" ∷ [])) ≡ Some (bench 4294967295)
-unfolding clap_on_literals line program_app run_app walk_app asm_app bench_app run_line walk_line number_in
+pub largest_seed : line (bench_words (codes "4294967295" ∷ [])) ≡ Some (bench demand 4294967295)
+unfolding clap_on_literals line program_app run_app walk_app asm_app bench_app run_line walk_line run_by number_in
 largest_seed = refl
 
 pub too_large_seed : line (bench_words (codes "4294967296" ∷ [])) ≡ None
-unfolding clap_on_literals line program_app run_app walk_app asm_app bench_app run_line walk_line number_in
+unfolding clap_on_literals line program_app run_app walk_app asm_app bench_app run_line walk_line run_by number_in
 too_large_seed = refl
 
 pub negative_seed : line (bench_words (codes "-1" ∷ [])) ≡ None
-unfolding clap_on_literals line program_app run_app walk_app asm_app bench_app run_line walk_line number_in
+unfolding clap_on_literals line program_app run_app walk_app asm_app bench_app run_line walk_line run_by number_in
 negative_seed = refl
 
 pub bench_alone : line (bench_words []) ≡ None
-unfolding clap_on_literals line program_app run_app walk_app asm_app bench_app run_line walk_line number_in
+unfolding clap_on_literals line program_app run_app walk_app asm_app bench_app run_line walk_line run_by number_in
 bench_alone = refl
 
-pub seed_after_dashes : line (bench_words (codes "--" ∷ codes "65535" ∷ [])) ≡ Some (bench 65535)
-unfolding clap_on_literals line program_app run_app walk_app asm_app bench_app run_line walk_line number_in
+pub seed_after_dashes : line (bench_words (codes "--" ∷ codes "65535" ∷ [])) ≡ Some (bench demand 65535)
+unfolding clap_on_literals line program_app run_app walk_app asm_app bench_app run_line walk_line run_by number_in
 seed_after_dashes = refl
 
 pub bench_with_fuel : line (bench_words (codes "--limit" ∷ codes "5" ∷ codes "1" ∷ [])) ≡ None
-unfolding clap_on_literals line program_app run_app walk_app asm_app bench_app run_line walk_line number_in
+unfolding clap_on_literals line program_app run_app walk_app asm_app bench_app run_line walk_line run_by number_in
 bench_with_fuel = refl
 
 pub two_seeds : line (bench_words (codes "1" ∷ codes "2" ∷ [])) ≡ None
-unfolding clap_on_literals line program_app run_app walk_app asm_app bench_app run_line walk_line number_in
+unfolding clap_on_literals line program_app run_app walk_app asm_app bench_app run_line walk_line run_by number_in
 two_seeds = refl
 
-pub run_files : files_of (run 2 false (codes "I") (codes "S")) ≡ codes "I" ∷ codes "S" ∷ []
+pub run_files : files_of (runs 2 false demand (codes "I") (codes "S")) ≡ codes "I" ∷ codes "S" ∷ []
 run_files = refl
 
-pub walk_files : files_of (walk 2 (codes "I") (codes "S") (codes "T")) ≡ codes "I" ∷ codes "S" ∷ codes "T" ∷ []
+pub walk_files : files_of (runs 2 false (schedule (codes "T")) (codes "I") (codes "S")) ≡ codes "I" ∷ codes "S" ∷ codes "T" ∷ []
 walk_files = refl
 
 pub asm_files : files_of (asm (codes "A")) ≡ codes "A" ∷ []
 asm_files = refl
 
-pub bench_files : files_of (bench 1) ≡ []
+pub bench_files : files_of (bench demand 1) ≡ []
 bench_files = refl

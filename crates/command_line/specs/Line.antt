@@ -17,6 +17,9 @@ use Rattle.clap.specs.declared.builder.command.Command as clap
 use Rattle.clap.specs.declared.builder.command.Command.TheViews.{out-Command}
 use Rattle.command_line.specs.declared.command.Command.{Command}
 use Rattle.command_line.specs.declared.command.Command.TheVariants as command
+use Rattle.command_line.specs.declared.command.Run as command_run
+use Rattle.command_line.specs.declared.command.Engine as engine
+use Rattle.command_line.specs.declared.command.Engine.TheVariants.{Demand, Schedule}
 
 -- ---- the commands
 
@@ -80,27 +83,40 @@ IsApp c a = (app_of c ≡ a) × ((out-Command c).has_globals ≡ false)
 
 -- ---- the line
 
--- `run` with its fuel, whether digests are asked for, an image's file name and a script's; `walk` with its fuel and the file names of
--- an image, a script and a schedule; `asm` with a source's; `bench` with its seed
+-- in which order events happen: each space runs when its parent waits for it; or first those of a schedule, by its file name
+pub data Engine : Type 0 where
+  demand : Engine
+  schedule : Text → Engine
+
+-- a run: its fuel, whether digests are asked for, its engine, and the file names of an image and a script
+pub record Run : Type 0 where
+  pub fuel : ℕ
+  pub digest : Bool
+  pub engine : Engine
+  pub image : Text
+  pub script : Text
+
+-- `run` and `walk`; `asm` with a source's file name; `bench` with its engine and its seed
 pub data Line : Type 0 where
-  run : ℕ → Bool → Text → Text → Line
-  walk : ℕ → Text → Text → Text → Line
+  run : Run → Line
   asm : Text → Line
-  bench : ℕ → Line
+  bench : Engine → ℕ → Line
 
 -- the names of the files, in the order of the words
+abbrev pub files_of_engine : Engine → List Text
+files_of_engine demand = []
+files_of_engine (schedule name) = name ∷ []
+
 abbrev pub files_of : Line → List Text
-files_of (run fuel digest image script) = image ∷ script ∷ []
-files_of (walk fuel image script schedule) = image ∷ script ∷ schedule ∷ []
+files_of (run r) = r.image ∷ r.script ∷ files_of_engine r.engine
 files_of (asm source) = source ∷ []
-files_of (bench seed) = []
+files_of (bench engine seed) = files_of_engine engine
 
 -- numbers are in their ranges
 abbrev pub IsInRange : Line → Type 0
-IsInRange (run fuel digest image script) = (1 ≤ fuel) × (fuel < 2 ^ 32)
-IsInRange (walk fuel image script schedule) = (1 ≤ fuel) × (fuel < 2 ^ 32)
+IsInRange (run r) = (1 ≤ r.fuel) × (r.fuel < 2 ^ 32)
 IsInRange (asm source) = Unit {0}
-IsInRange (bench seed) = seed < 2 ^ 32
+IsInRange (bench engine seed) = seed < 2 ^ 32
 
 -- the number of a text that such an argument takes
 unfoldable pub number_in : ℕ → ℕ → Text → Option ℕ
@@ -120,26 +136,26 @@ fuel_of = number_of 1 greatest_number (codes "limit")
 abbrev pub seed_of : List Row → Option ℕ
 seed_of = number_of 0 greatest_number (codes "seed")
 
--- the parts, where all are there
-abbrev pub run_of : Option ℕ → Bool → Option Text → Option Text → Option Line
-run_of (Some fuel) digest (Some image) (Some script) = Some (run fuel digest image script)
-run_of _ _ _ _ = None
+-- the parts of a run, where all are there
+abbrev pub run_with : Option ℕ → Bool → Option Engine → Option Text → Option Text → Option Line
+run_with (Some fuel) digest (Some engine) (Some image) (Some script) = Some (run (record { fuel = fuel; digest = digest; engine = engine; image = image; script = script }))
+run_with _ _ _ _ _ = None
+
+-- the run of such rows, with digests or without, by an engine
+unfoldable pub run_by : Bool → Option Engine → List Row → Option Line
+run_by digest engine rows = run_with (fuel_of rows) digest engine (first_of (codes "image") rows) (first_of (codes "script") rows)
 
 unfoldable pub run_line : List Row → Option Line
-run_line rows = run_of (fuel_of rows) (has_flag (codes "digest") rows) (first_of (codes "image") rows) (first_of (codes "script") rows)
-
-abbrev pub walk_of : Option ℕ → Option Text → Option Text → Option Text → Option Line
-walk_of (Some fuel) (Some image) (Some script) (Some schedule) = Some (walk fuel image script schedule)
-walk_of _ _ _ _ = None
+run_line rows = run_by (has_flag (codes "digest") rows) (Some demand) rows
 
 unfoldable pub walk_line : List Row → Option Line
-walk_line rows = walk_of (fuel_of rows) (first_of (codes "image") rows) (first_of (codes "script") rows) (first_of (codes "schedule") rows)
+walk_line rows = run_by false (option_map (λ name. schedule name) (first_of (codes "schedule") rows)) rows
 
 abbrev pub asm_line : List Row → Option Line
 asm_line rows = option_map asm (first_of (codes "source") rows)
 
 abbrev pub bench_line : List Row → Option Line
-bench_line rows = option_map bench (seed_of rows)
+bench_line rows = option_map (λ seed. bench demand seed) (seed_of rows)
 
 abbrev pub command_line : Text × List Row → Option Line
 command_line p = if bytes_eq p.0 (codes "run") then run_line p.1
@@ -158,8 +174,14 @@ abbrev pub IsRefused : List Text → Type 0
 IsRefused words = ¬ (fault_of program_app words ≡ [])
 
 -- the line that a command stands for
+abbrev pub engine_of : engine.Engine → Engine
+engine_of Demand = demand
+engine_of (Schedule name) = schedule name.now
+
+abbrev pub run_of : command_run.Run → Run
+run_of r = record { fuel = r.fuel; digest = r.digest; engine = engine_of r.engine; image = r.image.now; script = r.script.now }
+
 abbrev pub line_of : Command → Line
-line_of (command.Run fuel digest image script) = run fuel digest image.now script.now
-line_of (command.Walk fuel image script schedule) = walk fuel image.now script.now schedule.now
+line_of (command.Run r) = run (run_of r)
 line_of (command.Asm source) = asm source.now
-line_of (command.Bench seed) = bench seed
+line_of (command.Bench e seed) = bench (engine_of e) seed

@@ -1,28 +1,8 @@
 /// What a command line asks for. File names are the words as they are.
 #[derive(Clone, Copy, Debug, PartialEq, Eq)]
 pub enum Command<'a> {
-    /// Runs an image on a script.
-    Run {
-        /// How many events each space may take: from 1 to 4,294,967,295, or 1,000,000 where `--limit` is not given.
-        fuel: u32,
-        /// Whether the report has a digest of each space's memory: `--digest`.
-        digest: bool,
-        /// The image's file name.
-        image: &'a str,
-        /// The script's file name.
-        script: &'a str,
-    },
-    /// Runs an image on a script by a schedule, and then whatever is left to run.
-    Walk {
-        /// How many events each space may take, as for `Run`.
-        fuel: u32,
-        /// The image's file name.
-        image: &'a str,
-        /// The script's file name.
-        script: &'a str,
-        /// The schedule's file name.
-        schedule: &'a str,
-    },
+    /// Runs an image on a script: the words `run` and `walk`.
+    Run(Run<'a>),
     /// Makes the image of a source text.
     Asm {
         /// The source's file name.
@@ -30,7 +10,33 @@ pub enum Command<'a> {
     },
     /// Makes a large image from a number, runs it, and sums up what became of it.
     Bench {
+        /// In which order events happen.
+        engine: Engine<'a>,
         /// The number: from 0 to 4,294,967,295.
         seed: u32,
     },
+}
+
+/// A run of an image on a script.
+#[derive(Clone, Copy, Debug, PartialEq, Eq)]
+pub struct Run<'a> {
+    /// How many events each space may take: from 1 to 4,294,967,295, or 1,000,000 where `--limit` is not given.
+    pub fuel: u32,
+    /// Whether the report has a digest of each space's memory: `--digest`.
+    pub digest: bool,
+    /// In which order events happen.
+    pub engine: Engine<'a>,
+    /// The image's file name.
+    pub image: &'a str,
+    /// The script's file name.
+    pub script: &'a str,
+}
+
+/// In which order the events of a tree happen, which does not change what comes of them.
+#[derive(Clone, Copy, Debug, PartialEq, Eq)]
+pub enum Engine<'a> {
+    /// Each space runs when its parent waits for it.
+    Demand,
+    /// First the events of a schedule, by the schedule's file name, and then whatever is left to run: the word `walk`.
+    Schedule(&'a str),
 }

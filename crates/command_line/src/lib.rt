@@ -5,5 +5,5 @@ mod apps;
 mod command;
 mod reading;
 
-pub use command::Command;
+pub use command::{Command, Engine, Run};
 pub use reading::read_line;

@@ -1,10 +1,10 @@
-ghost use Rattle.std.specs.Prelude.{◌≡◌, ◌↔◌, IfOk, IsNone, map, option_map, option_and_then, IfSome};
+ghost use Rattle.std.specs.Prelude.{◌≡◌, ◌↔◌, IfOk, IsNone, codes, map, option_map, option_and_then, IfSome};
 ghost use Rattle.std.specs.String.{string_bytes};
 ghost use Rattle.clap.specs.Words.{first_of, found_of, rows_of, subcommand_rows_of};
-ghost use Rattle.command_line.specs.Line.{IsInRange, IsRefused, asm_line, bench_line, command_line, fuel_of, has_flag, line, line_of, number_of, run_line, run_of, seed_of, walk_line, walk_of};
+ghost use Rattle.command_line.specs.Line.{IsInRange, IsRefused, asm_line, bench_line, command_line, engine_of, fuel_of, has_flag, line, line_of, number_of, run_by, run_line, run_with, schedule, seed_of, walk_line};
 
 use crate::apps::{GREATEST_FUEL, GREATEST_SEED, program_command};
-use crate::command::Command;
+use crate::command::{Command, Engine, Run};
 use clap::ArgMatches;
 use clap::error::ErrorKind;
 use std::alloc::{AllocError, Global};
@@ -49,58 +49,59 @@ fn seed_from(matches: &ArgMatches<'_>) -> Option<u32>
     number_from(matches, "seed", 0, GREATEST_SEED)
 }
 
+// The parts of a run, where all are there.
 fn run_with<'a>(
     fuel: Option<u32>,
     digest: bool,
+    engine: Option<Engine<'a>>,
     image: Option<&'a str>,
     script: Option<&'a str>,
 ) -> Option<Command<'a>>
-    ensures { option_map line_of result ≡ run_of fuel digest (option_map (λ s. s.now) image.entry)
-        (option_map (λ s. s.now) script.entry) }
+    ensures { option_map line_of result ≡ run_with fuel digest (option_map engine_of engine.entry)
+        (option_map (λ s. s.now) image.entry) (option_map (λ s. s.now) script.entry) }
 {
-    Some(Command::Run {
+    Some(Command::Run(Run {
         fuel: fuel?,
         digest,
+        engine: engine?,
         image: image?,
         script: script?,
-    })
+    }))
+}
+
+// A run with digests or without, by an engine.
+fn run_by<'a>(
+    matches: &ArgMatches<'a>,
+    digest: bool,
+    engine: Option<Engine<'a>>,
+) -> Option<Command<'a>>
+    ensures { option_map line_of result ≡ run_by digest (option_map engine_of engine.entry) (rows_of (found_of matches.now)) }
+{
+    let fuel = fuel_from(matches);
+    let image = text_from(matches, "image");
+    let script = text_from(matches, "script");
+    run_with(fuel, digest, engine, image, script)
 }
 
 fn run_from<'a>(matches: &ArgMatches<'a>) -> Option<Command<'a>>
     ensures { option_map line_of result ≡ run_line (rows_of (found_of matches.now)) }
 {
-    let fuel = fuel_from(matches);
     let digest = flag_from(matches, "digest");
-    let image = text_from(matches, "image");
-    let script = text_from(matches, "script");
-    run_with(fuel, digest, image, script)
+    run_by(matches, digest, Some(Engine::Demand))
 }
 
-fn walk_with<'a>(
-    fuel: Option<u32>,
-    image: Option<&'a str>,
-    script: Option<&'a str>,
-    schedule: Option<&'a str>,
-) -> Option<Command<'a>>
-    ensures { option_map line_of result ≡ walk_of fuel (option_map (λ s. s.now) image.entry)
-        (option_map (λ s. s.now) script.entry) (option_map (λ s. s.now) schedule.entry) }
+fn schedule_from<'a>(matches: &ArgMatches<'a>) -> Option<Engine<'a>>
+    ensures { option_map engine_of result ≡ option_map (λ name. schedule name) (first_of (codes "schedule") (rows_of (found_of matches.now))) }
 {
-    Some(Command::Walk {
-        fuel: fuel?,
-        image: image?,
-        script: script?,
-        schedule: schedule?,
-    })
+    let name = text_from(matches, "schedule")?;
+    Some(Engine::Schedule(name))
 }
 
 fn walk_from<'a>(matches: &ArgMatches<'a>) -> Option<Command<'a>>
     ensures { option_map line_of result ≡ walk_line (rows_of (found_of matches.now)) }
 {
-    let fuel = fuel_from(matches);
-    let image = text_from(matches, "image");
-    let script = text_from(matches, "script");
-    let schedule = text_from(matches, "schedule");
-    walk_with(fuel, image, script, schedule)
+    let engine = schedule_from(matches);
+    run_by(matches, false, engine)
 }
 
 fn asm_from<'a>(matches: &ArgMatches<'a>) -> Option<Command<'a>>
@@ -114,7 +115,10 @@ fn bench_from<'a>(matches: &ArgMatches<'a>) -> Option<Command<'a>>
     ensures { option_map line_of result ≡ bench_line (rows_of (found_of matches.now)) }
 {
     let seed = seed_from(matches)?;
-    Some(Command::Bench { seed })
+    Some(Command::Bench {
+        engine: Engine::Demand,
+        seed,
+    })
 }
 
 fn command_from<'a>(matches: &ArgMatches<'a>) -> Option<Command<'a>>

@@ -1,16 +1,16 @@
 -- How a command goes, by what its stages answer; and what follows for its end.
-use Rattle.std.proofs.Common.{◌≡◌, ◌⊎◌, ℕ, List, [], ◌++◌, length, take, Option, Some, None, Ok, Err, inl, inr, refl, sym, ap, ◌∙◌, subst, lit≤, lit<, arith}
+use Rattle.std.proofs.Common.{◌≡◌, ◌⊎◌, ℕ, List, [], ◌∷◌, ◌++◌, length, take, Option, Some, None, Ok, Err, inl, inr, refl, sym, ap, ◌∙◌, subst, lit≤, lit<, arith}
 use Rattle.std.proofs.lemmas.List.{append-nil, take_all}
 use Rattle.det_host.specs.Outside.{Takes, Rose}
-use Rattle.command_line.specs.Line.{Line, run, walk, asm, bench}
+use Rattle.command_line.specs.Line.{Line, run, asm, bench}
 use Rattle.det_host.specs.declared.sink.SinkError.{SinkError}
 use Rattle.det_host.specs.declared.sink.SinkError.TheVariants.{Failed, Memory}
 use Rattle.det_cli.specs.declared.end.End.{End}
 use Rattle.det_cli.specs.declared.end.End.TheVariants.{Usage, ReadFault, WriteFault, NoMemory}
 use Rattle.det_cli.specs.Status.{status_of, IsDone, IsBad, IsEarly}
 use Rattle.det_cli.specs.Writing.{Output, TakesPrefix, IsUntouched, Wrote, WrotePrefix, StopsWithin}
-use Rattle.det_cli.specs.Files.{Expectation, Input}
-use Rattle.det_cli.specs.Commands.{steps_of, whole_of, expectation_of_bench, expectation_of_files}
+use Rattle.det_cli.specs.Files.{Expectation, Input, Step, judge}
+use Rattle.det_cli.specs.Commands.{engine_steps, steps_of, whole_of, expectation_of_bench, expectation_of_files}
 use Rattle.det_cli.specs.Answers.{Writes, Ends, IsUnasked, Course, CourseOf}
 use Rattle.det_cli.specs.Stages.{GivesExpectation, Reads}
 use Rattle.det_cli.proofs.Stages.{none_told}
@@ -131,11 +131,14 @@ pub nothing_begun : (e : Expectation) (out err : Output) → IsUntouched out →
 nothing_begun e out err u w = inr (inr (refl, untouched_prefix out e.out u, untouched_prefix err e.err w, inr w))
 
 -- memory ran out before any file was asked for
+unread_by : (ss : List Step) (e : Expectation) (i : Input) (out err : Output) → IsDone e.end → IsUntouched out → IsUntouched err → Ends (judge ss (λ files. Some e) []) i out err NoMemory
+unread_by [] e i out err done u w = inl (done, nothing_begun e out err u w)
+unread_by (s ∷ ss) e i out err done u w = (u, w, inr refl)
+
 unread : (l : Line) (i : Input) (out err : Output) → IsUntouched out → IsUntouched err → Ends (expectation_of_files l []) i out err NoMemory
-unread (run fuel digest image script) i out err u w = (u, w, inr refl)
-unread (walk fuel image script schedule) i out err u w = (u, w, inr refl)
+unread (run r) i out err u w = (u, w, inr refl)
 unread (asm source) i out err u w = (u, w, inr refl)
-unread (bench seed) i out err u w = inl (lit< tt, nothing_begun (expectation_of_bench seed) out err u w)
+unread (bench engine seed) i out err u w = unread_by (engine_steps engine) (expectation_of_bench seed) i out err (lit< tt) u w
 
 pub no_memory : (o : Option Line) (i : Input) (out err : Output) → IsUnasked i → IsUntouched out → IsUntouched err → CourseOf o i out err NoMemory
 no_memory None i out err e u w = (inr refl, e, u, w)
@@ -145,29 +148,16 @@ no_memory (Some l) i out err e u w = record {
     as_told = none_told (steps_of l) i.told;
     count = 0;
     asked = e.0 ∙ sym (append-nil i.asked_before);
+    least = lit≤ tt;
     most = lit≤ tt;
     in_order = λ j lt. absurd (omega (arith, lt));
   };
   ends = unread l i out err u w;
 }
 
-unread_course : (seed : ℕ) (i : Input) (out err : Output) (end : End) → IsUnasked i → Writes (expectation_of_bench seed) out err end → Course (bench seed) i out err end
-unread_course seed i out err end e w = record {
-  contents = [];
-  files = record {
-    as_told = tt;
-    count = 0;
-    asked = e.0 ∙ sym (append-nil i.asked_before);
-    most = lit≤ tt;
-    in_order = λ j lt. absurd (omega (arith, lt));
-  };
-  ends = inl (lit< tt, w);
-}
-
--- a command without files
-pub bench_course : (l : Line) (seed : ℕ) (i : Input) (out err : Output) (end : End) → l ≡ bench seed → IsUnasked i → IsUntouched err
-    → ((o : Output) → IsUntouched o → Writes (expectation_of_bench seed) out o end) → Course l i out err end
-bench_course l seed i out err end is e u w = subst (λ (m : Line). Course m i out err end) (sym is) (unread_course seed i out err end e (w err u))
+-- a command goes as the line that it stands for
+pub same_course : (l m : Line) (i : Input) (out err : Output) (end : End) → l ≡ m → Course m i out err end → Course l i out err end
+same_course l m i out err end is h = subst (λ (x : Line). Course x i out err end) (sym is) h
 
 pub takes_nothing : (old : Option (List ℕ)) → Takes old old []
 takes_nothing None = tt

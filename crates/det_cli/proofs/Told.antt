@@ -2,7 +2,7 @@
 use Rattle.std.proofs.Common.{◌≡◌, ◌≤◌, ◌<◌, ◌+◌, ◌⊎◌, ℕ, zero, suc, List, [], ◌∷◌, ◌++◌, length, take, Option, Some, None, inl, inr, refl, sym, ap, subst, length-append, arith}
 use Rattle.std.proofs.lemmas.List.{length-take}
 use Rattle.det_cli.specs.declared.end.End.{End}
-use Rattle.det_cli.specs.Files.{Expectation, Step, Input, Agrees, AsTold, ReadFiles, names_of, refusal_at, refusal_or, judge, told_from, told_files}
+use Rattle.det_cli.specs.Files.{Expectation, Step, Input, Agrees, AsTold, ReadFiles, requests_of, refusal_at, refusal_or, judge, told_from, told_files}
 
 -- a file that is told is the one that was loaded
 told_first : (t : Option (List ℕ)) (s : Step) (ss : List Step) (whole : List (List ℕ) → Option Expectation) (f : List ℕ) (rest : List (List ℕ)) (j : ℕ) (e : Expectation) → Agrees t f
@@ -59,8 +59,8 @@ pub asked_most : (ss : List Step) (whole : List (List ℕ) → Option Expectatio
     → judge ss whole (take j (told_files ss i.told)) ≡ Some e → length i.asked_after ≤ length i.asked_before + j
 asked_most ss whole contents i j e h p =
     let few = count_most ss whole contents i j e h p in
-    let same : length i.asked_after ≡ length (i.asked_before ++ take h.count (names_of ss)) = ap length h.asked in
-    omega (arith, few, same, length-append i.asked_before (take h.count (names_of ss)), length-take h.count (names_of ss))
+    let same : length i.asked_after ≡ length (i.asked_before ++ take h.count (requests_of ss)) = ap length h.asked in
+    omega (arith, few, same, length-append i.asked_before (take h.count (requests_of ss)), length-take h.count (requests_of ss))
 
 -- what all files that are told decide
 pub decides_all : (ss : List Step) (whole : List (List ℕ) → Option Expectation) (told : List ℕ → Option (List ℕ)) (contents : List (List ℕ)) (e : Expectation) → AsTold ss told contents

@@ -1,11 +1,9 @@
 -- What the files of a command make: a settled root that is shown or summed up, or the image of a source.
 -- Our choice: the commands, the room of their files, and what they write.
-use Rattle.std.specs.Prelude.{ℕ, Bool, false, List, [], ◌∷◌, Option, Some, None, Result, Ok, Err, cond}
-use Rattle.command_line.specs.Line.{Line, run, walk, asm, bench}
-use Rattle.image_model.specs.declared.ImageError.{ImageError}
+use Rattle.std.specs.Prelude.{ℕ, Bool, List, [], ◌∷◌, map, Option, Some, None, Result, Ok, Err, cond}
+use Rattle.command_line.specs.Line.{Engine, Line, Run, run, asm, bench, files_of_engine}
 use Rattle.image_model.specs.Image.{Image, image_bytes}
 use Rattle.image_model.specs.Reading.{image_of}
-use Rattle.source_model.specs.declared.error.AsmError.{AsmError}
 use Rattle.source_model.specs.Reading.{source_of}
 use Rattle.script_model.specs.declared.error.ScriptError.{ScriptError}
 use Rattle.script_model.specs.Devices.{Devices}
@@ -40,34 +38,40 @@ source_room = 1048576
 abbrev pub bench_fuel : ℕ
 bench_fuel = 1000000
 
--- a file outside its grammar ends a command, with its first fault
-abbrev pub refusal_by : {A E : Type 0} → (E → End) → Result A E → Option End
-refusal_by end (Ok value) = None
-refusal_by end (Err fault) = Some (end fault)
+-- what a file was read as, or the end that its first fault is
+abbrev pub read_or : {A E : Type 0} → (E → End) → Result A E → Result A End
+read_or end (Ok value) = Ok value
+read_or end (Err fault) = Err (end fault)
 
-abbrev pub image_refusal : List ℕ → Option End
-image_refusal bytes = refusal_by (λ e. BadImage e) (image_of bytes)
+-- The image of a file's bytes, or the end that refuses them. The first bytes say the format; today there is one, DTI1, which refuses all others.
+abbrev pub image_of_file : List ℕ → Result Image End
+image_of_file bytes = read_or (λ e. BadImage e) (image_of bytes)
 
-abbrev pub script_refusal : List ℕ → Option End
-script_refusal bytes = refusal_by (λ e. BadScript e) (script_of bytes)
+abbrev pub devices_of_file : List ℕ → Result Devices End
+devices_of_file bytes = read_or (λ (e : ScriptError). BadScript e) (script_of bytes)
 
-abbrev pub schedule_refusal : List ℕ → Option End
-schedule_refusal bytes = refusal_by (λ line. BadSchedule line) (schedule_of bytes)
+abbrev pub paths_of_file : List ℕ → Result (List (List ℕ)) End
+paths_of_file bytes = read_or (λ line. BadSchedule line) (schedule_of bytes)
 
-abbrev pub source_refusal : List ℕ → Option End
-source_refusal bytes = refusal_by (λ e. BadSource e) (source_of bytes)
+abbrev pub image_of_source : List ℕ → Result Image End
+image_of_source bytes = read_or (λ e. BadSource e) (source_of bytes)
+
+-- the end that refuses
+abbrev pub refusal_of : {A : Type 0} → Result A End → Option End
+refusal_of (Ok value) = None
+refusal_of (Err end) = Some end
 
 abbrev pub image_step : List ℕ → Step
-image_step name = record { name = name; room = image_room; refuse = image_refusal }
+image_step name = record { name = name; room = image_room; refuse = λ bytes. refusal_of (image_of_file bytes) }
 
 abbrev pub script_step : List ℕ → Step
-script_step name = record { name = name; room = script_room; refuse = script_refusal }
+script_step name = record { name = name; room = script_room; refuse = λ bytes. refusal_of (devices_of_file bytes) }
 
 abbrev pub schedule_step : List ℕ → Step
-schedule_step name = record { name = name; room = schedule_room; refuse = schedule_refusal }
+schedule_step name = record { name = name; room = schedule_room; refuse = λ bytes. refusal_of (paths_of_file bytes) }
 
 abbrev pub source_step : List ℕ → Step
-source_step name = record { name = name; room = source_room; refuse = source_refusal }
+source_step name = record { name = name; room = source_room; refuse = λ bytes. refusal_of (image_of_source bytes) }
 
 -- the settled root of an image with these devices, where each space has so much fuel
 abbrev pub settled_root : Image → Devices → ℕ → Space
@@ -85,48 +89,42 @@ expectation_of_root digest s = record { out = console_of s; err = report digest 
 abbrev pub expectation_of_bytes : List ℕ → Expectation
 expectation_of_bytes bytes = record { out = bytes; err = []; end = Ret }
 
-abbrev pub expectation_of_run : ℕ → Bool → Result Image ImageError → Result Devices ScriptError → Option Expectation
+-- what a run shows, which no engine changes: every schedule leads to the same tree, once all that is left to run has run
+abbrev pub expectation_of_run : ℕ → Bool → Result Image End → Result Devices End → Option Expectation
 expectation_of_run fuel digest (Ok image) (Ok devices) = Some (expectation_of_root digest (settled_root image devices fuel))
 expectation_of_run fuel digest image devices = None
 
--- every schedule leads to the same tree, once all that is left to run has run
-abbrev pub expectation_of_walk : ℕ → Result Image ImageError → Result Devices ScriptError → Result (List (List ℕ)) ℕ → Option Expectation
-expectation_of_walk fuel image devices (Ok paths) = expectation_of_run fuel false image devices
-expectation_of_walk fuel image devices (Err line) = None
-
-abbrev pub expectation_of_source : Result Image AsmError → Option Expectation
+abbrev pub expectation_of_source : Result Image End → Option Expectation
 expectation_of_source (Ok image) = Some (expectation_of_bytes (image_bytes image))
-expectation_of_source (Err e) = None
+expectation_of_source (Err end) = None
 
 -- a generated image runs on an empty script
 abbrev pub expectation_of_bench : ℕ → Expectation
 expectation_of_bench seed = expectation_of_bytes (summary (settled_root (generated seed) (devices_from []) bench_fuel))
 
-abbrev pub run_whole : ℕ → Bool → List (List ℕ) → Option Expectation
-run_whole fuel digest (image ∷ script ∷ rest) = expectation_of_run fuel digest (image_of image) (script_of script)
-run_whole fuel digest files = None
-
-abbrev pub walk_whole : ℕ → List (List ℕ) → Option Expectation
-walk_whole fuel (image ∷ script ∷ schedule ∷ rest) = expectation_of_walk fuel (image_of image) (script_of script) (schedule_of schedule)
-walk_whole fuel files = None
+abbrev pub run_whole : Run → List (List ℕ) → Option Expectation
+run_whole r (image ∷ script ∷ rest) = expectation_of_run r.fuel r.digest (image_of_file image) (devices_of_file script)
+run_whole r files = None
 
 abbrev pub asm_whole : List (List ℕ) → Option Expectation
 asm_whole [] = None
-asm_whole (source ∷ rest) = expectation_of_source (source_of source)
+asm_whole (source ∷ rest) = expectation_of_source (image_of_source source)
+
+-- the files of an engine are schedules
+abbrev pub engine_steps : Engine → List Step
+engine_steps engine = map schedule_step (files_of_engine engine)
 
 -- the files of a command, in the order of the words
 abbrev pub steps_of : Line → List Step
-steps_of (run fuel digest image script) = image_step image ∷ script_step script ∷ []
-steps_of (walk fuel image script schedule) = image_step image ∷ script_step script ∷ schedule_step schedule ∷ []
+steps_of (run r) = image_step r.image ∷ script_step r.script ∷ engine_steps r.engine
 steps_of (asm source) = source_step source ∷ []
-steps_of (bench seed) = []
+steps_of (bench engine seed) = engine_steps engine
 
 -- what all files of a command make, where none is refused
 abbrev pub whole_of : Line → List (List ℕ) → Option Expectation
-whole_of (run fuel digest image script) files = run_whole fuel digest files
-whole_of (walk fuel image script schedule) files = walk_whole fuel files
+whole_of (run r) files = run_whole r files
 whole_of (asm source) files = asm_whole files
-whole_of (bench seed) files = Some (expectation_of_bench seed)
+whole_of (bench engine seed) files = Some (expectation_of_bench seed)
 
 -- what a command makes of its first files
 abbrev pub expectation_of_files : Line → List (List ℕ) → Option Expectation

@@ -1,6 +1,7 @@
 -- The files of a command: one after another is loaded and read, up to the first that is refused.
 -- Our choice: one file after another, and that the first refusal counts.
 use Rattle.std.specs.Prelude.{◌≡◌, ◌<◌, ◌≤◌, ℕ, ◌+◌, List, [], ◌∷◌, ◌++◌, map, length, take, Option, Some, None, IfSome, cond, nat_lt}
+use Rattle.det_host.specs.Outside.{Request}
 use Rattle.det_cli.specs.declared.end.End.{End}
 use Rattle.det_cli.specs.declared.end.End.TheVariants.{TooLarge}
 
@@ -19,8 +20,12 @@ pub record Step : Type 0 where
   pub room : ℕ
   pub refuse : List ℕ → Option End
 
-abbrev pub names_of : List Step → List (List ℕ)
-names_of steps = map (λ s. s.name) steps
+-- what a loader is asked for: the name, and the room
+abbrev pub request_of : Step → Request
+request_of s = record { name = s.name; room = s.room }
+
+abbrev pub requests_of : List Step → List Request
+requests_of steps = map request_of steps
 
 -- the room comes before the grammar
 abbrev pub refusal_at : Step → List ℕ → Option End
@@ -50,13 +55,13 @@ told_files (s ∷ ss) told = told_from (told s.name) (told_files ss told)
 -- what a loader tells and was asked for, and its count of faults, before and after a call
 pub record Input : Type 0 where
   pub told : List ℕ → Option (List ℕ)
-  pub asked_before : List (List ℕ)
-  pub asked_after : List (List ℕ)
+  pub asked_before : List Request
+  pub asked_after : List Request
   pub faults_before : ℕ
   pub faults_after : ℕ
 
 -- a loader before and after a call, by what it tells of itself
-abbrev pub input_of : {L : Type 0} → (L → List ℕ → Option (List ℕ)) → (L → List (List ℕ)) → (L → ℕ) → L → L → Input
+abbrev pub input_of : {L : Type 0} → (L → List ℕ → Option (List ℕ)) → (L → List Request) → (L → ℕ) → L → L → Input
 input_of told asked faults old new = record {
   told = told old;
   asked_before = asked old;
@@ -75,11 +80,12 @@ AsTold [] told (f ∷ fs) = ⊥
 AsTold (s ∷ ss) told [] = Unit {0}
 AsTold (s ∷ ss) told (f ∷ fs) = Agrees (told s.name) f × AsTold ss told fs
 
--- The bytes of these first files were loaded. Some first names were asked for, in their order and each once, one at most behind these
--- files, and each only while the files before it decide nothing.
+-- The bytes of these first files were loaded. Some first files were asked for, each by its name and its room, in their order and each once: those
+-- that were loaded, and at most one more; and each only while the files before it decide nothing.
 pub record ReadFiles (steps : List Step) (whole : List (List ℕ) → Option Expectation) (contents : List (List ℕ)) (i : Input) : Type 0 where
   pub as_told : AsTold steps i.told contents
   pub count : ℕ
-  pub asked : i.asked_after ≡ i.asked_before ++ take count (names_of steps)
+  pub asked : i.asked_after ≡ i.asked_before ++ take count (requests_of steps)
+  pub least : length contents ≤ count
   pub most : count ≤ length contents + 1
   pub in_order : (j : ℕ) → j < count → judge steps whole (take j contents) ≡ None

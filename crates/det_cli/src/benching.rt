@@ -2,14 +2,19 @@ ghost use Rattle.std.specs.Prelude.{◌≡◌, ◌≤◌, [], IfOk};
 ghost use Rattle.bench_model.specs.Generated.{generated};
 ghost use Rattle.report_model.specs.Summary.{summary};
 ghost use Rattle.script_model.specs.Script.{devices_from};
+ghost use Rattle.command_line.specs.Line as line;
+ghost use Rattle.command_line.specs.Line.{engine_of};
 ghost use Rattle.det_cli.specs.Commands.{bench_fuel, expectation_of_bench, settled_root};
+ghost use Rattle.det_cli.specs.Files.{input_of};
 ghost use Rattle.det_cli.specs.Writing.{IsUntouched, Output, output_of};
-ghost use Rattle.det_cli.specs.Answers.{Writes};
+ghost use Rattle.det_cli.specs.Answers.{Course, Writes};
 
 use crate::end::End;
+use crate::evaluating::{Plan, read_plan};
 use crate::running::{settled_root, write_end};
 use crate::writing::write_all;
-use det_host::Sink;
+use command_line::Engine;
+use det_host::{Loader, Sink};
 use det_report::summary;
 use dev_script::Devices;
 use rv_asm::generated;
@@ -19,25 +24,45 @@ use std::alloc::{AllocError, Global};
 const FUEL: u32 = 1_000_000;
 
 // The summary of a generated image that has run on an empty script.
-fn summary_of(alloc: Global, seed: u32) -> Result<Vec<u8>, AllocError>
+fn summary_of(alloc: Global, plan: &Plan, seed: u32) -> Result<Vec<u8>, AllocError>
     ensures { IfOk result (λ v. v.items ≡ summary (settled_root (generated seed) (devices_from []) bench_fuel)) }
 {
     let image = generated(alloc, seed)?;
-    let root = settled_root(alloc, &image, Devices::new(alloc), FUEL)?;
+    let root = settled_root(alloc, &image, Devices::new(alloc), plan, FUEL)?;
     summary(alloc, &root)
 }
 
-/// Makes an image from a number, runs it, and writes its summary.
-pub(crate) fn bench<O: Sink>(alloc: Global, seed: u32, out: &mut O) -> End
+// Makes an image from a number, runs it by a plan, and writes its summary.
+fn sum_up<O: Sink>(alloc: Global, plan: &Plan, seed: u32, out: &mut O) -> End
     ensures writes { (err : Output) → IsUntouched err
         → Writes (expectation_of_bench seed) (output_of O.taken O.faults out.old out.new) err result }
     ensures out_later { O.faults out.old ≤ O.faults out.new }
 {
-    let Ok(text) = summary_of(alloc, seed) else {
+    let Ok(text) = summary_of(alloc, plan, seed) else {
         return End::NoMemory;
     };
     match write_all(out, &text) {
         Ok(()) => End::Ret,
         Err(error) => write_end(error),
+    }
+}
+
+/// Makes an image from a number, runs it by an engine, and writes its summary.
+pub(crate) fn bench<L: Loader, O: Sink>(
+    alloc: Global,
+    engine: Engine<'_>,
+    seed: u32,
+    files: &mut L,
+    out: &mut O,
+) -> End
+    ensures course { (err : Output) → IsUntouched err → Course (line.bench (engine_of engine.entry) seed)
+        (input_of L.told L.asked L.faults files.old files.new)
+        (output_of O.taken O.faults out.old out.new) err result }
+    ensures files_later { L.faults files.old ≤ L.faults files.new }
+    ensures out_later { O.faults out.old ≤ O.faults out.new }
+{
+    match read_plan(alloc, files, engine) {
+        Ok(plan) => sum_up(alloc, &plan, seed, out),
+        Err(end) => end,
     }
 }

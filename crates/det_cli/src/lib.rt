@@ -4,7 +4,9 @@
 mod assembling;
 mod benching;
 mod end;
+mod evaluating;
 mod fault_line;
+mod formats;
 mod main_call;
 mod program;
 mod reading;

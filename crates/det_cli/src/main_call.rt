@@ -7,7 +7,7 @@ ghost use Rattle.det_cli.specs.Answers.{Answers, Course};
 use crate::assembling::assemble_source;
 use crate::benching::bench;
 use crate::end::End;
-use crate::running::{run_image, walk_image};
+use crate::running::run_image;
 use command_line::{Command, read_line};
 use det_host::{Gate, Loader, Sink};
 use std::alloc::Global;
@@ -30,20 +30,9 @@ fn carry_out<L: Loader, O: Sink, E: Sink>(
     ensures err_later { E.faults err.old ≤ E.faults err.new }
 {
     match command {
-        Command::Run {
-            fuel,
-            digest,
-            image,
-            script,
-        } => run_image(alloc, fuel, digest, image, script, files, out, err),
-        Command::Walk {
-            fuel,
-            image,
-            script,
-            schedule,
-        } => walk_image(alloc, fuel, image, script, schedule, files, out, err),
+        Command::Run(run) => run_image(alloc, &run, files, out, err),
         Command::Asm { source } => assemble_source(alloc, source, files, out, err),
-        Command::Bench { seed } => bench(alloc, seed, out),
+        Command::Bench { engine, seed } => bench(alloc, engine, seed, files, out),
     }
 }
 

@@ -1,28 +1,31 @@
-ghost use Rattle.std.specs.Prelude.{◌≡◌, ◌≤◌, false, true, IfOk};
+ghost use Rattle.std.specs.Prelude.{◌≡◌, ◌≤◌, true, IfOk};
 ghost use Rattle.space_model.specs.Space.{is_settled};
-ghost use Rattle.command_line.specs.Line.{run, walk};
+ghost use Rattle.command_line.specs.Line as line;
+ghost use Rattle.command_line.specs.Line.{run_of};
 ghost use Rattle.det_cli.specs.Commands.{end_of, expectation_of_root, settled_root};
 ghost use Rattle.det_cli.specs.Files.{input_of};
 ghost use Rattle.det_cli.specs.Writing.{output_of};
 ghost use Rattle.det_cli.specs.Answers.{Course, Writes};
 
 use crate::end::End;
-use crate::reading::{read_run, read_walk};
+use crate::evaluating::{Plan, evaluate};
+use crate::reading::read_run;
 use crate::writing::write_all;
-use demand_eval::settle;
-use det_core::{boot, walk};
+use command_line::Run;
+use det_core::boot;
 use det_host::{Loader, Sink, SinkError};
 use det_report::report;
 use dev_script::Devices;
 use image_file::Image;
-use space_tree::{Cause, Path, Space, Status};
+use space_tree::{Cause, Space, Status};
 use std::alloc::{AllocError, Global};
 
-/// The settled root of an image with these devices, where each space has so much fuel.
+/// The settled root of an image with these devices, where each space has so much fuel, by a plan.
 pub(crate) fn settled_root(
     alloc: Global,
     image: &Image,
     devices: Devices,
+    plan: &Plan,
     fuel: u32,
 ) -> Result<Space, AllocError>
     requires { 1 ≤ fuel }
@@ -30,24 +33,7 @@ pub(crate) fn settled_root(
     ensures settled { IfOk result (λ s. is_settled s ≡ true) }
 {
     let root = boot(alloc, image, devices, fuel)?;
-    settle(alloc, root)
-}
-
-// The same by a schedule: the events at its paths come first, and then all that is left to run.
-fn walked_root(
-    alloc: Global,
-    image: &Image,
-    devices: Devices,
-    paths: &[Path],
-    fuel: u32,
-) -> Result<Space, AllocError>
-    requires { 1 ≤ fuel }
-    ensures root { IfOk result (λ s. s ≡ settled_root image.now devices fuel) }
-    ensures settled { IfOk result (λ s. is_settled s ≡ true) }
-{
-    let start = boot(alloc, image, devices, fuel)?;
-    let walked = walk(alloc, start, paths)?;
-    settle(alloc, walked)
+    evaluate(alloc, plan, root)
 }
 
 fn end_of(space: &Space) -> End
@@ -105,6 +91,7 @@ fn settle_and_write<O: Sink, E: Sink>(
     alloc: Global,
     image: &Image,
     devices: Devices,
+    plan: &Plan,
     fuel: u32,
     digest: bool,
     out: &mut O,
@@ -117,48 +104,22 @@ fn settle_and_write<O: Sink, E: Sink>(
     ensures out_later { O.faults out.old ≤ O.faults out.new }
     ensures err_later { E.faults err.old ≤ E.faults err.new }
 {
-    let Ok(root) = settled_root(alloc, image, devices, fuel) else {
+    let Ok(root) = settled_root(alloc, image, devices, plan, fuel) else {
         return End::NoMemory;
     };
     write_root(alloc, &root, digest, out, err)
 }
 
-// The same by a schedule, without digests.
-fn walk_and_write<O: Sink, E: Sink>(
-    alloc: Global,
-    image: &Image,
-    devices: Devices,
-    paths: &[Path],
-    fuel: u32,
-    out: &mut O,
-    err: &mut E,
-) -> End
-    requires { 1 ≤ fuel }
-    ensures writes { Writes (expectation_of_root false (settled_root image.now devices fuel))
-        (output_of O.taken O.faults out.old out.new)
-        (output_of E.taken E.faults err.old err.new) result }
-    ensures out_later { O.faults out.old ≤ O.faults out.new }
-    ensures err_later { E.faults err.old ≤ E.faults err.new }
-{
-    let Ok(root) = walked_root(alloc, image, devices, paths, fuel) else {
-        return End::NoMemory;
-    };
-    write_root(alloc, &root, false, out, err)
-}
-
-/// Runs an image on a script, where each space has so much fuel, and shows it with digests or without.
+/// Runs an image on a script by an engine, where each space has so much fuel, and shows it with digests or without.
 pub(crate) fn run_image<L: Loader, O: Sink, E: Sink>(
     alloc: Global,
-    fuel: u32,
-    digest: bool,
-    image: &str,
-    script: &str,
+    run: &Run<'_>,
     files: &mut L,
     out: &mut O,
     err: &mut E,
 ) -> End
-    requires { 1 ≤ fuel }
-    ensures course { Course (run fuel digest image.now script.now)
+    requires { 1 ≤ run.now.fuel }
+    ensures course { Course (line.run (run_of run.now))
         (input_of L.told L.asked L.faults files.old files.new)
         (output_of O.taken O.faults out.old out.new)
         (output_of E.taken E.faults err.old err.new) result }
@@ -166,35 +127,11 @@ pub(crate) fn run_image<L: Loader, O: Sink, E: Sink>(
     ensures out_later { O.faults out.old ≤ O.faults out.new }
     ensures err_later { E.faults err.old ≤ E.faults err.new }
 {
-    match read_run(alloc, files, image, script) {
-        Ok((parsed, devices)) => settle_and_write(alloc, &parsed, devices, fuel, digest, out, err),
-        Err(end) => end,
-    }
-}
-
-/// Runs an image on a script by a schedule, where each space has so much fuel, and then all that is left to run.
-pub(crate) fn walk_image<L: Loader, O: Sink, E: Sink>(
-    alloc: Global,
-    fuel: u32,
-    image: &str,
-    script: &str,
-    schedule: &str,
-    files: &mut L,
-    out: &mut O,
-    err: &mut E,
-) -> End
-    requires { 1 ≤ fuel }
-    ensures course { Course (walk fuel image.now script.now schedule.now)
-        (input_of L.told L.asked L.faults files.old files.new)
-        (output_of O.taken O.faults out.old out.new)
-        (output_of E.taken E.faults err.old err.new) result }
-    ensures files_later { L.faults files.old ≤ L.faults files.new }
-    ensures out_later { O.faults out.old ≤ O.faults out.new }
-    ensures err_later { E.faults err.old ≤ E.faults err.new }
-{
-    match read_walk(alloc, files, image, script, schedule) {
-        Ok((parsed, devices, paths)) => {
-            walk_and_write(alloc, &parsed, devices, &paths, fuel, out, err)
+    match read_run(alloc, files, run) {
+        Ok((image, devices, plan)) => {
+            settle_and_write(
+                alloc, &image, devices, &plan, run.fuel, run.digest, out, err,
+            )
         }
         Err(end) => end,
     }

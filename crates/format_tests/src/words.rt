@@ -1,4 +1,4 @@
-use command_line::{Command, read_line};
+use command_line::{Command, Engine, Run, read_line};
 use std::alloc::{AllocError, Global};
 use std::process::Abort;
 use std::test::*;
@@ -33,12 +33,13 @@ fn one_command<R: AllocGlobal + Abort>(
 fn reads_a_run(rt: HostRuntime) -> Result<(), Fail> {
     let texts = ["det", "run", "--limit", "007", "image.dti", "script.txt"];
     let mut words = words_of(rt.alloc(), &texts)?;
-    let want = Command::Run {
+    let want = Command::Run(Run {
         fuel: 7,
         digest: false,
+        engine: Engine::Demand,
         image: "image.dti",
         script: "script.txt",
-    };
+    });
     one_line(&rt, &words, Some(want));
     words.truncate(3);
     one_line(&rt, &words, None);
@@ -47,12 +48,13 @@ fn reads_a_run(rt: HostRuntime) -> Result<(), Fail> {
 
 #[test]
 fn reads_a_run_with_digests(rt: HostRuntime) -> Result<(), Fail> {
-    let want = Command::Run {
+    let want = Command::Run(Run {
         fuel: 1_000_000,
         digest: true,
+        engine: Engine::Demand,
         image: "image.dti",
         script: "script.txt",
-    };
+    });
     let texts = ["det", "run", "image.dti", "--digest", "script.txt"];
     one_command(&rt, &texts, Some(want))?;
     let refused = ["det", "run", "--digest=true", "image.dti", "script.txt"];
@@ -62,12 +64,13 @@ fn reads_a_run_with_digests(rt: HostRuntime) -> Result<(), Fail> {
 
 #[test]
 fn reads_a_walk(rt: HostRuntime) -> Result<(), Fail> {
-    let want = Command::Walk {
+    let want = Command::Run(Run {
         fuel: 4_294_967_295,
+        digest: false,
+        engine: Engine::Schedule("schedule.txt"),
         image: "image.dti",
         script: "script.txt",
-        schedule: "schedule.txt",
-    };
+    });
     let texts = [
         "det",
         "walk",
@@ -96,7 +99,10 @@ fn reads_a_seed(rt: HostRuntime) -> Result<(), Fail> {
     one_command(
         &rt,
         &["det", "bench", "65535"],
-        Some(Command::Bench { seed: 65_535 }),
+        Some(Command::Bench {
+            engine: Engine::Demand,
+            seed: 65_535,
+        }),
     )?;
     one_command(&rt, &["det", "bench", "-1"], None)?;
     Ok(())

@@ -1,7 +1,8 @@
-use Rattle.std.proofs.Common.{◌∙◌}
-use Rattle.command_line.specs.Line.{run_line, run_of}
+use Rattle.std.proofs.Common.{◌∙◌, ap, Some}
+use Rattle.clap.specs.Words.{found_of, rows_of}
+use Rattle.command_line.specs.Line.{demand, run_by, run_line}
 use Rattle.command_line.proofs.reading.run_from.Goals as goal
 
 pub returns : goal.returns
 unfolding run_line
-returns c = c.run_with.ensures ∙ (λ i. run_of (c.fuel_from-fuel.ensures i) (c.flag_from-digest.ensures i) (c.text_from-image.ensures i) (c.text_from-script.ensures i))
+returns c = c.run_by.ensures ∙ ap (λ d. run_by d (Some demand) (rows_of (found_of c.args.matches.now))) c.flag_from-digest.ensures
