@@ -4,13 +4,15 @@ ghost use Rattle.report_model.specs.Summary.{summary};
 ghost use Rattle.script_model.specs.Script.{devices_from};
 ghost use Rattle.command_line.specs.Line as line;
 ghost use Rattle.command_line.specs.Line.{engine_of};
-ghost use Rattle.det_cli.specs.Commands.{bench_fuel, expectation_of_bench, settled_root};
+ghost use Rattle.det_cli.specs.declared.limits.TheConstants.{BENCH_FUEL};
+ghost use Rattle.det_cli.specs.Commands.{expectation_of_bench, settled_root};
 ghost use Rattle.det_cli.specs.Files.{input_of};
 ghost use Rattle.det_cli.specs.Writing.{IsUntouched, Output, output_of};
 ghost use Rattle.det_cli.specs.Answers.{Course, Writes};
 
 use crate::end::End;
 use crate::evaluating::{Plan, read_plan};
+use crate::limits::BENCH_FUEL;
 use crate::running::{settled_root, write_end};
 use crate::writing::write_all;
 use command_line::Engine;
@@ -20,15 +22,12 @@ use dev_script::Devices;
 use rv_asm::generated;
 use std::alloc::{AllocError, Global};
 
-/// How many events each space of a generated image may take.
-const FUEL: u32 = 1_000_000;
-
 // The summary of a generated image that has run on an empty script.
 fn summary_of(alloc: Global, plan: &Plan, seed: u32) -> Result<Vec<u8>, AllocError>
-    ensures { IfOk result (λ v. v.items ≡ summary (settled_root (generated seed) (devices_from []) bench_fuel)) }
+    ensures { IfOk result (λ v. v.items ≡ summary (settled_root (generated seed) (devices_from []) BENCH_FUEL)) }
 {
     let image = generated(alloc, seed)?;
-    let root = settled_root(alloc, &image, Devices::new(alloc), plan, FUEL)?;
+    let root = settled_root(alloc, &image, Devices::new(alloc), plan, BENCH_FUEL)?;
     summary(alloc, &root)
 }
 

@@ -2,10 +2,12 @@ ghost use Rattle.std.specs.Prelude.{◌≡◌, ◌<◌, ◌^◌, ℕ, List, Opti
 ghost use Rattle.std.proofs.Common.{lit<};
 ghost use Rattle.det_core.specs.View.{path_views};
 ghost use Rattle.det_cli.specs.declared.end.End as end;
-ghost use Rattle.det_cli.specs.Commands.{devices_of_file, image_of_file, image_of_source, image_room, paths_of_file, refusal_of, schedule_room, script_room, source_room};
+ghost use Rattle.det_cli.specs.declared.limits.TheConstants.{IMAGE_ROOM, SCHEDULE_ROOM, SCRIPT_ROOM, SOURCE_ROOM};
+ghost use Rattle.det_cli.specs.Commands.{devices_of_file, image_of_file, image_of_source, paths_of_file, refusal_of};
 ghost use Rattle.det_cli.specs.Stages.{GivesRefusal};
 
 use crate::end::End;
+use crate::limits::{IMAGE_ROOM, SCHEDULE_ROOM, SCRIPT_ROOM, SOURCE_ROOM};
 use det_core::{ScheduleFault, read_schedule};
 use dev_script::{Devices, ScriptFault, read_script};
 use image_file::{Image, ImageFault, read_image};
@@ -36,9 +38,9 @@ pub(crate) trait FileFormat: Drop + Sized {
 
 // The first bytes say the format, of which there is one.
 impl FileFormat for Image {
-    const ROOM: u64 = 16_777_216;
+    const ROOM: u64 = IMAGE_ROOM;
 
-    ghost ROOM = { image_room };
+    ghost ROOM = { IMAGE_ROOM };
 
     ghost reads = { λ bytes image. image_of_file bytes ≡ Ok image };
 
@@ -57,9 +59,9 @@ impl FileFormat for Image {
 
 // A script.
 impl FileFormat for Devices {
-    const ROOM: u64 = 1_048_576;
+    const ROOM: u64 = SCRIPT_ROOM;
 
-    ghost ROOM = { script_room };
+    ghost ROOM = { SCRIPT_ROOM };
 
     ghost reads = { λ bytes devices. devices_of_file bytes ≡ Ok devices };
 
@@ -78,9 +80,9 @@ impl FileFormat for Devices {
 
 // A schedule.
 impl FileFormat for Vec<Path> {
-    const ROOM: u64 = 1_048_576;
+    const ROOM: u64 = SCHEDULE_ROOM;
 
-    ghost ROOM = { schedule_room };
+    ghost ROOM = { SCHEDULE_ROOM };
 
     ghost reads = { λ bytes paths. paths_of_file bytes ≡ Ok (path_views paths.items) };
 
@@ -104,9 +106,9 @@ pub(crate) struct Assembled {
 }
 
 impl FileFormat for Assembled {
-    const ROOM: u64 = 1_048_576;
+    const ROOM: u64 = SOURCE_ROOM;
 
-    ghost ROOM = { source_room };
+    ghost ROOM = { SOURCE_ROOM };
 
     ghost reads = { λ bytes made. image_of_source bytes ≡ Ok made.image };
 

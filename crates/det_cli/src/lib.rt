@@ -7,6 +7,7 @@ mod end;
 mod evaluating;
 mod fault_line;
 mod formats;
+mod limits;
 mod main_call;
 mod program;
 mod reading;
