@@ -8,7 +8,7 @@ use Rattle.clap.specs.ValueTests.{accepts}
 use Rattle.clap.specs.declared.builder.value_parser.ValueParser.TheVariants as vp
 use Rattle.clap.proofs.ValueTestLemmas.{accepts-Accepts}
 use Rattle.command_line.specs.declared.command.Command.{Command}
-use Rattle.command_line.specs.Line.{Engine, IsInRange, asm, asm_line, bench, bench_line, Line, command_line, demand, fuel_of, greatest_number, has_flag, line_of, number_in, run_by, run_line, run_with, seed_of, walk_line}
+use Rattle.command_line.specs.Line.{Engine, IsInRange, asm, asm_line, bench, bench_line, Line, command_line, demand, fuel_of, greatest_number, line_of, number_in, run_by, run_line, run_with, seed_of, walk_line}
 
 pub number_bounds : (low high : ℕ) (t : List ℕ) (n : ℕ) → number_in low high t ≡ Some n → (low ≤ n) × (n ≤ high)
 unfolding number_in

@@ -190,15 +190,6 @@ pub then_others : {U V : Type 0} (reads : List ℕ → U → Type 0) (shows : V 
 then_others reads shows s ss whole told now a b c x y z u r (asked, (bytes, (agrees, (fits, (kept, read))))) same le h =
     then_read (λ (t : List ℕ). t) shows s ss whole told now a b c x y z bytes r (asked, agrees, fits) kept same le (h bytes read)
 
--- a command that has no file makes what it makes
-pub none_to_read : {V : Type 0} (shows : V → Expectation) (whole : List (List ℕ) → Option Expectation) (i : Input) (x : V) → i.asked_after ≡ i.asked_before
-    → whole [] ≡ Some (shows x) → IsDone (shows x).end → Reads shows [] whole i (Ok x)
-none_to_read shows whole i x same made done = record {
-  contents = [];
-  files = record { as_told = tt; count = 0; asked = same ∙ sym (append-nil i.asked_before); least = lit≤ tt; most = lit≤ tt; in_order = λ j lt. absurd (omega (arith, lt)) };
-  gives = subst (λ (o : Option Expectation). GivesExpectation shows o i (Ok x)) (sym made) (refl, done);
-}
-
 -- the same is shown by another value, and an end is the same for all
 other_value : {U V : Type 0} (e : Expectation) (shows : V → Expectation) (o : Option Expectation) (i : Input) (u : U) (x : V) → e ≡ shows x
     → GivesExpectation (λ (y : U). e) o i (Ok u) → GivesExpectation shows o i (Ok x)
