@@ -73,10 +73,13 @@ expectation_of_root digest s = record { out = console_of s; err = report digest 
 abbrev pub expectation_of_bytes : List ℕ → Expectation
 expectation_of_bytes bytes = record { out = bytes; err = []; end = Ret }
 
--- what a run shows, which no engine changes: every schedule leads to the same tree, once all that is left to run has run
-abbrev pub expectation_of_run : ℕ → Bool → Result Image End → Result Devices End → Option Expectation
-expectation_of_run fuel digest (Ok image) (Ok devices) = Some (expectation_of_root digest (settled_root image devices fuel))
-expectation_of_run fuel digest image devices = None
+-- what a run of an image with these devices shows, which no engine changes: every schedule leads to the same tree, once all that is left to run has run
+abbrev pub run_shows : Run → Image → Devices → Expectation
+run_shows r image devices = expectation_of_root r.digest (settled_root image devices r.fuel)
+
+abbrev pub expectation_of_run : Run → Result Image End → Result Devices End → Option Expectation
+expectation_of_run r (Ok image) (Ok devices) = Some (run_shows r image devices)
+expectation_of_run r image devices = None
 
 abbrev pub expectation_of_source : Result Image End → Option Expectation
 expectation_of_source (Ok image) = Some (expectation_of_bytes (image_bytes image))
@@ -87,7 +90,7 @@ abbrev pub expectation_of_bench : ℕ → Expectation
 expectation_of_bench seed = expectation_of_bytes (summary (settled_root (generated seed) (devices_from []) BENCH_FUEL))
 
 abbrev pub run_whole : Run → List (List ℕ) → Option Expectation
-run_whole r (image ∷ script ∷ rest) = expectation_of_run r.fuel r.digest (image_of_file image) (devices_of_file script)
+run_whole r (image ∷ script ∷ rest) = expectation_of_run r (image_of_file image) (devices_of_file script)
 run_whole r files = None
 
 abbrev pub asm_whole : List (List ℕ) → Option Expectation

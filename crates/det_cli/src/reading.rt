@@ -2,7 +2,7 @@ ghost use Rattle.std.specs.Prelude.{◌≡◌, ◌≤◌, ◌<◌, ◌^◌, List
 ghost use Rattle.command_line.specs.Line as line;
 ghost use Rattle.command_line.specs.Line.{run_of};
 ghost use Rattle.det_cli.specs.Files.{input_of};
-ghost use Rattle.det_cli.specs.Commands.{expectation_of_root, settled_root, steps_of, whole_of};
+ghost use Rattle.det_cli.specs.Commands.{run_shows, steps_of, whole_of};
 ghost use Rattle.det_cli.specs.Stages.{LoadsFile, Reads, ReadsFile};
 
 use crate::end::End;
@@ -53,7 +53,7 @@ pub(crate) fn read_run<L: Loader>(
     files: &mut L,
     run: &Run<'_>,
 ) -> Result<(Image, Devices, Plan), End>
-    ensures reads { Reads (λ x. expectation_of_root run.now.digest (settled_root x.0 x.1 run.now.fuel))
+    ensures reads { Reads (λ x. run_shows (run_of run.now) x.0 x.1)
         (steps_of (line.run (run_of run.now))) (whole_of (line.run (run_of run.now)))
         (input_of L.told L.asked L.faults files.old files.new) result }
     ensures later { L.faults files.old ≤ L.faults files.new }

@@ -2,7 +2,7 @@ ghost use Rattle.std.specs.Prelude.{◌≡◌, ◌≤◌, true, IfOk};
 ghost use Rattle.space_model.specs.Space.{is_settled};
 ghost use Rattle.command_line.specs.Line as line;
 ghost use Rattle.command_line.specs.Line.{run_of};
-ghost use Rattle.det_cli.specs.Commands.{end_of, expectation_of_root, settled_root};
+ghost use Rattle.det_cli.specs.Commands.{end_of, expectation_of_root, run_shows, settled_root};
 ghost use Rattle.det_cli.specs.Files.{input_of};
 ghost use Rattle.det_cli.specs.Writing.{output_of};
 ghost use Rattle.det_cli.specs.Answers.{Course, Writes};
@@ -86,28 +86,27 @@ fn write_root<O: Sink, E: Sink>(
     end_of(space)
 }
 
-// Boots and settles an image with these devices, where each space has so much fuel, and writes what its root shows.
+// Boots and settles the image of a run by a plan, and writes what its root shows.
 fn settle_and_write<O: Sink, E: Sink>(
     alloc: Global,
+    run: &Run<'_>,
     image: &Image,
     devices: Devices,
     plan: &Plan,
-    fuel: u32,
-    digest: bool,
     out: &mut O,
     err: &mut E,
 ) -> End
-    requires { 1 ≤ fuel }
-    ensures writes { Writes (expectation_of_root digest (settled_root image.now devices fuel))
+    requires { 1 ≤ run.now.fuel }
+    ensures writes { Writes (run_shows (run_of run.now) image.now devices)
         (output_of O.taken O.faults out.old out.new)
         (output_of E.taken E.faults err.old err.new) result }
     ensures out_later { O.faults out.old ≤ O.faults out.new }
     ensures err_later { E.faults err.old ≤ E.faults err.new }
 {
-    let Ok(root) = settled_root(alloc, image, devices, plan, fuel) else {
+    let Ok(root) = settled_root(alloc, image, devices, plan, run.fuel) else {
         return End::NoMemory;
     };
-    write_root(alloc, &root, digest, out, err)
+    write_root(alloc, &root, run.digest, out, err)
 }
 
 /// Runs an image on a script by an engine, where each space has so much fuel, and shows it with digests or without.
@@ -129,9 +128,7 @@ pub(crate) fn run_image<L: Loader, O: Sink, E: Sink>(
 {
     match read_run(alloc, files, run) {
         Ok((image, devices, plan)) => {
-            settle_and_write(
-                alloc, &image, devices, &plan, run.fuel, run.digest, out, err,
-            )
+            settle_and_write(alloc, run, &image, devices, &plan, out, err)
         }
         Err(end) => end,
     }
