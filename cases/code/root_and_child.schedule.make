@@ -1,0 +1,1 @@
+yes "$(printf '/\n/1')" | head -n 12000
