@@ -1,20 +1,10 @@
-//! Tests of the whole program as one call: of words, files, faults and bytes, of programs of several spaces, of walks, of digests,
-//! and of generated images.
+//! Tests of the whole program as one call, of what no run of the built program shows: reads and writes that fail at a numbered call, how a call
+//! ends, and which files it has asked for. Programs and what they print are files, in the folder `cases`.
 #![tactic(auto)]
 
 #[cfg(test)]
-mod benches;
-#[cfg(test)]
 mod calls;
 #[cfg(test)]
-mod digests;
+mod ends;
 #[cfg(test)]
-mod files;
-#[cfg(test)]
-mod scripts;
-#[cfg(test)]
-mod threads;
-#[cfg(test)]
-mod trees;
-#[cfg(test)]
-mod walks;
+mod faults;

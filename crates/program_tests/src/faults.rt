@@ -1,0 +1,118 @@
+//! Reads and writes that fail, and sinks that take a few bytes a call.
+
+use crate::calls::{REPORT, RETURN_SEVEN, Row, SOURCE, SUMMARY, WRITE_TWO, check, plain};
+use det_cli::{End, write_fault};
+use det_host::SureSink;
+use std::process::Abort;
+use std::test::*;
+
+const RUN: &str = "det run image script";
+
+const WALK: &str = "det walk image script schedule";
+
+const ASM: &str = "det asm image";
+
+const BENCH: &str = "det bench 0";
+
+const WRITE_FAULT: &str = "det: write fault\n";
+
+// A call whose sinks take at most so many bytes a call, and in which these calls of `out` fail.
+fn one_of_outs<R: AllocGlobal + Abort>(
+    rt: &R,
+    call: (&str, &[u8]),
+    most: usize,
+    outs: &[u64],
+    out: &[u8],
+) {
+    let fault = plain(call.0, call.1, End::WriteFault, out, WRITE_FAULT);
+    check(
+        rt,
+        &Row {
+            most,
+            outs,
+            ..fault
+        },
+    );
+}
+
+// What was taken stays, and the fault's line stands on the other sink.
+#[test]
+fn a_write_that_fails_ends_the_output(rt: HostRuntime) -> Result<(), Fail> {
+    one_of_outs(&rt, (RUN, &WRITE_TWO), 1, &[1], b"");
+    one_of_outs(&rt, (RUN, &WRITE_TWO), 1, &[2], b"A");
+    one_of_outs(&rt, (WALK, &WRITE_TWO), 1, &[2], b"A");
+    one_of_outs(&rt, (ASM, SOURCE), 65536, &[1], b"");
+    one_of_outs(&rt, (ASM, SOURCE), 16, &[3], &RETURN_SEVEN[..32]);
+    one_of_outs(&rt, (BENCH, b""), 65536, &[1], b"");
+    one_of_outs(&rt, (BENCH, b""), 8, &[2], b"threads ");
+    Ok(())
+}
+
+// The report is begun, and the fault's line comes behind it.
+#[test]
+fn a_report_that_fails(rt: HostRuntime) -> Result<(), Fail> {
+    let part = "/ ret 00det: write fault\n";
+    check(
+        &rt,
+        &Row {
+            most: 4,
+            errs: &[3],
+            ..plain(RUN, &WRITE_TWO, End::WriteFault, b"AB", part)
+        },
+    );
+    Ok(())
+}
+
+// A call whose sinks take one byte a call.
+fn one_of_pieces<R: AllocGlobal + Abort>(rt: &R, call: (&str, &[u8]), out: &[u8], err: &str) {
+    check(
+        rt,
+        &Row {
+            most: 1,
+            ..plain(call.0, call.1, End::Ret, out, err)
+        },
+    );
+}
+
+#[test]
+fn a_sink_may_take_one_byte_a_call(rt: HostRuntime) -> Result<(), Fail> {
+    one_of_pieces(&rt, (RUN, &WRITE_TWO), b"AB", REPORT);
+    one_of_pieces(&rt, (WALK, &WRITE_TWO), b"AB", REPORT);
+    one_of_pieces(&rt, (ASM, SOURCE), &RETURN_SEVEN, "");
+    one_of_pieces(&rt, (BENCH, b""), SUMMARY, "");
+    Ok(())
+}
+
+// A call in which the load of this number fails.
+fn one_of_loads<R: AllocGlobal + Abort>(rt: &R, words: &str, loads: &[u64]) {
+    let fault = plain(words, SOURCE, End::ReadFault, b"", "det: read fault\n");
+    let image: &[u8] = if words == ASM { SOURCE } else { &WRITE_TWO };
+    check(
+        rt,
+        &Row {
+            image,
+            loads,
+            ..fault
+        },
+    );
+}
+
+#[test]
+fn a_load_that_fails_is_a_read_fault(rt: HostRuntime) -> Result<(), Fail> {
+    one_of_loads(&rt, RUN, &[1]);
+    one_of_loads(&rt, RUN, &[2]);
+    one_of_loads(&rt, WALK, &[1]);
+    one_of_loads(&rt, WALK, &[2]);
+    one_of_loads(&rt, WALK, &[3]);
+    one_of_loads(&rt, ASM, &[1]);
+    Ok(())
+}
+
+#[test]
+fn a_fault_line_alone(rt: HostRuntime) -> Result<(), Fail> {
+    let alloc = rt.alloc();
+    let mut sink = SureSink::new(alloc);
+    assert!(rt; write_fault(alloc, &End::WriteFault, &mut sink).is_ok());
+    assert_eq!(rt; sink.taken(), WRITE_FAULT.as_bytes());
+    Ok(())
+}
