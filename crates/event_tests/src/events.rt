@@ -55,14 +55,12 @@ fn child_of<'a>(rt: &impl Abort, tree: &'a Space) -> &'a Top {
 fn get_waits_for_the_child(rt: HostRuntime) -> Result<(), Fail> {
     let tree = after_events(&rt, rt.alloc())?;
     let root = tree.top();
-    assert_eq!(rt; root.registers.pc, 0x1018);
-    assert_eq!(rt; root.used, 6);
+    assert_eq!(rt; (root.registers.pc, root.used), (0x1018, 6));
     let fault = Status::Stopped {
         cause: Cause::FetchFault,
         value: 0,
     };
     let child = child_of(&rt, &tree);
-    assert_eq!(rt; child.status, fault);
-    assert_eq!(rt; child.used, 1);
+    assert_eq!(rt; (child.status, child.used), (fault, 1));
     Ok(())
 }

@@ -13,9 +13,6 @@ const COUNTS: [u32; 4] = [0x0015_0513, 0x0015_0513, 0x0030_0893, 0x0000_0073];
 // Put.
 const PUTS: [u32; 4] = [0x0010_0893, 0x0000_0073, 0, 0];
 
-// Console out of the first two bytes of the program.
-const WRITES: [u32; 4] = [0x0040_0893, 0x0000_15b7, 0x0020_0613, 0x0000_0073];
-
 // A root that is about to run these words.
 fn root(alloc: Global, words: [u32; 4], fuel: u32) -> Result<Top, AllocError>
     requires { 1 ≤ fuel }
@@ -37,7 +34,7 @@ const fn stopped(cause: Cause, value: u32) -> Status {
 }
 
 // Where a run has come to: how many events there were, pc, status and what is left of the limit.
-#[derive(Clone, Copy)]
+#[derive(Clone, Copy, Debug, PartialEq, Eq)]
 struct Ran {
     ran: u32,
     pc: u32,
@@ -61,18 +58,11 @@ fn after_run(alloc: Global, quantum: u32, limit: Option<u32>) -> Result<Ran, All
     })
 }
 
-fn assert_ran(rt: &impl Abort, quantum: u32, got: Ran, want: Ran) {
-    assert_eq!(rt; got.ran, want.ran, "{quantum}");
-    assert_eq!(rt; got.pc, want.pc, "{quantum}");
-    assert_eq!(rt; got.status, want.status, "{quantum}");
-    assert_eq!(rt; got.limit, want.limit, "{quantum}");
-}
-
 fn one_of_runs(rt: &impl Abort, alloc: Global, quantum: u32, limit: Option<u32>, want: Ran)
     requires { 1 ≤ quantum }
 {
     match after_run(alloc, quantum, limit) {
-        Ok(got) => assert_ran(rt, quantum, got, want),
+        Ok(got) => assert_eq!(rt; got, want, "{quantum}"),
         Err(_) => panic!(rt; "no memory"),
     }
 }
@@ -131,14 +121,6 @@ fn advanced(rt: &impl Abort, top: &mut Top, depth: u8, quantum: u32) -> Advance
     }
 }
 
-/// How many events a space has, of at most `quantum`.
-pub(crate) fn events_of(rt: &impl Abort, top: &mut Top, depth: u8, quantum: u32) -> u32
-    requires depth { depth ≤ 8 }
-    requires quantum { 1 ≤ quantum }
-{
-    advanced(rt, top, depth, quantum).ran
-}
-
 // What is next of a space; a local event has happened then.
 fn next_of(rt: &impl Abort, top: &mut Top, depth: u8) -> Next
     requires { depth ≤ 8 }
@@ -160,9 +142,10 @@ fn run_of(rt: &impl Abort, top: Top, depth: u8, quantum: u32) -> Run
 }
 
 fn assert_stands(rt: &impl Abort, top: &Top, status: Status, pc: u32, used: u32) {
-    assert_eq!(rt; top.status, status);
-    assert_eq!(rt; top.registers.pc, pc);
-    assert_eq!(rt; top.used, used);
+    assert_eq!(rt;
+        (top.status, top.registers.pc, top.used),
+        (status, pc, used)
+    );
 }
 
 #[test]
@@ -170,8 +153,7 @@ fn fuel_ends_at_a_call(rt: HostRuntime) -> Result<(), Fail> {
     let mut top = root_of(&rt, rt.alloc(), COUNTS, 3);
     top.limit = Some(3);
     let ran = advanced(&rt, &mut top, 0, 100).ran;
-    assert_eq!(rt; ran, 4);
-    assert_eq!(rt; top.fuel, 0);
+    assert_eq!(rt; (ran, top.fuel), (4, 0));
     assert_stands(&rt, &top, stopped(Cause::Fuel, 0), 0x100c, 3);
     let stays = advanced(&rt, &mut top, 0, 100);
     assert_eq!(rt; stays.ran, 0);
@@ -215,20 +197,8 @@ fn refused(rt: &impl Abort, alloc: Global) -> Run {
 fn put_is_refused_at_depth_8(rt: HostRuntime) -> Result<(), Fail> {
     let run = refused(&rt, rt.alloc());
     run.leads();
-    assert_eq!(rt; run.depth(), 8);
-    assert_eq!(rt; run.ran(), 1);
-    assert_eq!(rt; run.start().used, 1);
+    assert_eq!(rt; (run.depth(), run.ran(), run.start().used), (8, 1, 1));
     let (_, after) = run.into_parts();
     assert_stands(&rt, &after, stopped(Cause::Badcall, 8), 0x1004, 2);
-    Ok(())
-}
-
-#[test]
-fn console(rt: HostRuntime) -> Result<(), Fail> {
-    let mut top = root_of(&rt, rt.alloc(), WRITES, 100);
-    let ran = advanced(&rt, &mut top, 0, 100).ran;
-    assert_eq!(rt; ran, 5);
-    assert_eq!(rt; top.console(), [0x93, 0x08].as_slice());
-    assert_stands(&rt, &top, stopped(Cause::Illegal, 0), 0x1010, 5);
     Ok(())
 }
