@@ -124,7 +124,7 @@ pub fn seen(top: &Top) -> [u32; 9] {
 
 // Whether the event happened; the caller; its child, how much of its fuel is used, the first byte of its snapshot (99 where
 // there is none) and how many children it has.
-#[derive(Clone, Copy)]
+#[derive(Clone, Copy, Debug, PartialEq, Eq)]
 struct Outcome {
     happened: bool,
     caller: [u32; 9],
@@ -203,12 +203,13 @@ fn row(
     child: Option<([u32; 9], [u32; 3])>,
 ) {
     let (number, how, depth) = call;
+    let want = Outcome {
+        happened: caller != BEFORE,
+        caller,
+        child,
+    };
     match event(rt, alloc, number, how, 3, depth) {
-        Ok(got) => {
-            assert_eq!(rt; got.happened, caller != BEFORE, "at {number}");
-            assert_eq!(rt; got.caller, caller, "at {number}");
-            assert_eq!(rt; got.child, child, "at {number}");
-        }
+        Ok(got) => assert_eq!(rt; got, want, "at {number}"),
         Err(_) => panic!(rt; "no memory"),
     }
 }
@@ -371,11 +372,14 @@ fn joins(rt: HostRuntime) -> Result<(), Fail> {
 // A join where the caller's byte is 4, which the child changed too: nothing but the caller's status changes.
 #[test]
 fn conflict(rt: HostRuntime) -> Result<(), Fail> {
+    let caller = stopped(17, 0x2000, 4);
+    let want = Outcome {
+        happened: true,
+        caller,
+        child: Some((AS_IT_WAS, [0, 3, 0])),
+    };
     match event(&rt, rt.alloc(), TJOIN, Child::Stopped, 4, 0) {
-        Ok(got) => {
-            assert_eq!(rt; got.caller, stopped(17, 0x2000, 4));
-            assert_eq!(rt; got.child, Some((AS_IT_WAS, [0, 3, 0])));
-        }
+        Ok(got) => assert_eq!(rt; got, want),
         Err(_) => panic!(rt; "no memory"),
     }
     Ok(())

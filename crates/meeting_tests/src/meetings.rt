@@ -93,7 +93,7 @@ fn family(
 }
 
 // What is seen of a space: its state, and two bytes and the permissions of two pages of its memory.
-#[derive(Clone, Copy)]
+#[derive(Clone, Copy, Debug, PartialEq, Eq)]
 struct Seen {
     state: [u32; 9],
     bytes: [u8; 2],
@@ -133,9 +133,12 @@ fn assert_seen(
     bytes: [u8; 2],
     permissions: [u8; 2],
 ) {
-    assert_eq!(rt; got.state, state, "at {row}");
-    assert_eq!(rt; got.bytes, bytes, "at {row}");
-    assert_eq!(rt; got.permissions, permissions, "at {row}");
+    let want = Seen {
+        state,
+        bytes,
+        permissions,
+    };
+    assert_eq!(rt; got, want, "at {row}");
 }
 
 fn child_of<'a>(rt: &impl Abort, space: &'a Space, number: u16) -> &'a Top {
@@ -413,7 +416,7 @@ fn put_to_none(rt: HostRuntime) -> Result<(), Fail> {
 
 // A caller after a call with a register block: its state, its byte at 0x4001, permissions of pages 1, 2 and the last, and how
 // many children it has.
-#[derive(Clone, Copy)]
+#[derive(Clone, Copy, Debug, PartialEq, Eq)]
 struct Blocked {
     state: [u32; 9],
     byte: u8,
@@ -455,17 +458,14 @@ fn block_within(rt: &impl Abort, alloc: Global, number: u32, block: u32, pages: 
 // Such a call, which stops its caller with this cause and the least address of the block that lacks the right.
 fn block_without(rt: &impl Abort, alloc: Global, number: u32, block: u32, pages: [u8; 3], at: u32) {
     let cause = if number == PUT { 5 } else { 7 };
+    let want = Blocked {
+        state: [0x100, 0, 5, 0, cause, at, 4, 6, 4],
+        byte: 2,
+        pages,
+        children: 0,
+    };
     match after_block(rt, alloc, number, block, pages) {
-        Ok(got) => {
-            assert_eq!(rt;
-                got.state,
-                [0x100, 0, 5, 0, cause, at, 4, 6, 4],
-                "at {block}"
-            );
-            assert_eq!(rt; got.byte, 2, "at {block}");
-            assert_eq!(rt; got.pages, pages, "at {block}");
-            assert_eq!(rt; got.children, 0, "at {block}");
-        }
+        Ok(got) => assert_eq!(rt; got, want, "at {block}"),
         Err(_) => panic!(rt; "no memory"),
     }
 }
