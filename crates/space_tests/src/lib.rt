@@ -6,6 +6,4 @@ mod reports;
 #[cfg(test)]
 mod schedules;
 #[cfg(test)]
-mod settling;
-#[cfg(test)]
 mod spaces;

@@ -3,7 +3,7 @@ ghost use Rattle.space_model.specs.Sound.{IsSound};
 
 use crate::reports::report_of;
 use demand_eval::settle;
-use det_core::{boot, enabled, read_schedule, step, walk};
+use det_core::{boot, enabled, read_schedule, step};
 use rv_asm::assemble;
 use space_tree::{Devices, Path, Space};
 use std::alloc::{AllocError, AllocGlobal, Global};
@@ -73,12 +73,6 @@ const MOST_EVENTS: u32 = 1_000;
 // Each path at which a space of these trees comes to stand, in their order: a path before those that go on from it, and else by the
 // first number that differs.
 const PATHS: &[u8] = b"/\n/0\n/1\n/1/2\n";
-
-// Paths that are taken in turn, some of which lead to no space.
-const TURNS: &[u8] = b"/1\n/\n/9\n/1/2\n/0\n";
-
-// How often they are.
-const ROUNDS: usize = 200;
 
 // The source of the two threads, with the line that says where each writes.
 fn source_of_threads(alloc: Global, place: &[u8]) -> Result<Vec<u8>, AllocError> {
@@ -156,32 +150,4 @@ fn one_event_at_a_time_settles_a_tree(rt: HostRuntime) -> Result<(), Fail> {
     settles_by(&rt, &source_of_threads(alloc, ONE_PLACE)?, 34)?;
     settles_by(&rt, &source_of_threads(alloc, NEIGHBOURS)?, 38)?;
     settles_by(&rt, NOBODY_WAITS, 114)
-}
-
-// The paths in turn, so many times.
-fn turns(alloc: Global) -> Result<Vec<Path>, Fail> {
-    let mut schedule = Vec::new(alloc);
-    for _ in 0..ROUNDS {
-        schedule.extend_from_slice(TURNS)?;
-    }
-    Ok(read_schedule(alloc, &schedule)?)
-}
-
-// A tree comes to one end with the schedule and without it.
-fn comes_to_one_end<R: AllocGlobal + Abort>(rt: &R, source: &[u8]) -> Result<(), Fail> {
-    let alloc = rt.alloc();
-    let schedule = turns(alloc)?;
-    let walked = walk(alloc, booted(alloc, source)?, &schedule)?;
-    let found = settled_report(rt, alloc, walked)?;
-    let want = settled_report(rt, alloc, booted(alloc, source)?)?;
-    assert_eq!(rt; found.as_slice(), want.as_slice());
-    Ok(())
-}
-
-#[test]
-fn a_schedule_changes_no_report(rt: HostRuntime) -> Result<(), Fail> {
-    let alloc = rt.alloc();
-    comes_to_one_end(&rt, &source_of_threads(alloc, ONE_PLACE)?)?;
-    comes_to_one_end(&rt, &source_of_threads(alloc, NEIGHBOURS)?)?;
-    comes_to_one_end(&rt, NOBODY_WAITS)
 }
