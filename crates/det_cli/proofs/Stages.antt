@@ -8,7 +8,7 @@ use Rattle.det_cli.specs.declared.end.End.TheVariants.{Ret, Trapped, TooLarge, R
 use Rattle.det_cli.specs.Status.{IsDone, IsBad}
 use Rattle.det_cli.specs.Files.{Expectation, Step, Input, Agrees, AsTold, request_of, requests_of, refusal_at, refusal_or, judge}
 use Rattle.image_model.specs.Image.{Image}
-use Rattle.script_model.specs.Devices.{Devices}
+use Rattle.device_model.specs.Devices.{Devices}
 use Rattle.space_model.specs.Space.{Space, top_of}
 use Rattle.space_model.specs.Stop.{has_returned}
 use Rattle.command_line.specs.Line.{Engine, Run}

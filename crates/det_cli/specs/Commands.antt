@@ -6,7 +6,7 @@ use Rattle.image_model.specs.Image.{Image, image_bytes}
 use Rattle.image_model.specs.Reading.{image_of}
 use Rattle.source_model.specs.Reading.{source_of}
 use Rattle.script_model.specs.declared.error.ScriptError.{ScriptError}
-use Rattle.script_model.specs.Devices.{Devices}
+use Rattle.device_model.specs.Devices.{Devices}
 use Rattle.script_model.specs.Script.{devices_from}
 use Rattle.script_model.specs.Reading.{script_of}
 use Rattle.schedule_model.specs.Reading.{schedule_of}

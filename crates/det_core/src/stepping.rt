@@ -1,10 +1,9 @@
 ghost use Rattle.std.specs.Prelude.{◌≡◌, ◌+◌, ◌-◌, ◌≤◌, [], true, cond, ℕ, length, IfOk, OnOk, OnErr};
 ghost use Rattle.call_model.specs.Limits.{greatest_depth, levels_below};
 ghost use Rattle.space_model.specs.Sound.{IsSoundAt};
-ghost use Rattle.space_model.specs.Event.{MayPay};
-ghost use Rattle.space_model.specs.Meeting.{MayMeet, meet, awaits};
-ghost use Rattle.space_model.specs.Change.{after_payment};
-ghost use Rattle.space_model.specs.Space.{top_of, children_of};
+ghost use Rattle.space_model.specs.Caller.{MayCall, met_by};
+ghost use Rattle.space_model.specs.Meeting.{awaits};
+ghost use Rattle.space_model.specs.Space.{children_of};
 ghost use Rattle.run_model.specs.Schedule.{are_ready, is_enabled, try_step};
 
 use crate::enabling::are_ready;
@@ -20,11 +19,9 @@ fn try_call(
     space: &mut Space,
     depth: u8,
 ) -> Result<bool, AllocError>
-    requires depth { depth ≤ greatest_depth }
-    requires may_meet { MayMeet (levels_below depth) call }
-    requires may_pay { MayPay (top_of space.old) }
+    requires { MayCall depth call space.old }
     ensures ok { IfOk result (λ b. b ≡ are_ready (awaits call) (children_of space.old)) }
-    ensures called { OnOk result (space.new ≡ cond (are_ready (awaits call) (children_of space.old)) (meet (levels_below depth) call (after_payment (top_of space.old) (top_of space.old)) (children_of space.old)) space.old) }
+    ensures called { OnOk result (space.new ≡ cond (are_ready (awaits call) (children_of space.old)) (met_by depth call space.old) space.old) }
     ensures err { OnErr result (space.new ≡ space.old) }
 {
     let ready = are_ready(call, &space.children);

@@ -11,7 +11,7 @@ use Rattle.call_model.specs.Limits.{greatest_depth}
 use Rattle.call_model.specs.Reading.{read}
 use Rattle.space_model.specs.declared.Status.{Status}
 use Rattle.space_model.specs.declared.Status.TheVariants.{Running, Stopped}
-use Rattle.script_model.specs.Devices.{Devices}
+use Rattle.device_model.specs.Devices.{Devices}
 use Rattle.space_model.specs.Space.{Space, space, Top, Children, top_of, console_bytes}
 use Rattle.space_model.specs.Sound.{has_devices}
 use Rattle.space_model.specs.Call.{seen_of}

@@ -1,7 +1,7 @@
 -- What reading gives is in the grammar, and the line that it names is the first one that is refused.
 use Rattle.std.proofs.Common.{ℕ, List, Result, Ok, Err}
 use Rattle.std.specs.Prelude.{IfOk, IfErr}
-use Rattle.script_model.specs.Devices.{Devices}
+use Rattle.device_model.specs.Devices.{Devices}
 use Rattle.script_model.specs.Script.{ScriptOf}
 use Rattle.script_model.specs.Reading.{script_of}
 use Rattle.script_model.proofs.Scripts.{script_takes, refused_takes}

@@ -2,7 +2,7 @@
 use Rattle.std.proofs.Common.{◌≡◌, List, [], ◌∷◌, ◌++◌, ap, ◌∙◌}
 use Rattle.std.proofs.lemmas.Grind.{flat_map-append}
 use Rattle.std.proofs.lemmas.List.{append-nil}
-use Rattle.script_model.specs.Devices.{Devices}
+use Rattle.device_model.specs.Devices.{Devices}
 use Rattle.script_model.specs.Script.{Item, devices_from}
 use Rattle.dev_script.specs.View.{with_item}
 

@@ -1,7 +1,7 @@
 -- What the code's values stand for.
 -- Our choice: a restatement for proofs.
 use Rattle.std.specs.Prelude.{[], ◌++◌}
-use Rattle.script_model.specs.Devices.{Devices}
+use Rattle.device_model.specs.Devices.{Devices}
 use Rattle.script_model.specs.Script as model
 use Rattle.script_model.specs.Script.{input_in, clocks_in, numbers_in}
 use Rattle.dev_script.specs.declared.item.Item.{Item}

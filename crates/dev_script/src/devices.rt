@@ -20,7 +20,7 @@ pub struct Devices {
 }
 
 impl Model for Devices {
-    ghost use Rattle.script_model.specs.Devices.{Devices, coded_devices};
+    ghost use Rattle.device_model.specs.Devices.{Devices, coded_devices};
 
     ghost Value = { Devices };
 

@@ -1,7 +1,7 @@
 ghost use Rattle.std.specs.Prelude.{◌≡◌, ℕ, OnOk, IfOk, IfErr, Ok, Err};
 ghost use Rattle.dev_script.specs.Gives.{Gives, NamesRefused};
 ghost use Rattle.dev_script.specs.View.{item_view, no_devices, script_view, with_item};
-ghost use Rattle.script_model.specs.Devices as model;
+ghost use Rattle.device_model.specs.Devices as model;
 ghost use Rattle.script_model.specs.Reading.{script_of};
 ghost use Rattle.script_model.specs.Script.{ScriptOf, IsFirstRefused};
 

@@ -1,6 +1,5 @@
 pub mod Places
 pub mod Parts
-pub mod Words
 pub mod Entries
 pub mod Trees
 pub mod Meetings

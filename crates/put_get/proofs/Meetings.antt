@@ -1,6 +1,6 @@
 -- What Put and Get are of a caller that pays.
-use Rattle.std.proofs.Common.{◌≡◌, ℕ, ◌+◌, ◌-◌, ◌<◌, List, [], ◌∷◌, Option, Some, None, refl, subst, sym, ◌∙◌, ap, arith, nat_cmp}
-use Rattle.std.specs.Prelude.{Bool, true, false, option_map, Result, Ok, Err, OnOk, OnErr}
+use Rattle.std.proofs.Common.{◌≡◌, ℕ, ◌+◌, ◌<◌, List, [], ◌∷◌, Option, Some, None, refl, subst, sym, ◌∙◌, ap, nat_cmp}
+use Rattle.std.specs.Prelude.{Bool, true, false, option_map, Result, OnOk}
 use Rattle.std.proofs.lemmas.Result.{on_ok_weaker}
 use Rattle.std.specs.BTreeMap.{is_at}
 use Rattle.std.specs.Map.{lookup}
@@ -16,17 +16,12 @@ use Rattle.space_model.specs.Call.{Seen, edit, change, seen_of, apply_meeting}
 use Rattle.space_model.specs.Event.{MayPay}
 use Rattle.space_model.specs.Beginning.{fresh_top}
 use Rattle.space_model.specs.Refusals.{first_refusal}
-use Rattle.space_model.specs.Meeting.{or_fresh, awaits, refusals, action, unless_refused, meet, MayMeet}
+use Rattle.space_model.specs.Meeting.{or_fresh, awaits, refusals, action, unless_refused, meet}
+use Rattle.space_model.specs.Caller.{with_action}
 use Rattle.space_model.specs.Part.{Part, part_if, with_parts, get_parts, child_after, caller_after}
-use Rattle.space_model.specs.Sound.{IsSoundAt}
 use Rattle.space_model.proofs.Entries.{find_entries}
-use Rattle.space_model.proofs.Sound.{meeting_sound}
-use Rattle.put_get.specs.Meetings.{get_conflict, early_refusals, last_refusal, early_of, conflict_of, with_action, unless_conflict, acts_or_stops}
-
--- a caller that has paid reads the same child
-pub or_fresh-paid : (t : Top) (o : Option Top) → 0 < t.fuel → or_fresh (after_payment t t) o ≡ or_fresh t o
-or_fresh-paid t None h = let same : (t.fuel - 1) + (t.used + 1) ≡ t.fuel + t.used = omega arith in ap fresh_top same
-or_fresh-paid t (Some c) h = refl
+use Rattle.space_model.proofs.Callers.{or_fresh-paid}
+use Rattle.put_get.specs.Meetings.{get_conflict, early_refusals, last_refusal, early_of, conflict_of, unless_conflict, acts_or_stops, IsPutOrGet}
 
 -- the caller after a Get, by what a look-up found
 abbrev pub with_taken : Transfer → Top → Option Space → Top
@@ -153,25 +148,20 @@ three_stops None None c r h = cc
 three_stops None (Some q) c r h = h
 three_stops (Some p) b c r h = h
 
-two_tests : (a b : Option Refusal) → first_refusal (a ∷ []) ≡ None → first_refusal (a ∷ b ∷ []) ≡ b
-two_tests None None h = refl
-two_tests None (Some r) h = refl
-two_tests (Some p) b h = cc
+-- where no early test stops the caller of a Put or a Get, the conflict does, if there is one
+early_then : (levels : ℕ) (k : Call) (t : Top) (seen : List Seen) → IsPutOrGet k → first_refusal (early_refusals levels k t seen) ≡ None → first_refusal (refusals levels k t seen) ≡ last_refusal k t seen
+early_then levels (Get x) t seen is h = three_tests _ _ _ h
+early_then levels (Put x) t seen is h = h
+early_then levels (PutTree n from to) t seen is h = h
+early_then levels (GetTree n from to) t seen is h = h
+early_then levels k t seen is h = absurd is
 
-two_stops : (a b : Option Refusal) (r : Refusal) → first_refusal (a ∷ []) ≡ Some r → first_refusal (a ∷ b ∷ []) ≡ Some r
-two_stops None b r h = cc
-two_stops (Some p) b r h = h
-
--- where no early test stops a caller, the conflict does, if there is one
-early_then : (levels : ℕ) (k : Call) (t : Top) (seen : List Seen) → first_refusal (early_refusals levels k t seen) ≡ None → first_refusal (refusals levels k t seen) ≡ last_refusal k t seen
-early_then levels (Get x) t seen h = three_tests _ _ _ h
-early_then levels (Tjoin n) t seen h = two_tests _ _ h
-early_then levels k t seen h = h
-
-early_stops : (levels : ℕ) (k : Call) (t : Top) (seen : List Seen) (r : Refusal) → first_refusal (early_refusals levels k t seen) ≡ Some r → first_refusal (refusals levels k t seen) ≡ Some r
-early_stops levels (Get x) t seen r h = three_stops _ _ _ r h
-early_stops levels (Tjoin n) t seen r h = two_stops _ _ r h
-early_stops levels k t seen r h = h
+early_stops : (levels : ℕ) (k : Call) (t : Top) (seen : List Seen) (r : Refusal) → IsPutOrGet k → first_refusal (early_refusals levels k t seen) ≡ Some r → first_refusal (refusals levels k t seen) ≡ Some r
+early_stops levels (Get x) t seen r is h = three_stops _ _ _ r h
+early_stops levels (Put x) t seen r is h = h
+early_stops levels (PutTree n from to) t seen r is h = h
+early_stops levels (GetTree n from to) t seen r is h = h
+early_stops levels k t seen r is h = absurd is
 
 unless_is : (o : Option Refusal) (k : Call) (s : Space)
     → unless_conflict o k s ≡ apply_meeting (unless_refused o (after_payment (top_of s) (top_of s)) (action k (after_payment (top_of s) (top_of s)) (seen_of (awaits k) (children_of s)))) (children_of s)
@@ -180,22 +170,22 @@ unless_is None k s = refl
 unless_is (Some r) k s = refl
 
 -- a meeting that no early test stops
-pub acts_met : (levels : ℕ) (k : Call) (s u : Space) → None ≡ early_of levels k s → u ≡ acts_or_stops k s → u ≡ meet levels k (after_payment (top_of s) (top_of s)) (children_of s)
+pub acts_met : (levels : ℕ) (k : Call) (s u : Space) → IsPutOrGet k → None ≡ early_of levels k s → u ≡ acts_or_stops k s → u ≡ meet levels k (after_payment (top_of s) (top_of s)) (children_of s)
 unfolding early_of acts_or_stops conflict_of
-acts_met levels k s u early is =
+acts_met levels k s u put_or_get early is =
     let p = after_payment (top_of s) (top_of s) in
     let seen = seen_of (awaits k) (children_of s) in
-    let first = early_then levels k p seen (sym early) in
+    let first = early_then levels k p seen put_or_get (sym early) in
     is ∙ unless_is (last_refusal k p seen) k s ∙ ap (λ o. apply_meeting (unless_refused o p (action k p seen)) (children_of s)) (sym first)
 
 -- and one that an early test stops
-pub stops_met : (levels : ℕ) (k : Call) (s : Space) (r : Refusal) (t u : Top) (cs : Children) → space t cs ≡ s → Some r ≡ early_of levels k s → u ≡ stop (after_payment t t) r.cause r.value
+pub stops_met : (levels : ℕ) (k : Call) (s : Space) (r : Refusal) (t u : Top) (cs : Children) → IsPutOrGet k → space t cs ≡ s → Some r ≡ early_of levels k s → u ≡ stop (after_payment t t) r.cause r.value
     → space u cs ≡ meet levels k (after_payment (top_of s) (top_of s)) (children_of s)
 unfolding early_of
-stops_met levels k s r t u cs view early is =
+stops_met levels k s r t u cs put_or_get view early is =
     let p = after_payment (top_of s) (top_of s) in
     let seen = seen_of (awaits k) (children_of s) in
-    let first = early_stops levels k p seen r (sym early) in
+    let first = early_stops levels k p seen r put_or_get (sym early) in
     ap (λ v. space v cs) is ∙ ap (λ q. space (stop (after_payment (top_of q) (top_of q)) r.cause r.value) (children_of q)) view
     ∙ ap (λ o. apply_meeting (unless_refused o p (action k p seen)) (children_of s)) (sym first)
 
@@ -214,13 +204,3 @@ stops_at k s addr t u cs view found is =
 -- the same call by another name
 pub acted_as : {E : Type 0} (r : Result (Unit {0}) E) (k l : Call) (s u : Space) → k ≡ l → OnOk r (u ≡ with_action k s) → OnOk r (u ≡ with_action l s)
 acted_as r k l s u same met = on_ok_weaker r (λ e. e ∙ ap (λ m. with_action m s) same) met
-
--- a space that met a child, or is as it was, is as sound as it was
-pub met_sound : (levels : ℕ) (k : Call) (s u : Space) → MayMeet levels k → MayPay (top_of s) → u ≡ meet levels k (after_payment (top_of s) (top_of s)) (children_of s)
-    → (root : Bool) (fuel : ℕ) → IsSoundAt levels root fuel s → IsSoundAt levels root fuel u
-met_sound levels k s u may pays met root fuel sound = subst (IsSoundAt levels root fuel) (sym met) (meeting_sound levels root fuel k s may pays sound)
-
-pub stays_sound : {E : Type 0} (r : Result (Unit {0}) E) (levels : ℕ) (k : Call) (s u : Space) → MayMeet levels k → MayPay (top_of s)
-    → OnOk r (u ≡ meet levels k (after_payment (top_of s) (top_of s)) (children_of s)) → OnErr r (u ≡ s) → (root : Bool) (fuel : ℕ) → IsSoundAt levels root fuel s → IsSoundAt levels root fuel u
-stays_sound (Ok done) levels k s u may pays met same root fuel sound = met_sound levels k s u may pays met root fuel sound
-stays_sound (Err e) levels k s u may pays met same root fuel sound = subst (IsSoundAt levels root fuel) (sym same) sound

@@ -14,7 +14,8 @@ use Rattle.space_model.specs.Beginning.{fresh_top}
 use Rattle.space_model.specs.Meeting.{space_or_fresh, with_copy, test_refusal, height_refusal}
 use Rattle.space_model.proofs.Entries.{set_entries, put_entries, remove_entries}
 use Rattle.space_mem.specs.Held.{Held, memory_in}
-use Rattle.put_get.specs.Meetings.{snapshot_in, with_action}
+use Rattle.space_model.specs.Caller.{with_action}
+use Rattle.put_get.specs.Meetings.{snapshot_in}
 use Rattle.put_get.proofs.Entries.{child_at}
 
 -- a copy of a child of a child that is there

@@ -7,13 +7,12 @@ ghost use Rattle.space_model.specs.Beginning.{fresh_top};
 ghost use Rattle.space_model.specs.Meeting.{or_fresh};
 ghost use Rattle.space_model.specs.Part.{part_if, block_part, merge_part, destination_page, page_count, caller_after};
 ghost use Rattle.space_model.specs.Space.{children_from, children_of, find, top_of};
-ghost use Rattle.put_get.specs.Meetings.{with_action, get_conflict, conflict_of, MayStop};
+ghost use Rattle.space_model.specs.Caller.{with_action};
+ghost use Rattle.put_get.specs.Meetings.{get_conflict, conflict_of, MayStop};
 ghost use Rattle.put_get.specs.Ranges.{at_most_one, get_changes};
 
-use crate::caller::succeed;
 use crate::options::{has_copy, has_merge, has_perm, has_regs, has_zero};
 use crate::ranges::{destination, fill, permit, share};
-use crate::registers::block;
 use snapshot::{MergeError, merge};
 use space_tree::{Space, Top};
 use std::alloc::{AllocError, Global};
@@ -34,7 +33,7 @@ fn take_registers(x: &Transfer, child: &Top, caller: &mut Top) -> Result<(), All
     }
     caller
         .memory
-        .write_bytes(x.block, &write_block(&block(child)))
+        .write_bytes(x.block, &write_block(&child.block()))
 }
 
 // Merge: what the child has changed in the destination's range since its snapshot goes into it, where that is asked for. The error is
@@ -174,7 +173,7 @@ pub fn get(alloc: Global, x: &Transfer, space: &mut Space) -> Result<(), MergeEr
     share_child(x, space)?;
     match take_child(alloc, x, &mut space.top, &space.children) {
         Ok(()) => {
-            succeed(&mut space.top);
+            space.top.pay_and_succeed();
             Ok(())
         }
         Err(error) => Err(error),

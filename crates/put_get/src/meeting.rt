@@ -1,18 +1,13 @@
-ghost use Rattle.std.specs.Prelude.{◌≡◌, ◌-◌, ◌≤◌, ℕ, Bool, OnOk, OnErr, IfErr, None};
-ghost use Rattle.call_model.specs.Limits.{greatest_depth, levels_below};
-ghost use Rattle.space_model.specs.Change.{after_payment};
+ghost use Rattle.std.specs.Prelude.{◌≡◌, OnOk, OnErr, IfErr, None};
+ghost use Rattle.space_model.specs.Caller.{MayCall, met_by, with_action, StaysSound};
 ghost use Rattle.space_model.specs.Event.{MayPay};
-ghost use Rattle.space_model.specs.Meeting.{MayMeet, meet};
-ghost use Rattle.space_model.specs.Sound.{IsSoundAt};
-ghost use Rattle.space_model.specs.Space.{children_of, top_of};
-ghost use Rattle.put_get.specs.Meetings.{with_action, acts_or_stops, conflict_of, MayStop, IsPutOrGet};
+ghost use Rattle.space_model.specs.Space.{top_of};
+ghost use Rattle.put_get.specs.Meetings.{acts_or_stops, conflict_of, MayStop, IsPutOrGet};
 
-use crate::caller::trap;
 use crate::refusal::refusal;
 use crate::{get, put, tree};
 use snapshot::MergeError;
-use space_model::Refusal;
-use space_tree::{Cause, Space};
+use space_tree::{Space, conflict};
 use std::alloc::{AllocError, Global};
 use trap_ret::{AcceptedCall, Call};
 
@@ -45,11 +40,7 @@ fn act_or_stop(alloc: Global, call: AcceptedCall, space: &mut Space) -> Result<(
     match act(alloc, call, space) {
         Ok(()) => Ok(()),
         Err(MergeError::Conflict { addr }) => {
-            let refusal = Refusal {
-                cause: Cause::Conflict,
-                value: addr,
-            };
-            trap(&mut space.top, refusal);
+            space.top.trap(conflict(addr));
             Ok(())
         }
         Err(MergeError::Memory) => Err(AllocError),
@@ -72,17 +63,15 @@ pub fn apply(
     depth: u8,
     space: &mut Space,
 ) -> Result<(), AllocError>
-    requires depth { depth ≤ greatest_depth }
     requires is_call { IsPutOrGet call }
-    requires may_meet { MayMeet (levels_below depth) call }
-    requires may_pay { MayPay (top_of space.old) }
-    ensures ok { OnOk result (space.new ≡ meet (levels_below depth) call (after_payment (top_of space.old) (top_of space.old)) (children_of space.old)) }
+    requires may_call { MayCall depth call space.old }
+    ensures ok { OnOk result (space.new ≡ met_by depth call space.old) }
     ensures err { OnErr result (space.new ≡ space.old) }
-    ensures sound { (root : Bool) (fuel : ℕ) → IsSoundAt (levels_below depth) root fuel space.old → IsSoundAt (levels_below depth) root fuel space.new }
+    ensures sound { StaysSound depth space.old space.new }
 {
     match refusal(call, space, depth) {
         Some(refusal) => {
-            trap(&mut space.top, refusal);
+            space.top.trap(refusal);
             Ok(())
         }
         None => act_or_stop(alloc, call, space),

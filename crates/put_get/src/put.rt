@@ -9,13 +9,11 @@ ghost use Rattle.space_model.specs.Beginning.{fresh_top};
 ghost use Rattle.space_model.specs.Meeting.{or_fresh};
 ghost use Rattle.space_model.specs.Part.{part_if, with_parts, registers_part, snapshot_part, start_part, start_limit, child_after};
 ghost use Rattle.space_model.specs.Space.{space, none, children_from, children_of, find, top_of};
-ghost use Rattle.put_get.specs.Meetings.{with_action};
+ghost use Rattle.space_model.specs.Caller.{with_action};
 ghost use Rattle.put_get.specs.Ranges.{memory_parts, at_most_one, put_changes};
 
-use crate::caller::succeed;
 use crate::options::{has_copy, has_limit, has_perm, has_regs, has_snap, has_start, has_zero};
 use crate::ranges::{fill, permit, share};
-use crate::registers::read_registers;
 use snapshot::take;
 use space_tree::{Space, Status, Top};
 use std::alloc::{AllocError, Global};
@@ -29,7 +27,7 @@ fn give_registers(x: &Transfer, caller: &Top, child: &mut Top)
     ensures { child.new ≡ part_if (options_of.has options_of.regs x.now.options) (registers_part (registers_at caller.now.memory x.now.block)) child.old }
 {
     if has_regs(x) {
-        child.registers = read_registers(&caller.memory, x.block);
+        child.take_block(&caller.memory, x.block);
     }
 }
 
@@ -165,6 +163,6 @@ pub fn put(alloc: Global, x: &Transfer, space: &mut Space) -> Result<(), AllocEr
 {
     share(x, space)?;
     give_child(alloc, x, &space.top, &mut space.children)?;
-    succeed(&mut space.top);
+    space.top.pay_and_succeed();
     Ok(())
 }

@@ -1,15 +1,15 @@
-ghost use Rattle.std.specs.Prelude.{◌≡◌, ◌-◌, ◌≤◌, Some, is_none};
+ghost use Rattle.std.specs.Prelude.{◌≡◌, ◌-◌, ◌≤◌, is_none};
 ghost use Rattle.call_model.specs.Limits.{greatest_depth, levels_below};
 ghost use Rattle.memory_model.specs.Memory.{may_read, may_write};
 ghost use Rattle.call_model.specs.Reading.{IsTransfer};
-ghost use Rattle.space_model.specs.Meeting.{block_refusal, test_refusal, height_refusal};
+ghost use Rattle.space_model.specs.Meeting.{block_refusal, height_refusal};
 ghost use Rattle.space_model.specs.Space.{children_from, find};
 ghost use Rattle.space_model.specs.declared.Cause.TheVariants.{LoadFault, StoreFault};
 ghost use Rattle.put_get.specs.Meetings.{early_of, early_get, snapshot_in, IsPutOrGet};
 
 use crate::options::{has_merge, has_regs};
 use space_model::Refusal;
-use space_tree::{Cause, Space, Top, height};
+use space_tree::{Cause, Space, Top, height, no_snapshot, too_deep};
 use std::collections::BTreeMap;
 use trap_ret::limits::{BLOCK_SIZE, GREATEST_DEPTH};
 use trap_ret::{AcceptedCall, Call, Transfer};
@@ -46,16 +46,6 @@ fn unwritable_block(x: &Transfer, caller: &Top) -> Option<Refusal>
     })
 }
 
-// The failed test of this number.
-fn failed_test(value: u32) -> Refusal
-    ensures { Some result ≡ test_refusal value }
-{
-    Refusal {
-        cause: Cause::Badcall,
-        value,
-    }
-}
-
 // Test 5: whether the child of that number lacks a snapshot; one that is missing does.
 fn lacks_snapshot(children: &BTreeMap<u16, Space>, number: u16) -> bool
     ensures { result ≡ is_none (snapshot_in (find number (children_from children.now.entries))) }
@@ -72,7 +62,7 @@ fn get_refusal(x: &Transfer, caller: &Space) -> Option<Refusal>
     ensures { result ≡ early_get x.now caller.now }
 {
     if has_merge(x) && lacks_snapshot(&caller.children, x.child) {
-        return Some(failed_test(5));
+        return Some(no_snapshot());
     }
     unwritable_block(x, &caller.top)
 }
@@ -84,7 +74,7 @@ fn tree_refusal(children: &BTreeMap<u16, Space>, from: u16, depth: u8) -> Option
 {
     let copied = children.get(&from)?;
     if height(copied).saturating_add(2) > GREATEST_DEPTH - depth {
-        return Some(failed_test(8));
+        return Some(too_deep());
     }
     None
 }

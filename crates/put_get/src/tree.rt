@@ -4,9 +4,8 @@ ghost use Rattle.space_model.specs.Call.{edit, copy_to, place, below};
 ghost use Rattle.space_model.specs.Event.{MayPay};
 ghost use Rattle.space_model.specs.Meeting.{space_or_fresh, with_copy};
 ghost use Rattle.space_model.specs.Space.{space, none, children_from, children_of, find, top_of};
-ghost use Rattle.put_get.specs.Meetings.{with_action};
+ghost use Rattle.space_model.specs.Caller.{with_action};
 
-use crate::caller::succeed;
 use space_tree::{Space, Top, copy_tree};
 use std::alloc::{AllocError, Global};
 use std::collections::BTreeMap;
@@ -104,7 +103,7 @@ pub fn put_tree(
 {
     let copy = copy_child(alloc, &mut space.children, from)?;
     place_in_child(alloc, &space.top, &mut space.children, child, to, copy)?;
-    succeed(&mut space.top);
+    space.top.pay_and_succeed();
     Ok(())
 }
 
@@ -146,6 +145,6 @@ pub fn get_tree(
 {
     let copy = copy_grandchild(alloc, &mut space.children, child, from)?;
     place_copy(&mut space.children, to, copy)?;
-    succeed(&mut space.top);
+    space.top.pay_and_succeed();
     Ok(())
 }

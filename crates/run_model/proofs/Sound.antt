@@ -2,7 +2,7 @@
 use Rattle.std.proofs.Common.{◌≡◌, ℕ, zero, suc, pred, ◌^◌, ◌≤◌, ◌<◌, Bool, true, false, cond, List, [], ◌∷◌, Option, Some, None, refl, arith}
 use Rattle.image_model.specs.Image.{Image}
 use Rattle.call_model.specs.declared.Call.{Call}
-use Rattle.script_model.specs.Devices.{Devices}
+use Rattle.device_model.specs.Devices.{Devices}
 use Rattle.space_model.specs.Space.{Space, space, Children, Top, top_of, children_of, find}
 use Rattle.space_model.specs.Sound.{IsSoundTop, IsSoundAt, AreSound, IsSound}
 use Rattle.space_model.specs.declared.Reach.{Reach}

@@ -4,7 +4,7 @@ use Rattle.std.specs.Prelude.{ℕ, ◌+◌, ◌-◌, ◌/◌, List, [], ◌∷�
 use Rattle.memory_model.specs.Memory.{Memory, no_memory, with_bytes, with_permissions}
 use Rattle.memory_model.specs.Sizes.{page_size}
 use Rattle.image_model.specs.Image.{Image, Segment, last_page}
-use Rattle.script_model.specs.Devices.{Devices}
+use Rattle.device_model.specs.Devices.{Devices}
 use Rattle.space_model.specs.Space.{Space, space, none}
 use Rattle.space_model.specs.Beginning.{root_of}
 

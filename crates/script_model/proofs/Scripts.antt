@@ -3,7 +3,7 @@ use Rattle.std.proofs.Common.{◌≡◌, ℕ, List, Ok, Err, ap}
 use Rattle.std.specs.Prelude.{IsErr}
 use Rattle.text_lines.proofs.Items as texts
 use Rattle.script_model.specs.declared.error.ScriptError.{ScriptError}
-use Rattle.script_model.specs.Devices.{Devices}
+use Rattle.device_model.specs.Devices.{Devices}
 use Rattle.script_model.specs.Script.{Says, ScriptOf, IsFirstRefused, devices_from}
 use Rattle.script_model.specs.Reading.{item_of, script_of}
 use Rattle.script_model.proofs.Items.{reads}

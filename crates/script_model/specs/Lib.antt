@@ -1,4 +1,3 @@
-pub mod Devices
 pub mod Script
 pub mod Reading
 pub mod Names

@@ -5,7 +5,7 @@ use Rattle.std.specs.Prelude.{ℕ, Bool, ◌&&◌, ◌==◌, nat_lt, List, [], �
 use Rattle.std.specs.Char.{digit_value}
 use Rattle.std.specs.Str.{bytes_eq}
 use Rattle.script_model.specs.declared.error.ScriptError.{ScriptError}
-use Rattle.script_model.specs.Devices.{Devices}
+use Rattle.device_model.specs.Devices.{Devices}
 use Rattle.script_model.specs.Script.{Item, Nothing, Input, Clock, Random, byte_of, most_digits, greatest_number, devices_from}
 use Rattle.text_lines.specs.Reading.{number_of, value_of}
 

@@ -1,7 +1,7 @@
 //! Laws of the definitions, over all lists of bytes.
 
 ghost use Rattle.std.specs.Prelude.{◌≡◌, ℕ, List, ◌↔◌, Ok, Err, IsErr};
-ghost use Rattle.script_model.specs.Devices.{Devices};
+ghost use Rattle.device_model.specs.Devices.{Devices};
 ghost use Rattle.script_model.specs.Script.{Item, Says, ScriptOf, IsFirstRefused};
 ghost use Rattle.script_model.specs.Reading.{script_of};
 

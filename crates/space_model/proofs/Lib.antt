@@ -5,3 +5,4 @@ pub mod Sound
 pub mod Next
 pub mod NoFiles
 pub mod PathOrder
+pub mod Callers

@@ -15,7 +15,7 @@ use Rattle.call_model.specs.Reading.{kind_in, unless_failed, read_as, read, IsAc
 use Rattle.call_model.proofs.Accepted.{Passes, passes, named_accepted, levels_accepted, children_accepted}
 use Rattle.space_model.specs.declared.Status.{Status}
 use Rattle.space_model.specs.declared.Status.TheVariants.{Running, Stopped}
-use Rattle.script_model.specs.Devices.{Devices}
+use Rattle.device_model.specs.Devices.{Devices}
 use Rattle.space_model.specs.Space.{Top}
 use Rattle.space_model.specs.Sound.{has_devices, IsSoundTop}
 use Rattle.space_model.specs.Change.{after_payment}

@@ -4,7 +4,7 @@ use Rattle.std.specs.Prelude.{ℕ, Some, None, slice_set, replicate}
 use Rattle.memory_model.specs.Memory.{Memory, no_memory}
 use Rattle.space_model.specs.declared.Cause.TheVariants.{Fresh}
 use Rattle.space_model.specs.declared.Status.TheVariants.{Running, Stopped}
-use Rattle.script_model.specs.Devices.{Devices}
+use Rattle.device_model.specs.Devices.{Devices}
 use Rattle.space_model.specs.Space.{Top}
 
 -- a space that has never run, with so much fuel

@@ -13,7 +13,7 @@ use Rattle.space_model.specs.declared.Status.TheVariants.{Running, Stopped}
 use Rattle.space_model.specs.declared.Cause.{Cause}
 use Rattle.space_model.specs.declared.Cause.TheVariants.{FetchMisaligned, FetchFault, Illegal, Breakpoint, LoadMisaligned, LoadFault, StoreMisaligned, StoreFault, Badcall, Conflict, Limit, Fuel, Ret, Fresh}
 use Rattle.space_model.specs.Stop.{cause_number, cause_of}
-use Rattle.script_model.specs.Devices.{Devices, coded_devices}
+use Rattle.device_model.specs.Devices.{Devices, coded_devices}
 use Rattle.space_model.specs.Space.{Top, Space, space, Children, none, child, children_from}
 
 pub cause_of-cause_number : (c : Cause) → cause_of (cause_number c) ≡ c

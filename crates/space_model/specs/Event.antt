@@ -13,7 +13,7 @@ use Rattle.space_model.specs.declared.Status.{Status}
 use Rattle.space_model.specs.declared.Status.TheVariants.{Running, Stopped}
 use Rattle.space_model.specs.declared.Cause.TheVariants.{LoadFault, StoreFault, Badcall, Limit, Fuel, Ret}
 use Rattle.space_model.specs.Stop.{cause_of}
-use Rattle.script_model.specs.Devices.{Devices}
+use Rattle.device_model.specs.Devices.{Devices}
 use Rattle.space_model.specs.Space.{Top}
 use Rattle.space_model.specs.Sound.{has_devices}
 use Rattle.space_model.specs.Change.{stop, after_success, after_error, with_count, after_payment}

@@ -14,3 +14,4 @@ pub mod Part
 pub mod Runtime
 pub mod Meeting
 pub mod Event
+pub mod Caller

@@ -5,6 +5,7 @@
 use Rattle.std.specs.Prelude.{ℕ, None}
 use Rattle.memory_model.specs.Sizes.{pages}
 use Rattle.instruction_model.specs.Outcome.{Registers, with_register, onward}
+use Rattle.space_model.specs.declared.Status.{Status}
 use Rattle.space_model.specs.Space.{Top}
 use Rattle.space_model.specs.Block.{stop_number, stop_value}
 use Rattle.space_model.specs.Files.{with_file_bases, with_files_of, files_left_out}
@@ -34,9 +35,13 @@ after_fork t c = start_part None (base_part (twin_part t c))
 unfoldable pub after_thread_fork : Top → Part
 after_thread_fork t c = start_part None (snapshot_part (twin_part t c))
 
--- a1 is the number of the cause with which a child has stopped, a2 the value
+-- a1 is the number of the cause of this status, a2 the value
+abbrev pub with_stop : Status → Part
+with_stop status t = registers_part (with_register (with_register t.registers 11 (stop_number status)) 12 (stop_value status)) t
+
+-- how a child has stopped
 abbrev pub stop_part : Top → Part
-stop_part c t = registers_part (with_register (with_register t.registers 11 (stop_number c.status)) 12 (stop_value c.status)) t
+stop_part c t = with_stop c.status t
 
 -- the caller after it has joined a thread: what the thread changed since its snapshot, and how it stopped
 unfoldable pub after_join : Top → Part

@@ -3,7 +3,7 @@
 -- Our choice: a depth of at most 8, child numbers below 65,536, one sum of fuel and used.
 use Rattle.std.specs.Prelude.{◌≡◌, ℕ, zero, suc, ◌+◌, ◌^◌, ◌<◌, ◌≤◌, Option, Some, None, Bool, true, false}
 use Rattle.call_model.specs.Limits.{greatest_depth, IsChild}
-use Rattle.script_model.specs.Devices.{Devices}
+use Rattle.device_model.specs.Devices.{Devices}
 use Rattle.space_model.specs.Space.{Space, space, Children, none, child, Top}
 
 abbrev pub has_devices : Option Devices → Bool

@@ -4,7 +4,7 @@
 use Rattle.std.specs.Prelude.{ℕ, suc, List, [], ◌∷◌, Option, Bool, true, false, Some, None, cond, ◌==◌, nat_lt, max}
 use Rattle.memory_model.specs.Memory.{Memory}
 use Rattle.instruction_model.specs.Outcome.{Registers}
-use Rattle.script_model.specs.Devices.{Devices}
+use Rattle.device_model.specs.Devices.{Devices}
 use Rattle.space_model.specs.declared.Status.{Status}
 use Rattle.space_model.specs.Stop.{is_stopped}
 

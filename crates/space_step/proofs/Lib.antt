@@ -1,7 +1,6 @@
 pub mod Calls
 pub mod Events
 pub mod Answers
-pub mod Numbers
 pub mod Budget
 pub mod Stretches
 pub mod Seen

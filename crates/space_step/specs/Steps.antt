@@ -1,11 +1,11 @@
 -- What is next of a space, as calls answer it.
 -- Our choice: a restatement for proofs.
-use Rattle.std.specs.Prelude.{◌≡◌, ℕ, Option, Some, None, Result, Ok, Err}
+use Rattle.std.specs.Prelude.{◌≡◌, ℕ, Result, Ok, Err}
 use Rattle.std.specs.declared.alloc.AllocError.{AllocError}
 use Rattle.space_step.specs.declared.event.Next.{Next}
 use Rattle.space_step.specs.declared.event.Next.TheVariants as answers
 use Rattle.space_model.specs.Space.{Top}
-use Rattle.space_model.specs.Change.{after_payment, after_success, after_error, with_count}
+use Rattle.space_model.specs.Change.{after_payment}
 use Rattle.space_model.specs.Event as event
 
 -- a local event is next
@@ -40,29 +40,9 @@ IsAnswer answers.Local effect = IsLocal effect
 IsAnswer (answers.Meet k) effect = effect ≡ event.asks k
 IsAnswer answers.Stopped effect = ⊥
 
--- fuel, use and limit are the same
-pub record PaysNothing (old new : Top) : Type 0 where
-  pub fuel : new.fuel ≡ old.fuel
-  pub used : new.used ≡ old.used
-  pub limit : new.limit ≡ old.limit
-
--- what an effect does, before what it costs; a call that meets a child is left to do
+-- what an effect does, and what it costs; a call that meets a child is left to do
 abbrev pub Acts : event.Effect → Result Next AllocError → Top → Top → Type 0
-Acts effect (Ok answers.Local) old new = (effect ≡ event.becomes new) × PaysNothing old new
+Acts effect (Ok answers.Local) old new = event.charge old effect ≡ event.moves new
 Acts effect (Ok (answers.Meet k)) old new = (effect ≡ event.asks k) × (new ≡ old)
 Acts effect (Ok answers.Stopped) old new = ⊥
 Acts effect (Err e) old new = IsLocal effect × (new ≡ old)
-
--- the same of an effect that meets no child
-abbrev pub Becomes : event.Effect → Top → Top → Type 0
-Becomes effect old new = (effect ≡ event.becomes new) × PaysNothing old new
-
--- and where memory ran out, nothing has changed
-abbrev pub Does : event.Effect → Result (Unit {0}) AllocError → Top → Top → Type 0
-Does effect (Ok u) old new = Becomes effect old new
-Does effect (Err e) old new = new ≡ old
-
--- a number that a device gave goes into a1; where it had none left, a0 is 1 and a1 is 0
-abbrev pub after_number : Option ℕ → Top → Top
-after_number None t = after_error 1 (with_count 0 t)
-after_number (Some n) t = after_success (with_count n t)

@@ -3,7 +3,6 @@
 
 mod calling;
 mod decode_cache;
-mod devices;
 mod event;
 mod files;
 mod paying;

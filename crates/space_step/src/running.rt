@@ -11,7 +11,7 @@ use crate::calling::call;
 use crate::event::{Advance, Next};
 use crate::paying::{budget, run_out};
 use crate::stretch::{End, Stretch, execute};
-use space_model::Status;
+use space_model::{Refusal, Status};
 use space_tree::Top;
 use std::alloc::AllocError;
 use trap_ret::cause_of;
@@ -32,8 +32,10 @@ fn trap(top: &mut Top, number: u8, value: u32)
     requires traps { outcome (view_of top.old.memory) top.old.registers ≡ traps number value }
     ensures { (levels : ℕ) → next levels top.old ≡ moves top.new }
 {
-    top.pay(1);
-    top.stop(cause_of(u32::from(number)), value);
+    top.trap(Refusal {
+        cause: cause_of(u32::from(number)),
+        value,
+    });
 }
 
 // Instructions of a space that can pay for so many, up to a call or a trap, paid for.

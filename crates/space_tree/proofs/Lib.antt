@@ -3,3 +3,4 @@ pub mod Values
 pub mod Heights
 pub mod Copies
 pub mod Sounds
+pub mod Words

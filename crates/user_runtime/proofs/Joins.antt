@@ -4,21 +4,20 @@ use Rattle.memory_model.specs.Memory.{Memory}
 use Rattle.merge_model.specs.Merge.{first_conflict, with_merge}
 use Rattle.space_model.specs.declared.Cause.TheVariants.{Conflict}
 use Rattle.space_model.specs.declared.Refusal.{Refusal}
-use Rattle.std.specs.Prelude.{option_map, Bool, Result, OnOk, OnErr}
+use Rattle.std.specs.Prelude.{option_map, Result, OnOk, OnErr}
 use Rattle.call_model.specs.declared.Call.{Call}
 use Rattle.call_model.specs.declared.Call.TheVariants.{Tjoin}
 use Rattle.space_model.specs.Space.{Space, space, Children, Top, top_of, find}
 use Rattle.space_model.specs.Change.{after_payment, after_success, stop}
 use Rattle.space_model.specs.Call.{apply_meeting}
 use Rattle.space_model.specs.Refusals.{first_refusal}
-use Rattle.space_model.specs.Meeting.{or_fresh, MayMeet, test_refusal, unless_refused, snapshot_refusal, conflict_refusal}
+use Rattle.space_model.specs.Caller.{MayCall, StaysSound}
+use Rattle.space_model.specs.Meeting.{or_fresh, test_refusal, unless_refused, snapshot_refusal, conflict_refusal}
 use Rattle.space_model.specs.Beginning.{fresh_top}
-use Rattle.space_model.specs.Event.{MayPay}
-use Rattle.space_model.specs.Sound.{IsSoundAt}
-use Rattle.user_runtime.specs.Calls.{with_stop}
-use Rattle.user_runtime.proofs.Meetings.{or_fresh-paid, stays_sound}
+use Rattle.call_model.specs.Limits.{levels_below}
+use Rattle.space_model.proofs.Callers.{or_fresh-paid, stays_sound}
 use Rattle.space_model.specs.Part.{with_changes}
-use Rattle.space_model.specs.Runtime.{shared_pages, after_join}
+use Rattle.space_model.specs.Runtime.{shared_pages, with_stop, after_join}
 use Rattle.user_runtime.specs.Joins.{IsShared, conflict_at, shared_conflict, shared_merge, join_refusal, join_memory, with_join_unless, with_join, after_call}
 
 shared_is : (s c p : Memory) (first count : ℕ) → IsShared first count → conflict_at (first_conflict s c p first count) ≡ shared_conflict s c p
@@ -76,7 +75,6 @@ join_met levels n s t u cs view some is =
     ap (λ v. space v cs) is ∙ join_is levels n (or_fresh t o) t cs (or_fresh-paid t o fuel) ∙ ap (after_call levels (Tjoin n)) view
 
 -- a space after a call, or as it was, is as sound as it was
-pub after_call_sound : {E : Type 0} (r : Result (Unit {0}) E) (levels : ℕ) (k : Call) (s u : Space) → MayMeet levels k → MayPay (top_of s)
-    → OnOk r (u ≡ after_call levels k s) → OnErr r (u ≡ s) → (root : Bool) (fuel : ℕ) → IsSoundAt levels root fuel s → IsSoundAt levels root fuel u
+pub after_call_sound : {E : Type 0} (r : Result (Unit {0}) E) (depth : ℕ) (k : Call) (s u : Space) → MayCall depth k s → OnOk r (u ≡ after_call (levels_below depth) k s) → OnErr r (u ≡ s) → StaysSound depth s u
 unfolding after_call
-after_call_sound r levels k s u may pays met same = stays_sound r levels k s u may pays met same
+after_call_sound r depth k s u may met same = stays_sound r depth k s u may met same

@@ -1,26 +1,19 @@
 -- What the calls of processes and threads are of a caller that pays.
-use Rattle.std.proofs.Common.{◌≡◌, ℕ, ◌+◌, ◌-◌, ◌<◌, Option, Some, None, refl, subst, sym, ◌∙◌, ap, arith}
-use Rattle.std.specs.Prelude.{Bool, true, false, option_map, Result, Ok, Err, OnOk, OnErr}
+use Rattle.std.proofs.Common.{◌≡◌, ℕ, ◌<◌, refl, subst, sym, ◌∙◌, ap}
+use Rattle.std.specs.Prelude.{Bool, true, false, option_map, Result, OnOk, OnErr}
 use Rattle.std.proofs.lemmas.Result.{on_ok_weaker, on_err_weaker}
 use Rattle.call_model.specs.declared.Call.{Call}
 use Rattle.call_model.specs.declared.Call.TheVariants.{Wait}
 use Rattle.space_model.specs.Space.{Space, space, Children, Top, top_of, children_of, find}
 use Rattle.space_model.specs.Change.{after_payment, after_success}
 use Rattle.space_model.specs.Call.{edit, change, take_away, seen_of, apply_meeting}
-use Rattle.space_model.specs.Event.{MayPay}
-use Rattle.space_model.specs.Beginning.{fresh_top}
-use Rattle.space_model.specs.Meeting.{or_fresh, awaits, action, meet, MayMeet}
+use Rattle.space_model.specs.Caller.{with_action}
+use Rattle.space_model.specs.Meeting.{or_fresh, awaits, action}
 use Rattle.space_model.specs.Runtime.{after_fork, after_thread_fork, after_wait}
-use Rattle.space_model.specs.Sound.{IsSoundAt}
-use Rattle.space_model.proofs.Sound.{meeting_sound}
-use Rattle.user_runtime.specs.Calls.{after_fork_of, fork_call, with_action}
+use Rattle.space_model.proofs.Callers.{or_fresh-paid}
+use Rattle.user_runtime.specs.Calls.{after_fork_of, fork_call}
 
--- a caller that has paid reads the same child
-pub or_fresh-paid : (t : Top) (o : Option Top) → 0 < t.fuel → or_fresh (after_payment t t) o ≡ or_fresh t o
-or_fresh-paid t None h = let same : (t.fuel - 1) + (t.used + 1) ≡ t.fuel + t.used = omega arith in ap fresh_top same
-or_fresh-paid t (Some c) h = refl
-
--- and forks it alike
+-- a caller that has paid forks a child alike
 after_fork_of-paid : (thread : Bool) (t c : Top) → after_fork_of thread (after_payment t t) c ≡ after_fork_of thread t c
 unfolding after_fork after_thread_fork
 after_fork_of-paid true t c = refl
@@ -37,6 +30,7 @@ fork_acts false n t cs = refl
 pub fork_met : (thread : Bool) (n : ℕ) (s : Space) (t u : Top) (cs ds : Children) → space t cs ≡ s → 0 < (top_of s).fuel
     → ds ≡ edit (change n (after_fork_of thread t (or_fresh t (option_map top_of (find n cs))))) cs → u ≡ after_success (after_payment t t)
     → space u ds ≡ with_action (fork_call thread n) s
+unfolding with_action
 fork_met thread n s t u cs ds view some edited went =
     let p = after_payment t t in
     let o = option_map top_of (find n cs) in
@@ -57,6 +51,7 @@ abbrev with_wait : ℕ → Top → Children → Top → Space
 with_wait n p cs c = space (after_success (after_wait c p)) (edit (take_away n) cs)
 
 wait_acts : (n : ℕ) (t : Top) (cs : Children) → with_wait n (after_payment t t) cs (or_fresh (after_payment t t) (option_map top_of (find n cs))) ≡ with_action (Wait n) (space t cs)
+unfolding with_action
 wait_acts n t cs = refl
 
 pub wait_met : (n : ℕ) (s : Space) (t u v : Top) (cs ds : Children) → space t cs ≡ s → 0 < (top_of s).fuel → u ≡ after_wait (or_fresh t (option_map top_of (find n cs))) t
@@ -69,17 +64,7 @@ wait_met n s t u v cs ds view some waited gone went =
     ∙ ap (with_wait n (after_payment t t) cs) (sym (or_fresh-paid t o fuel))
     ∙ wait_acts n t cs ∙ ap (with_action (Wait n)) view
 
--- a space that met a child, or is as it was, is as sound as it was
-pub met_sound : (levels : ℕ) (k : Call) (s u : Space) → MayMeet levels k → MayPay (top_of s) → u ≡ meet levels k (after_payment (top_of s) (top_of s)) (children_of s)
-    → (root : Bool) (fuel : ℕ) → IsSoundAt levels root fuel s → IsSoundAt levels root fuel u
-met_sound levels k s u may pays met root fuel sound = subst (IsSoundAt levels root fuel) (sym met) (meeting_sound levels root fuel k s may pays sound)
-
-pub stays_sound : {E : Type 0} (r : Result (Unit {0}) E) (levels : ℕ) (k : Call) (s u : Space) → MayMeet levels k → MayPay (top_of s)
-    → OnOk r (u ≡ meet levels k (after_payment (top_of s) (top_of s)) (children_of s)) → OnErr r (u ≡ s) → (root : Bool) (fuel : ℕ) → IsSoundAt levels root fuel s → IsSoundAt levels root fuel u
-stays_sound (Ok done) levels k s u may pays met same root fuel sound = met_sound levels k s u may pays met root fuel sound
-stays_sound (Err e) levels k s u may pays met same root fuel sound = subst (IsSoundAt levels root fuel) (sym same) sound
-
--- the same of a space that was another value before
+-- a call of a space that was another value before
 pub acts_from : {E : Type 0} (r : Result (Unit {0}) E) (k : Call) (s t u : Space) → t ≡ s → OnOk r (u ≡ with_action k t) → OnOk r (u ≡ with_action k s)
 acts_from r k s t u same = on_ok_weaker r (λ e. e ∙ ap (with_action k) same)
 

@@ -11,8 +11,7 @@ use Rattle.space_model.specs.Space.{Space, Top, top_of, children_of}
 use Rattle.space_model.specs.Change.{after_payment, after_success, stop}
 use Rattle.space_model.specs.Meeting.{meet, test_refusal}
 use Rattle.space_model.specs.Part.{Part}
-use Rattle.space_model.specs.Runtime.{shared_pages}
-use Rattle.user_runtime.specs.Calls.{with_stop}
+use Rattle.space_model.specs.Runtime.{shared_pages, with_stop}
 
 -- the pages that threads share, by the first and their number
 unfoldable pub IsShared : ℕ → ℕ → Type 0

@@ -1,20 +1,17 @@
-ghost use Rattle.std.specs.Prelude.{◌≡◌, ◌+◌, ◌-◌, ◌≤◌, ℕ, Bool, OnOk, OnErr, IfOk, IfSome, is_some, None, option_map, if◌then◌else◌};
-ghost use Rattle.call_model.specs.Limits.{greatest_depth, levels_below};
+ghost use Rattle.std.specs.Prelude.{◌≡◌, ◌+◌, OnOk, OnErr, IfOk, IfSome, is_some, None, option_map, if◌then◌else◌};
 ghost use Rattle.call_model.specs.declared.Call.TheVariants.{Fork, Tfork};
 ghost use Rattle.space_model.specs.Beginning.{fresh_top};
 ghost use Rattle.space_model.specs.Call.{edit, change};
-ghost use Rattle.space_model.specs.Change.{after_payment};
+ghost use Rattle.space_model.specs.Caller.{MayCall, met_by, with_action, StaysSound};
 ghost use Rattle.space_model.specs.Event.{MayPay};
 ghost use Rattle.space_model.specs.Files.{with_file_bases};
-ghost use Rattle.space_model.specs.Meeting.{MayMeet, meet, or_fresh};
+ghost use Rattle.space_model.specs.Meeting.{or_fresh};
 ghost use Rattle.space_model.specs.Runtime as runtime;
-ghost use Rattle.space_model.specs.Sound.{IsSoundAt};
 ghost use Rattle.space_model.specs.Space.{space, none, children_from, children_of, find, top_of};
 ghost use Rattle.space_mem.specs.Held.{all_pages};
-ghost use Rattle.user_runtime.specs.Calls.{Suits, after_fork_of, fork_call, forked_memory, with_action, memory_of};
+ghost use Rattle.user_runtime.specs.Calls.{Suits, after_fork_of, fork_call, forked_memory, memory_of};
 
 use memory_files::mark_base;
-use put_get::succeed;
 use rv_exec::Regs;
 use snapshot::take;
 use space_tree::{Mem, Space, Status, Top};
@@ -130,7 +127,7 @@ fn fork_by(
         snapshot,
         &mut space.children,
     )?;
-    succeed(&mut space.top);
+    space.top.pay_and_succeed();
     Ok(())
 }
 
@@ -161,12 +158,10 @@ fn process_memory(space: &mut Space) -> Result<Mem, AllocError>
 /// without a limit behind the call, with a0 = 1; its own children, its snapshot, fuel and use stay. The caller pays one unit and goes on with
 /// a0 = 0. The one error is want of memory: nothing is changed then.
 pub fn fork(alloc: Global, child: u16, depth: u8, space: &mut Space) -> Result<(), AllocError>
-    requires depth { depth ≤ greatest_depth }
-    requires may_meet { MayMeet (levels_below depth) (Fork child) }
-    requires may_pay { MayPay (top_of space.old) }
-    ensures ok { OnOk result (space.new ≡ meet (levels_below depth) (Fork child) (after_payment (top_of space.old) (top_of space.old)) (children_of space.old)) }
+    requires { MayCall depth (Fork child) space.old }
+    ensures ok { OnOk result (space.new ≡ met_by depth (Fork child) space.old) }
     ensures err { OnErr result (space.new ≡ space.old) }
-    ensures sound { (root : Bool) (fuel : ℕ) → IsSoundAt (levels_below depth) root fuel space.old → IsSoundAt (levels_below depth) root fuel space.new }
+    ensures sound { StaysSound depth space.old space.new }
 {
     let memory = process_memory(space)?;
     fork_by(alloc, child, memory, None, space)
@@ -176,12 +171,10 @@ pub fn fork(alloc: Global, child: u16, depth: u8, space: &mut Space) -> Result<(
 /// abstractions), of a caller at this depth, 0 to 7: as `fork`, but its files get no base, and the child's new memory is kept as its snapshot too,
 /// for `tjoin` to merge against. The one error is want of memory: nothing is changed then.
 pub fn tfork(alloc: Global, child: u16, depth: u8, space: &mut Space) -> Result<(), AllocError>
-    requires depth { depth ≤ greatest_depth }
-    requires may_meet { MayMeet (levels_below depth) (Tfork child) }
-    requires may_pay { MayPay (top_of space.old) }
-    ensures ok { OnOk result (space.new ≡ meet (levels_below depth) (Tfork child) (after_payment (top_of space.old) (top_of space.old)) (children_of space.old)) }
+    requires { MayCall depth (Tfork child) space.old }
+    ensures ok { OnOk result (space.new ≡ met_by depth (Tfork child) space.old) }
     ensures err { OnErr result (space.new ≡ space.old) }
-    ensures sound { (root : Bool) (fuel : ℕ) → IsSoundAt (levels_below depth) root fuel space.old → IsSoundAt (levels_below depth) root fuel space.new }
+    ensures sound { StaysSound depth space.old space.new }
 {
     let mut memory = memory_copy(space)?;
     let snapshot = take(&mut memory)?;

@@ -1,27 +1,20 @@
-ghost use Rattle.std.specs.Prelude.{◌≡◌, ◌-◌, ◌≤◌, ℕ, Bool, Some, OnOk, OnErr, IfOk, is_none, option_map, if◌then◌else◌};
-ghost use Rattle.call_model.specs.Limits.{greatest_depth, levels_below};
+ghost use Rattle.std.specs.Prelude.{◌≡◌, ℕ, OnOk, OnErr, IfOk, is_none, option_map, if◌then◌else◌};
 ghost use Rattle.call_model.specs.declared.Call.TheVariants.{Tjoin};
-ghost use Rattle.space_model.specs.Change.{after_payment};
+ghost use Rattle.space_model.specs.Caller.{MayCall, met_by, StaysSound};
 ghost use Rattle.space_model.specs.Event.{MayPay};
-ghost use Rattle.space_model.specs.Meeting.{MayMeet, meet, or_fresh, test_refusal};
-ghost use Rattle.space_model.specs.Sound.{IsSoundAt};
+ghost use Rattle.space_model.specs.Meeting.{or_fresh};
 ghost use Rattle.space_model.specs.Space.{children_from, children_of, find, top_of};
 ghost use Rattle.space_mem.specs.Held.{Covers, Marks, memory_in};
 ghost use Rattle.user_runtime.specs.Joins.{IsShared, shared_conflict, shared_merge, join_refusal, with_merge_unless, with_join, after_call};
 
-use crate::stopping::report;
-use put_get::{succeed, trap};
 use snapshot::{MergeError, merge};
 use space_model::Refusal;
-use space_tree::{Cause, Mem, Pages, Space, Top};
+use space_tree::{Mem, Pages, Space, Top, conflict, no_snapshot};
 use std::alloc::{AllocError, Global};
 use std::collections::BTreeMap;
 
 // The pages that threads share: those below the address 0xC0000000.
 const SHARED_PAGES: u32 = 0xC0000;
-
-// The test that a child without a snapshot fails.
-const SNAPSHOT_TEST: u32 = 5;
 
 // The range of the shared pages.
 #[tactic(auto, unfolding(crate::specs::Joins::IsShared))]
@@ -31,16 +24,6 @@ fn thread_pages() -> Pages
     Pages {
         first: 0,
         count: SHARED_PAGES,
-    }
-}
-
-// What stops a caller whose child has no snapshot.
-fn snapshot_refusal() -> Refusal
-    ensures { Some result ≡ test_refusal 5 }
-{
-    Refusal {
-        cause: Cause::Badcall,
-        value: SNAPSHOT_TEST,
     }
 }
 
@@ -59,10 +42,7 @@ fn merge_shared(
 {
     match merge(parent, child, snapshot, thread_pages()) {
         Ok(()) => Ok(None),
-        Err(MergeError::Conflict { addr }) => Ok(Some(Refusal {
-            cause: Cause::Conflict,
-            value: addr,
-        })),
+        Err(MergeError::Conflict { addr }) => Ok(Some(conflict(addr))),
         Err(MergeError::Memory) => Err(AllocError),
     }
 }
@@ -77,7 +57,7 @@ fn merge_child(child: &Top, caller: &mut Top) -> Result<Option<Refusal>, AllocEr
 {
     match &child.snapshot {
         Some(snapshot) => merge_shared(&mut caller.memory, &child.memory, snapshot),
-        None => Ok(Some(snapshot_refusal())),
+        None => Ok(Some(no_snapshot())),
     }
 }
 
@@ -88,10 +68,10 @@ fn join_child(child: &Top, caller: &mut Top) -> Result<(), AllocError>
     ensures err { OnErr result (caller.new ≡ caller.old) }
 {
     match merge_child(child, caller)? {
-        Some(refusal) => trap(caller, refusal),
+        Some(refusal) => caller.trap(refusal),
         None => {
-            report(child.status, caller);
-            succeed(caller);
+            caller.tell_stop(child.status);
+            caller.pay_and_succeed();
         }
     }
     Ok(())
@@ -106,7 +86,7 @@ fn join(number: u16, caller: &mut Top, children: &BTreeMap<u16, Space>) -> Resul
     match children.get(&number) {
         Some(child) => join_child(child.top(), caller),
         None => {
-            trap(caller, snapshot_refusal());
+            caller.trap(no_snapshot());
             Ok(())
         }
     }
@@ -132,12 +112,10 @@ fn join_space(child: u16, space: &mut Space) -> Result<(), AllocError>
 ///
 /// The one error is want of memory: nothing is changed then.
 pub fn tjoin(_alloc: Global, child: u16, depth: u8, space: &mut Space) -> Result<(), AllocError>
-    requires depth { depth ≤ greatest_depth }
-    requires may_meet { MayMeet (levels_below depth) (Tjoin child) }
-    requires may_pay { MayPay (top_of space.old) }
-    ensures ok { OnOk result (space.new ≡ meet (levels_below depth) (Tjoin child) (after_payment (top_of space.old) (top_of space.old)) (children_of space.old)) }
+    requires { MayCall depth (Tjoin child) space.old }
+    ensures ok { OnOk result (space.new ≡ met_by depth (Tjoin child) space.old) }
     ensures err { OnErr result (space.new ≡ space.old) }
-    ensures sound { (root : Bool) (fuel : ℕ) → IsSoundAt (levels_below depth) root fuel space.old → IsSoundAt (levels_below depth) root fuel space.new }
+    ensures sound { StaysSound depth space.old space.new }
 {
     join_space(child, space)
 }

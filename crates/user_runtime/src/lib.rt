@@ -4,7 +4,6 @@
 mod forking;
 mod joining;
 mod meeting;
-mod stopping;
 mod waiting;
 
 pub use forking::{fork, tfork};

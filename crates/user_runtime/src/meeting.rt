@@ -1,10 +1,5 @@
-ghost use Rattle.std.specs.Prelude.{◌≡◌, ◌-◌, ◌≤◌, ℕ, Bool, OnOk, OnErr};
-ghost use Rattle.call_model.specs.Limits.{greatest_depth, levels_below};
-ghost use Rattle.space_model.specs.Change.{after_payment};
-ghost use Rattle.space_model.specs.Event.{MayPay};
-ghost use Rattle.space_model.specs.Meeting.{MayMeet, meet};
-ghost use Rattle.space_model.specs.Sound.{IsSoundAt};
-ghost use Rattle.space_model.specs.Space.{children_of, top_of};
+ghost use Rattle.std.specs.Prelude.{◌≡◌, OnOk, OnErr};
+ghost use Rattle.space_model.specs.Caller.{MayCall, met_by, StaysSound};
 
 use crate::forking::{fork, tfork};
 use crate::joining::tjoin;
@@ -22,12 +17,10 @@ pub fn meet(
     depth: u8,
     space: &mut Space,
 ) -> Result<(), AllocError>
-    requires depth { depth ≤ greatest_depth }
-    requires may_meet { MayMeet (levels_below depth) call }
-    requires may_pay { MayPay (top_of space.old) }
-    ensures ok { OnOk result (space.new ≡ meet (levels_below depth) call (after_payment (top_of space.old) (top_of space.old)) (children_of space.old)) }
+    requires { MayCall depth call space.old }
+    ensures ok { OnOk result (space.new ≡ met_by depth call space.old) }
     ensures err { OnErr result (space.new ≡ space.old) }
-    ensures sound { (root : Bool) (fuel : ℕ) → IsSoundAt (levels_below depth) root fuel space.old → IsSoundAt (levels_below depth) root fuel space.new }
+    ensures sound { StaysSound depth space.old space.new }
 {
     match call.call() {
         Call::Put(_) | Call::PutTree { .. } | Call::Get(_) | Call::GetTree { .. } => {
@@ -37,11 +30,6 @@ pub fn meet(
         Call::Wait { child } => wait(alloc, child, depth, space),
         Call::Tfork { child } => tfork(alloc, child, depth, space),
         Call::Tjoin { child } => tjoin(alloc, child, depth, space),
-        Call::Ret { .. }
-        | Call::ConsoleOut { .. }
-        | Call::ConsoleIn { .. }
-        | Call::Clock
-        | Call::Random
-        | Call::File(_) => unreachable!(),
+        _ => unreachable!(),
     }
 }

@@ -1,27 +1,16 @@
-ghost use Rattle.std.specs.Prelude.{◌≡◌, ◌-◌, ◌≤◌, ℕ, Bool, OnOk, OnErr, option_map};
-ghost use Rattle.call_model.specs.Limits.{greatest_depth, levels_below};
+ghost use Rattle.std.specs.Prelude.{◌≡◌, ℕ, OnOk, OnErr, option_map};
 ghost use Rattle.call_model.specs.declared.Call.TheVariants.{Wait};
 ghost use Rattle.space_model.specs.Beginning.{fresh_top};
 ghost use Rattle.space_model.specs.Call.{edit, take_away};
-ghost use Rattle.space_model.specs.Change.{after_payment};
-ghost use Rattle.space_model.specs.Event.{MayPay};
-ghost use Rattle.space_model.specs.Meeting.{MayMeet, meet, or_fresh};
+ghost use Rattle.space_model.specs.Caller.{MayCall, met_by, StaysSound};
+ghost use Rattle.space_model.specs.Meeting.{or_fresh};
 ghost use Rattle.space_model.specs.Runtime.{files_part, after_wait};
-ghost use Rattle.space_model.specs.Sound.{IsSoundAt};
-ghost use Rattle.space_model.specs.Space.{children_from, children_of, find, top_of};
+ghost use Rattle.space_model.specs.Space.{children_from, find, top_of};
 
-use crate::stopping::report;
 use memory_files::reconcile;
-use put_get::succeed;
-use space_tree::{Cause, Space, Status, Top};
+use space_tree::{FRESH, Space, Top};
 use std::alloc::{AllocError, Global};
 use std::collections::BTreeMap;
-
-// The status of a space that has never run.
-const FRESH: Status = Status::Stopped {
-    cause: Cause::Fresh,
-    value: 0,
-};
 
 // The caller takes over what a child changed in its files; a3 is how many of them found no free slot. At an error it is as it was.
 #[tactic(auto, using(space_mem::proofs::Dirty::covers_in_after))]
@@ -41,7 +30,7 @@ fn wait_child(child: &Top, caller: &mut Top) -> Result<(), AllocError>
     ensures err { OnErr result (caller.new ≡ caller.old) }
 {
     take_over(child, caller)?;
-    report(child.status, caller);
+    caller.tell_stop(child.status);
     Ok(())
 }
 
@@ -50,7 +39,7 @@ fn wait_missing(caller: &mut Top)
     ensures { (fuel : ℕ) → caller.new ≡ after_wait (fresh_top fuel) caller.old }
 {
     caller.registers.set_register(13, 0);
-    report(FRESH, caller);
+    caller.tell_stop(FRESH);
 }
 
 // The caller has waited for the child of that number. At an error it is as it was.
@@ -85,15 +74,13 @@ fn take_away(children: &mut BTreeMap<u16, Space>, number: u16)
 /// as one that has never run (21, 0 and 0). The caller pays one unit and goes on with a0 = 0. The one error is want of memory, which reconciling
 /// may come to: nothing is changed then.
 pub fn wait(_alloc: Global, child: u16, depth: u8, space: &mut Space) -> Result<(), AllocError>
-    requires depth { depth ≤ greatest_depth }
-    requires may_meet { MayMeet (levels_below depth) (Wait child) }
-    requires may_pay { MayPay (top_of space.old) }
-    ensures ok { OnOk result (space.new ≡ meet (levels_below depth) (Wait child) (after_payment (top_of space.old) (top_of space.old)) (children_of space.old)) }
+    requires { MayCall depth (Wait child) space.old }
+    ensures ok { OnOk result (space.new ≡ met_by depth (Wait child) space.old) }
     ensures err { OnErr result (space.new ≡ space.old) }
-    ensures sound { (root : Bool) (fuel : ℕ) → IsSoundAt (levels_below depth) root fuel space.old → IsSoundAt (levels_below depth) root fuel space.new }
+    ensures sound { StaysSound depth space.old space.new }
 {
     wait_number(child, &mut space.top, &space.children)?;
     take_away(&mut space.children, child);
-    succeed(&mut space.top);
+    space.top.pay_and_succeed();
     Ok(())
 }

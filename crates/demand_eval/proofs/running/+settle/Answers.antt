@@ -36,13 +36,10 @@ wait_for-returns t c =
     sym (over_awaited-done _ _ _ _ (let end = c.len.ensures in let past = c.loop-index-test.false in omega arith)) ∙ c.loop-index.invariant.same
     ∙ awaited_all _ _ _ _ c.requires.sound c.awaits-all.ensures
 
-pub meet-meet-requires-clause-may_meet : goal.meet-meet-requires-clause-may_meet
-meet-meet-requires-clause-may_meet t c = may_meet _ _ c.args.space.now c.requires.next
-
-pub meet-meet-requires-clause-may_pay : goal.meet-meet-requires-clause-may_pay
-meet-meet-requires-clause-may_pay t c =
+pub meet-meet-requires : goal.meet-meet-requires
+meet-meet-requires t c =
     let waited = c.in_ok-wait_for.ensures ∙ ap (λ k. with_awaited (8 - c.args.depth) k c.args.space.now) c.call.ensures.value in
-    may_pay _ _ c.args.space.now _ c.requires.next waited
+    record { depth = c.requires.depth; may_meet = may_meet _ _ c.args.space.now c.requires.next; may_pay = may_pay _ _ c.args.space.now _ c.requires.next waited }
 
 pub meet-returns : goal.meet-returns
 meet-returns t c =

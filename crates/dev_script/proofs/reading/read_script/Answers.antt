@@ -1,6 +1,6 @@
 use Rattle.std.proofs.Common.{Result, subst}
 use Rattle.script_model.specs.declared.error.ScriptError.{ScriptError}
-use Rattle.script_model.specs.Devices.{Devices}
+use Rattle.device_model.specs.Devices.{Devices}
 use Rattle.script_model.proofs.Scripts.{script_again, refused_again}
 use Rattle.dev_script.specs.Gives.{Gives}
 use Rattle.dev_script.proofs.Found.{is_found, is_named}

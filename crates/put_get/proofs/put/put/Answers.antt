@@ -4,4 +4,4 @@ use Rattle.put_get.proofs.put.put.Goals as goal
 
 pub returns-clause-ok : goal.returns-clause-ok
 returns-clause-ok c =
-    put_met c.args.x.now c.args.space.now c.space.inside.top c.succeed.new.caller _ _ (c.space.view_is ∙ c.in_ok-share.ensures.same) c.requires.pays.fuel c.in_ok-give_child.ensures.ok c.succeed.ensures
+    put_met c.args.x.now c.args.space.now c.space.inside.top c.pay_and_succeed.new.self _ _ (c.space.view_is ∙ c.in_ok-share.ensures.same) c.requires.pays.fuel c.in_ok-give_child.ensures.ok c.pay_and_succeed.ensures

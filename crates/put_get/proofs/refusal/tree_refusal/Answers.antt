@@ -7,7 +7,7 @@ returns-in_err-copied c = c.from_residual.ensures ∙ missing_passes (8 - c.args
 
 pub returns-then-saturating_add-depth : goal.returns-then-saturating_add-depth
 returns-then-saturating_add-depth c =
-    height_stops (8 - c.args.depth) c.args.from c.in_ok-copied.copied.now _ c.args.children.now.entries c.in_ok-copied.ensures.value (omega arith) c.failed_test.ensures
+    height_stops (8 - c.args.depth) c.args.from c.in_ok-copied.copied.now _ c.args.children.now.entries c.in_ok-copied.ensures.value (omega arith) c.too_deep.ensures
 
 pub returns : goal.returns
 returns c = height_passes (8 - c.args.depth) c.args.from c.in_ok-copied.copied.now c.args.children.now.entries c.in_ok-copied.ensures.value (omega arith) (omega arith)

@@ -3,5 +3,5 @@ use Rattle.space_step.proofs.running.trap.Goals as goal
 
 pub returns : goal.returns
 returns c = λ levels.
-    rw (c.stop.ensures, c.pay.ensures, c.cause_of.ensures, c.from.ensures)
+    rw (c.trap.ensures, c.cause_of.ensures, c.from.ensures)
     (trap_happens levels c.args.number c.args.value c.args.top.now c.requires.may_pay c.requires.traps)

@@ -14,5 +14,5 @@ returns-in-Some-clause-ok c =
 pub returns-in-None-clause-ok : goal.returns-in-None-clause-ok
 returns-in-None-clause-ok c =
     let t = c.args.caller.now in
-    join_missing (t.fuel + t.used) c.snapshot_refusal.result t c.trap.new.caller c.snapshot_refusal.ensures c.trap.ensures
+    join_missing (t.fuel + t.used) c.no_snapshot.result t c.trap.new.self c.no_snapshot.ensures c.trap.ensures
     ∙ ap (λ d. with_join d t) (read_missing c.args.number t c.args.children.now.entries c.in-None.ensures.value)

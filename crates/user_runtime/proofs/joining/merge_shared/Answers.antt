@@ -1,4 +1,4 @@
-use Rattle.std.proofs.Common.{subst}
+use Rattle.std.proofs.Common.{Some, subst, ap, ◌∙◌}
 use Rattle.snapshot.specs.Faults.{MayFail}
 use Rattle.user_runtime.proofs.Joins.{no_conflict, one_conflict, shared_merged}
 use Rattle.user_runtime.proofs.joining.merge_shared.Goals as goal
@@ -13,4 +13,4 @@ returns-in-Ok-clause-memory c =
 
 pub returns-in-Err-Conflict-clause-refusal : goal.returns-in-Err-Conflict-clause-refusal
 returns-in-Err-Conflict-clause-refusal c =
-    one_conflict c.args.snapshot.now.memory c.args.child.now.memory c.args.parent.now.memory _ _ c.in-Err-Conflict.addr c.thread_pages.ensures (subst (MayFail _) c.in-Err-Conflict.field-0-is c.in-Err-Conflict.ensures.conflict)
+    ap Some c.conflict.ensures ∙ one_conflict c.args.snapshot.now.memory c.args.child.now.memory c.args.parent.now.memory _ _ c.in-Err-Conflict.addr c.thread_pages.ensures (subst (MayFail _) c.in-Err-Conflict.field-0-is c.in-Err-Conflict.ensures.conflict)

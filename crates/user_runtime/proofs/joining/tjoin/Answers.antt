@@ -10,4 +10,4 @@ returns-clause-ok c = c.join_space.ensures.ok (8 - c.args.depth)
 
 pub returns-clause-sound : goal.returns-clause-sound
 returns-clause-sound c =
-    after_call_sound c.join_space.result (8 - c.args.depth) (Tjoin c.args.child) c.args.space.now c.join_space.new.space c.requires.may_meet c.requires.may_pay (c.join_space.ensures.ok (8 - c.args.depth)) c.join_space.ensures.err
+    after_call_sound c.join_space.result c.args.depth (Tjoin c.args.child) c.args.space.now c.join_space.new.space c.requires (c.join_space.ensures.ok (8 - c.args.depth)) c.join_space.ensures.err

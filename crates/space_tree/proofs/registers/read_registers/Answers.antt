@@ -1,6 +1,6 @@
 use Rattle.std.proofs.Common.{arith}
-use Rattle.put_get.proofs.Words.{registers_read}
-use Rattle.put_get.proofs.registers.read_registers.Goals as goal
+use Rattle.space_tree.proofs.Words.{registers_read}
+use Rattle.space_tree.proofs.registers.read_registers.Goals as goal
 
 pub returns : goal.returns
 returns c =

@@ -1,20 +1,31 @@
 ghost use Rattle.std.specs.Prelude.{◌≡◌, ◌+◌, ◌≤◌, ◌^◌, length, take, drop, Some, OnOk, OnErr, IfOk, IfSome};
 ghost use Rattle.memory_model.specs.Memory.{bytes_from, with_bytes};
-ghost use Rattle.space_model.specs.Change.{stop};
+ghost use Rattle.space_model.specs.Change.{after_payment, stop};
 ghost use Rattle.space_model.specs.Event as event;
-ghost use Rattle.space_step.specs.Steps.{Does, Becomes, after_number};
+ghost use Rattle.space_model.specs.Event.{MayPay, moves, charge, with_devices};
 
-use crate::files::{fail, finish};
-use space_model::Cause;
+use space_model::{Cause, Refusal};
 use space_tree::{Devices, Top};
 use std::alloc::AllocError;
 use std::io::BufRead;
 
-// Stops a space that has no devices, at a call of one.
-fn stop_without(top: &mut Top)
-    ensures { top.new ≡ stop top.old Cause.Badcall 6 }
+// A space that has no devices pays for a call of one, and stops.
+pub(crate) fn stop_without(top: &mut Top)
+    requires { MayPay top.old }
+    ensures { top.new ≡ stop (after_payment top.old top.old) Cause.Badcall 6 }
 {
-    top.stop(Cause::Badcall, 6);
+    top.trap(Refusal {
+        cause: Cause::Badcall,
+        value: 6,
+    });
+}
+
+// A space pays for a call that names bytes which lack a right, and stops.
+fn stop_at(top: &mut Top, cause: Cause, value: u32)
+    requires { MayPay top.old }
+    ensures { top.new ≡ stop (after_payment top.old top.old) cause value }
+{
+    top.trap(Refusal { cause, value });
 }
 
 // Appends a range of memory to the console.
@@ -30,21 +41,24 @@ fn write_console(top: &mut Top, addr: u32, len: u32) -> Result<(), AllocError>
     Ok(())
 }
 
-/// Console out of a range of memory. At an error nothing has changed.
+// Console out of a range of memory, which is paid for. At an error nothing has changed.
+#[tactic(auto, using(crate::proofs::ConsoleEvents::refused, crate::proofs::ConsoleEvents::output_stops, crate::proofs::ConsoleEvents::output_told))]
 pub(crate) fn console_out(top: &mut Top, addr: u32, len: u32) -> Result<(), AllocError>
-    requires { addr + len ≤ 2 ^ 32 }
-    ensures { Does (event.with_devices top.old top.old.devices (event.console_out top.old addr len)) result top.old top.new }
+    requires within { addr + len ≤ 2 ^ 32 }
+    requires may_pay { MayPay top.old }
+    ensures ok { OnOk result (charge top.old (with_devices top.old top.old.devices (event.console_out top.old addr len)) ≡ moves top.new) }
+    ensures err { OnErr result (top.new ≡ top.old) }
 {
     let Some(_) = &top.devices else {
         stop_without(top);
         return Ok(());
     };
     if let Some(at) = top.memory.first_unreadable(addr, len) {
-        top.stop(Cause::LoadFault, at);
+        stop_at(top, Cause::LoadFault, at);
         return Ok(());
     }
     write_console(top, addr, len)?;
-    top.succeed();
+    top.pay_and_succeed();
     Ok(())
 }
 
@@ -81,7 +95,7 @@ fn write_memory(top: &mut Top, addr: u32, bytes: &[u8]) -> Result<(), AllocError
 }
 
 // Moves the first bytes of the input, at most so many, to a buffer, and counts them. At an error nothing has changed.
-#[tactic(auto, using(crate::proofs::Numbers::taken_within))]
+#[tactic(auto, using(crate::proofs::ConsoleEvents::taken_within))]
 fn move_input(top: &mut Top, addr: u32, len: u32) -> Result<u32, AllocError>
     requires { addr + len ≤ 2 ^ 32 }
     ensures count { IfOk result (λ n. IfSome top.old.devices (λ d. n ≡ length (take len d.input))) }
@@ -97,57 +111,24 @@ fn move_input(top: &mut Top, addr: u32, len: u32) -> Result<u32, AllocError>
     Ok(bytes.len() as u32)
 }
 
-/// Console in to a buffer, all of which has to be writable. At an error nothing has changed.
+// Console in to a buffer, all of which has to be writable, which is paid for. At an error nothing has changed.
+#[tactic(auto, using(crate::proofs::ConsoleEvents::refused, crate::proofs::ConsoleEvents::input_stops, crate::proofs::ConsoleEvents::input_told))]
 pub(crate) fn console_in(top: &mut Top, addr: u32, len: u32) -> Result<(), AllocError>
-    requires { addr + len ≤ 2 ^ 32 }
-    ensures { Does (event.with_devices top.old top.old.devices (event.console_in top.old addr len)) result top.old top.new }
+    requires within { addr + len ≤ 2 ^ 32 }
+    requires may_pay { MayPay top.old }
+    ensures ok { OnOk result (charge top.old (with_devices top.old top.old.devices (event.console_in top.old addr len)) ≡ moves top.new) }
+    ensures err { OnErr result (top.new ≡ top.old) }
 {
     let Some(_) = &top.devices else {
         stop_without(top);
         return Ok(());
     };
     if let Some(at) = top.memory.first_unwritable(addr, len) {
-        top.stop(Cause::StoreFault, at);
+        stop_at(top, Cause::StoreFault, at);
         return Ok(());
     }
     let count = move_input(top, addr, len)?;
-    finish(top, Some(count));
+    top.pay(1);
+    top.finish(Some(count));
     Ok(())
-}
-
-// The number that a device gave goes into a1; where it had none left, a0 is 1 and a1 is 0.
-fn tell_number(top: &mut Top, number: Option<u32>)
-    ensures { top.new ≡ after_number number top.old }
-{
-    match number {
-        Some(n) => finish(top, Some(n)),
-        None => {
-            top.registers.set_register(11, 0);
-            fail(top, 1);
-        }
-    }
-}
-
-/// The next reading of the clock.
-#[tactic(auto, using(crate::proofs::Numbers::clock_told))]
-pub(crate) fn read_clock(top: &mut Top)
-    ensures { Becomes (event.with_devices top.old top.old.devices (event.clock top.old)) top.old top.new }
-{
-    let Some(devices) = &mut top.devices else {
-        return stop_without(top);
-    };
-    let number = devices.clocks.pop_front();
-    tell_number(top, number);
-}
-
-/// The next random number.
-#[tactic(auto, using(crate::proofs::Numbers::random_told))]
-pub(crate) fn draw_number(top: &mut Top)
-    ensures { Becomes (event.with_devices top.old top.old.devices (event.random top.old)) top.old top.new }
-{
-    let Some(devices) = &mut top.devices else {
-        return stop_without(top);
-    };
-    let number = devices.numbers.pop_front();
-    tell_number(top, number);
 }

@@ -1,6 +1,6 @@
 use Rattle.std.proofs.Common.{◌≡◌, ◌+◌, ◌*◌, ◌<◌, ◌≤◌, ℕ, length, get_or}
 use Rattle.space_model.specs.Block.{word}
-use Rattle.put_get.proofs.registers.read_registers.Given as goal
+use Rattle.space_tree.proofs.registers.read_registers.Given as goal
 
 -- pc and the registers below this one are read
 abbrev pub invariant-loop-number : goal.invariant-loop-number

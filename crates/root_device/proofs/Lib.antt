@@ -1,0 +1,2 @@
+pub mod ConsoleEvents
+pub mod NumberEvents
