@@ -8,7 +8,7 @@ use std::env;
 use std::io::ErrorKind;
 use std::process::ExitCode;
 
-// The words of the command line. Where they cannot be had for another cause than memory they are none, which is no command.
+// The words of the command line. If they cannot be read, there are none: a usage error. (Want of memory is an error of its own.)
 fn words(rt: &HostRuntime) -> Result<Vec<String>, AllocError> {
     let alloc = rt.alloc();
     match env::args(rt) {

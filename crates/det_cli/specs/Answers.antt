@@ -31,7 +31,7 @@ pub record Course (l : Line) (i : Input) (out err : Output) (end : End) : Type 0
   pub files : ReadFiles (steps_of l) (whole_of l) contents i
   pub ends : Ends (expectation_of_files l contents) i out err end
 
--- the loader was not called
+-- no file was asked for, and the loader's count of faults is as before
 abbrev pub IsUnasked : Input → Type 0
 IsUnasked i = (i.asked_after ≡ i.asked_before) × (i.faults_after ≡ i.faults_before)
 

@@ -117,6 +117,6 @@ whole_of (bench engine seed) files = Some (expectation_of_bench seed)
 abbrev pub expectation_of_files : Line → List (List ℕ) → Option Expectation
 expectation_of_files l files = judge (steps_of l) (whole_of l) files
 
--- what is expected of a command and of the files that are told; nothing where a file that counts is not told
+-- what is expected of a command and of the files that are told: None if a needed file is not told
 abbrev pub expectation_of_told : Line → (List ℕ → Option (List ℕ)) → Option Expectation
 expectation_of_told l told = expectation_of_files l (told_files (steps_of l) told)

@@ -20,7 +20,7 @@ pub(crate) enum Item {
     Random(u32),
 }
 
-/// A text and a line feed come to the input.
+// A text and a line feed come to the input.
 fn text_of(alloc: Global, text: &[u8]) -> Result<Item, AllocError>
     ensures { IfOk result (λ item. item_view item ≡ grammar.Input (text.now ++ 10 ∷ [])) }
 {
@@ -29,7 +29,7 @@ fn text_of(alloc: Global, text: &[u8]) -> Result<Item, AllocError>
     Ok(Item::Input(bytes))
 }
 
-/// One pair of hexadecimal digits or more.
+// One pair of hexadecimal digits or more.
 fn raw_of(alloc: Global, digits: &[u8]) -> Result<Option<Item>, AllocError>
     ensures { IfOk result (λ o. option_map item_view o ≡ reading.raw_of digits.now) }
 {
@@ -60,7 +60,7 @@ fn random_of(digits: &[u8]) -> Option<Item>
     }
 }
 
-/// What a line says that has no word with a space behind it.
+// What a line says that has no word with a space behind it.
 fn short_of(alloc: Global, line: &[u8]) -> Result<Option<Item>, AllocError>
     ensures { IfOk result (λ o. option_map item_view o ≡ reading.short_of line.now) }
 {

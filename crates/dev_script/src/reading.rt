@@ -20,7 +20,7 @@ struct Script {
     numbers: Vec<u32>,
 }
 
-/// A script of no line.
+// A script of no line.
 fn blank(alloc: Global) -> Script
     ensures { script_view result ≡ no_devices }
 {
@@ -31,7 +31,7 @@ fn blank(alloc: Global) -> Script
     }
 }
 
-/// Adds what a line says behind what was said before.
+// Adds what a line says behind what was said before.
 fn add(script: &mut Script, item: Item) -> Result<(), AllocError>
     ensures { OnOk result (script_view script.new ≡ with_item (script_view script.old) (item_view item)) }
 {
@@ -43,7 +43,7 @@ fn add(script: &mut Script, item: Item) -> Result<(), AllocError>
     }
 }
 
-/// What all lines say, or the first line that is refused.
+// What all lines say, or the first line that is refused.
 fn lines_of(alloc: Global, bytes: &[u8]) -> Result<Script, ScriptFault>
     ensures { Gives script_view result (script_of bytes.now) }
 {
@@ -62,7 +62,7 @@ fn lines_of(alloc: Global, bytes: &[u8]) -> Result<Script, ScriptFault>
     Ok(script)
 }
 
-/// The devices of these lines, with nothing on the console.
+// The devices of these lines, with nothing on the console.
 fn devices_of(alloc: Global, script: Script) -> Devices
     ensures { result ≡ script_view script }
 {

@@ -22,7 +22,7 @@ pub(crate) fn number_of(digits: &[u8]) -> Option<u32>
     text_lines::number_of(digits, MOST_DIGITS, u32::MAX)
 }
 
-/// The byte that two hexadecimal digits of either case write, the high one first.
+// The byte that two hexadecimal digits of either case write, the high one first.
 fn byte_of(high: u8, low: u8) -> Option<u8>
     ensures { result ≡ (if reading.is_hex_digit high && reading.is_hex_digit low
         then Some (grammar.byte_of high low) else None) }
@@ -32,7 +32,7 @@ fn byte_of(high: u8, low: u8) -> Option<u8>
     Some((16 * high + low) as u8)
 }
 
-/// The byte that a text of digits begins with, and the digits behind it.
+// The byte that a text of digits begins with, and the digits behind it.
 #[tactic(auto, unfolding(script_model::specs::Reading::bytes_of))]
 fn first_byte(digits: &[u8]) -> Option<(u8, &[u8])>
     requires { 0 < length digits.now }

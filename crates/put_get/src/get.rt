@@ -110,7 +110,7 @@ fn take_top(x: &Transfer, child: &Top, caller: &mut Top) -> Result<(), MergeErro
     Ok(())
 }
 
-// The same of a child that has never run.
+// As `take_top`, of a child that has never run.
 fn take_fresh(alloc: Global, x: &Transfer, caller: &mut Top) -> Result<(), MergeError>
     requires { IsTransfer x.now }
     ensures ok { OnOk result (caller.new ≡ caller_after x.now (fresh_top (caller.old.fuel + caller.old.used)) caller.old) }
@@ -153,7 +153,7 @@ fn share_in(x: &Transfer, children: &mut BTreeMap<u16, Space>) -> Result<(), All
     }
 }
 
-// The same of a space.
+// As `share_in`, of a space's children.
 fn share_child(x: &Transfer, space: &mut Space) -> Result<(), AllocError>
     requires { IsTransfer x.now }
     ensures same { space.new ≡ space.old }

@@ -30,7 +30,7 @@ fn act(alloc: Global, call: AcceptedCall, space: &mut Space) -> Result<(), Merge
     Ok(())
 }
 
-// The same, where a conflict stops the caller.
+// As `act`, but that a conflict stops the caller.
 fn act_or_stop(alloc: Global, call: AcceptedCall, space: &mut Space) -> Result<(), AllocError>
     requires is_call { IsPutOrGet call }
     requires may_pay { MayPay (top_of space.old) }

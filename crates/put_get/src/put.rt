@@ -82,7 +82,7 @@ fn change_memory(x: &Transfer, caller: &Top, child: &mut Top) -> Result<(), Allo
     snap(x, child)
 }
 
-// The same. At an error the child is as it was.
+// As `change_memory`, all or nothing: at an error the child is as it was.
 #[tactic(auto, using(space_mem::proofs::Dirty::covers_in_same))]
 fn give_memory(x: &Transfer, caller: &Top, child: &mut Top) -> Result<(), AllocError>
     requires { IsTransfer x.now }

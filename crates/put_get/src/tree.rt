@@ -45,7 +45,7 @@ fn place_copy(
     Ok(())
 }
 
-// The same of a child's children.
+// As `place_copy`, of a child's children.
 fn place_below(child: &mut Space, number: u16, copy: Option<Space>) -> Result<(), AllocError>
     ensures ok { OnOk result (child.new ≡ with_copy number copy child.old) }
     ensures err { OnErr result (child.new ≡ child.old) }

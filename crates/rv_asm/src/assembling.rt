@@ -23,7 +23,7 @@ use std::alloc::Global;
 /// The most bytes that an image's file has.
 const LIMIT: u64 = 16_777_216;
 
-/// The value of a statement that can stand behind the draft, or the first kind of fault.
+// The value of a statement that can stand behind the draft, or the first kind of fault.
 #[tactic(auto, unfolding(source_model::specs::Reading::check_line))]
 fn check_line(
     labels: &Labels<'_>,
@@ -57,7 +57,7 @@ fn check_line(
     value.ok_or(AsmErrorKind::Label)
 }
 
-/// The draft with a line.
+// The draft with a line.
 #[tactic(auto, unfolding(source_model::specs::Reading::with_line))]
 fn with_line(
     alloc: Global,
@@ -83,7 +83,7 @@ fn with_line(
     }
 }
 
-/// The draft with every line.
+// The draft with every line.
 fn with_lines(alloc: Global, labels: &Labels<'_>, source: &[u8]) -> Result<Draft, AsmFault>
     ensures { Assembles draft_view result (sources.with_lines (labels_in labels.now) 1 sources.blank (lines_of source.now)) }
 {

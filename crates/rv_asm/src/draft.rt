@@ -48,7 +48,7 @@ pub(crate) fn operand_of(statement: Statement) -> Value
     }
 }
 
-/// From an address to a target, modulo 2^32.
+// From an address to a target, modulo 2^32.
 fn distance(here: u32, target: u32) -> u32
     ensures { result ≡ sources.distance here target }
 {
@@ -87,7 +87,7 @@ pub(crate) fn put_instruction(
     content.extend_from_slice(&word.to_le_bytes())
 }
 
-/// The nearest multiple of 4,096 that is at most 2,048 above, modulo 2^32.
+// The nearest multiple of 4,096 that is at most 2,048 above, modulo 2^32.
 fn upper_part(value: u32) -> u32
     ensures value { result ≡ sources.upper_part value }
     ensures low { result % 2 ^ 12 ≡ 0 }
@@ -95,7 +95,7 @@ fn upper_part(value: u32) -> u32
     ((u64::from(value) + 0x800) / 0x1000 % 0x10_0000 * 0x1000) as u32
 }
 
-/// What is left of it, from -2,048 to 2,047.
+// What is left of it, from -2,048 to 2,047.
 fn lower_part(value: u32) -> u32
     ensures value { result ≡ sources.lower_part value }
     ensures signed { IsSigned 12 result }
@@ -129,7 +129,7 @@ fn put_zeros(content: &mut Vec<u8>, count: u64) -> Result<(), AllocError>
     content.resize(content.len() + count as usize, 0)
 }
 
-/// Puts the bytes of a statement with this value at this address behind the others.
+// Puts the bytes of a statement with this value at this address behind the others.
 fn put(content: &mut Vec<u8>, here: u32, statement: Statement, value: u32) -> Result<(), AllocError>
     requires sound { IsStatement statement }
     requires reach { sources.is_too_far here statement (Some value) ≡ false }
@@ -166,7 +166,7 @@ fn put(content: &mut Vec<u8>, here: u32, statement: Statement, value: u32) -> Re
     }
 }
 
-/// The segments and, where it has bytes, the one that began last.
+// The segments and, where it has bytes, the one that began last.
 fn all_segments(
     base: u32,
     permission: u8,
@@ -201,7 +201,7 @@ pub(crate) fn size_with(draft: &Draft, count: u64) -> u64
     }
 }
 
-/// The draft with a statement that has bytes, or neither bytes nor another effect.
+// The draft with a statement that has bytes, or neither bytes nor another effect.
 fn with_bytes(draft: Draft, statement: Statement, value: u32) -> Result<Draft, AllocError>
     requires near { IsNear draft.layout }
     requires room { draft.size ≤ 16777216 }
@@ -220,7 +220,7 @@ fn with_bytes(draft: Draft, statement: Statement, value: u32) -> Result<Draft, A
     Ok(draft)
 }
 
-/// The draft with a segment that begins.
+// The draft with a segment that begins.
 fn begin(alloc: Global, draft: Draft, address: u32, permission: u8) -> Result<Draft, AllocError>
     requires near { IsNear draft.layout }
     requires place { cannot_stand draft.layout (Statement.Segment address permission) ≡ false }

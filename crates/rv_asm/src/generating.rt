@@ -39,28 +39,28 @@ const STARTS: usize = 2 * TURNS;
 /// How many words the data have.
 const WORDS: usize = 4 * TURNS;
 
-/// The number after a number.
+// The number after a number.
 fn next(number: u32) -> u32
     ensures { result ≡ model.next number }
 {
     MULTIPLIER.wrapping_mul(number).wrapping_add(INCREMENT)
 }
 
-/// Turns that come from the upper half of a number, from 1 to 4,096.
+// Turns that come from the upper half of a number, from 1 to 4,096.
 fn turns_from(number: u32) -> u32
     ensures { result ≡ model.turns_from number }
 {
     1 + number / 65_536 % MOST_TURNS
 }
 
-/// A start that comes from a number: it is not 0, which the step of a thread would keep.
+// A start that comes from a number: it is not 0, which the step of a thread would keep.
 fn start_from(number: u32) -> u32
     ensures { result ≡ model.start_from number }
 {
     number | 1
 }
 
-/// How many threads there are; behind them the turns of each, the start of each, and room for what each stores.
+// How many threads there are; behind them the turns of each, the start of each, and room for what each stores.
 fn data_words(seed: u32) -> [u32; WORDS]
     ensures { result ≡ model.data_words seed }
 {

@@ -23,7 +23,7 @@ pub(crate) const START: Layout = Layout {
     begun: 0,
 };
 
-/// Defines a name unless it is defined already.
+// Defines a name unless it is defined already.
 fn define<'a>(
     labels: &mut Labels<'a>,
     name: &'a [u8],
@@ -38,7 +38,7 @@ fn define<'a>(
 }
 
 #[tactic(auto, unfolding(source_model::specs::Line::defines))]
-/// Defines the label of a line, where it has one that is not defined.
+// Defines the label of a line, where it has one that is not defined.
 fn define_label<'a>(
     labels: &mut Labels<'a>,
     line: &'a [u8],

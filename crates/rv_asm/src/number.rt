@@ -33,7 +33,7 @@ fn times(base: Base, number: u64) -> u64
     }
 }
 
-/// The value of digits, no more than `CAP`.
+// The value of digits, no more than `CAP`.
 fn value_of_digits(base: Base, text: &[u8]) -> Option<u64>
     ensures value { result ≡ option_map clamp (numbers.value_from base 0 text.now) }
     ensures small { IfSome result (λ n. n ≤ CAP) }

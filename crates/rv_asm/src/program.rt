@@ -128,7 +128,7 @@ fn branch(comparison: Comparison, rs1: u8, rs2: u8, distance: u32) -> Instructio
     }
 }
 
-/// The distance to so many instructions further on, in bytes.
+// The distance to so many instructions further on, in bytes.
 fn ahead(count: u32) -> u32
     requires { count ≤ 1023 }
     ensures { result ≡ model.ahead count }
@@ -136,7 +136,7 @@ fn ahead(count: u32) -> u32
     4 * count
 }
 
-/// The distance to so many instructions back, in bytes.
+// The distance to so many instructions back, in bytes.
 fn back(count: u32) -> u32
     requires some { 0 < count }
     requires near { count ≤ 1024 }

@@ -76,7 +76,7 @@ fn shift_immediate<'a>(operation: Operation, text: &'a [u8]) -> Read<'a>
     })
 }
 
-/// A register, and a register in parentheses with a number before it.
+// A register, and a register in parentheses with a number before it.
 #[tactic(auto, unfolding(source_model::specs::Statement::address_of))]
 fn address_of(text: &[u8]) -> Result<(u8, u8, u32), AsmErrorKind>
     ensures value { Gives (λ x. x) result (statements.address_of text.now) }
@@ -159,7 +159,7 @@ fn jump(text: &[u8]) -> Read<'_>
     Ok((Statement::Jump { rd, target }, name))
 }
 
-/// A register, and a number for bits 31 to 12.
+// A register, and a number for bits 31 to 12.
 #[tactic(auto, unfolding(source_model::specs::Statement::upper))]
 fn upper(text: &[u8]) -> Result<(u8, u32), AsmErrorKind>
     ensures value { Gives (λ x. x) result (statements.upper text.now) }

@@ -21,10 +21,10 @@ after_error number t = record t { registers = with_register (onward t.registers)
 abbrev pub with_count : ℕ → Top → Top
 with_count n t = record t { registers = with_register t.registers 11 n }
 
--- with the fuel, the use and the limit of t, less or more the units that so many events take
+-- u with t's fuel and limit lowered by n, and t's used raised by n
 abbrev pub after_spending : ℕ → Top → Top → Top
 after_spending n t u = record u { fuel = t.fuel - n; used = t.used + n; limit = option_map (λ k. k - n) t.limit }
 
--- less or more the one unit that an event takes
+-- the same of one event
 abbrev pub after_payment : Top → Top → Top
 after_payment t u = after_spending 1 t u

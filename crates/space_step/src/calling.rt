@@ -41,7 +41,7 @@ fn act(top: &mut Top, accepted: AcceptedCall) -> Result<Next, AllocError>
     Ok(Next::Local)
 }
 
-// The same of what registers say, which may fail a test.
+// As `act`, of what registers say, which may fail a test.
 fn act_as_read(top: &mut Top, reading: Result<AcceptedCall, Badcall>) -> Result<Next, AllocError>
     requires { MayPay top.old }
     ensures { Acts (event.by_reading top.old reading) result top.old top.new }

@@ -5,7 +5,7 @@ ghost use Rattle.space_step.specs.Stretch.{budget, shortage};
 use space_model::Cause;
 use space_tree::Top;
 
-/// For how many events a space may pay, of so many: as many as its fuel and its limit allow.
+/// How many of `quantum` events fuel and limit cover.
 pub(crate) fn budget(top: &Top, quantum: u32) -> u32
     ensures { result ≡ budget top.now quantum }
 {

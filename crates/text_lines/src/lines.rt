@@ -2,7 +2,7 @@ ghost use Rattle.std.specs.Prelude.{◌≡◌, ◌<◌, ◌∷◌, [], length};
 ghost use Rattle.std.specs.Str.Lines.{strip_carriage_return};
 ghost use Rattle.text_lines.specs.Lines.{lines_with_returns, lines_of};
 
-/// The line at the front of a text that is not empty, with what stands at its end before the line feed, and what follows it.
+// The line at the front of a text that is not empty, with what stands at its end before the line feed, and what follows it.
 fn first_line_with_return(text: &[u8]) -> (&[u8], &[u8])
     requires { 0 < length text.now }
     ensures lines { lines_with_returns text.now ≡ result.0.now ∷ lines_with_returns result.1.now }
@@ -16,7 +16,7 @@ fn first_line_with_return(text: &[u8]) -> (&[u8], &[u8])
     (text, &[])
 }
 
-/// A line without the one carriage return at its end.
+// A line without the one carriage return at its end.
 fn without_return(line: &[u8]) -> &[u8]
     ensures { result.now ≡ strip_carriage_return line.now }
 {

@@ -5,14 +5,14 @@ ghost use Rattle.std.specs.Str.Parse.{digits_value};
 ghost use Rattle.text_lines.specs.Numbers.{IsNumber};
 ghost use Rattle.text_lines.specs.Reading as reading;
 
-/// Whether each byte is a decimal digit.
+// Whether each byte is a decimal digit.
 fn are_digits(text: &[u8]) -> bool
     ensures { result ≡ all_ascii_digits text.now }
 {
     text.iter().all(|byte| byte.is_ascii_digit())
 }
 
-/// The number that decimal digits write, where there is one digit or more and the number has no more than 32 bits.
+// The number that decimal digits write, where there is one digit or more and the number has no more than 32 bits.
 fn value_of(digits: &[u8]) -> Option<u32>
     requires { all_ascii_digits digits.now ≡ true }
     ensures { SomeIff result ((0 < length digits.now) × (digits_value 10 digits.now < 2 ^ 32)) (digits_value 10 digits.now) }

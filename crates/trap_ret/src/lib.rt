@@ -1,4 +1,4 @@
-//! How a call is read from registers, the register block, and causes as numbers.
+//! Reads calls: from registers to the call that they name, and whom it waits for. The register block, and causes as numbers.
 #![tactic(auto)]
 
 mod block;

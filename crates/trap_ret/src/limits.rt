@@ -12,5 +12,5 @@ pub const GREATEST_LENGTH: u32 = 65_536;
 /// The bytes of a register block.
 pub const BLOCK_SIZE: u32 = 136;
 
-/// The last address from which on there are the bytes of a register block.
+/// The highest address at which a register block fits.
 pub const LAST_BLOCK: u32 = 0xFFFF_FF78;

@@ -54,7 +54,7 @@ fn give(caller: &Top, memory: Mem, snapshot: Option<Mem>, child: &mut Top)
     child.limit = None;
 }
 
-// The same, and not those below it.
+// As `give`; the child's own children stay.
 fn give_top(caller: &Top, memory: Mem, snapshot: Option<Mem>, child: &mut Space)
     requires copy { memory.memory ≡ forked_memory (is_some snapshot) caller.now.memory }
     requires kept { IfSome snapshot (λ s. s.memory ≡ caller.now.memory) }

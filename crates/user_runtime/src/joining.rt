@@ -77,7 +77,7 @@ fn join_child(child: &Top, caller: &mut Top) -> Result<(), AllocError>
     Ok(())
 }
 
-// The same of the child of that number; one that is missing has no snapshot.
+// As `join_child`, by the child's number; one that is missing has no snapshot.
 fn join(number: u16, caller: &mut Top, children: &BTreeMap<u16, Space>) -> Result<(), AllocError>
     requires { MayPay caller.old }
     ensures ok { OnOk result (caller.new ≡ with_join (or_fresh caller.old (option_map top_of (find number (children_from children.now.entries)))) caller.old) }
@@ -92,7 +92,7 @@ fn join(number: u16, caller: &mut Top, children: &BTreeMap<u16, Space>) -> Resul
     }
 }
 
-// The same of a space.
+// As `join`, of a space.
 fn join_space(child: u16, space: &mut Space) -> Result<(), AllocError>
     requires { MayPay (top_of space.old) }
     ensures ok { (levels : ℕ) → OnOk result (space.new ≡ after_call levels (Tjoin child) space.old) }

@@ -1,4 +1,4 @@
-//! Processes and threads: fork and wait, and fork and join of threads that share memory; and what any call that meets children does.
+//! The kernel's part of processes and threads, from fork to join, and what any call that meets children does.
 #![tactic(auto)]
 
 mod forking;
