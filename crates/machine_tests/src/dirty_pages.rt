@@ -26,12 +26,12 @@ enum Change {
 }
 
 // No page.
-const NONE: u32 = 1048576;
+pub(crate) const NONE: u32 = 1048576;
 
-const NO_PAGES: [u32; 6] = [NONE; 6];
+pub(crate) const NO_PAGES: [u32; 6] = [NONE; 6];
 
 // The first six dirty pages.
-fn dirty_pages(mem: &Mem) -> [u32; 6] {
+pub(crate) fn dirty_pages(mem: &Mem) -> [u32; 6] {
     let mut pages = NO_PAGES;
     let mut from = 0;
     for place in 0..6 {
@@ -159,11 +159,11 @@ fn leaves_dirty<R: AllocGlobal + Abort>(rt: &R, what: &str, changes: &[Change], 
     }
 }
 
-const fn one(page: u32) -> [u32; 6] {
+pub(crate) const fn one(page: u32) -> [u32; 6] {
     [page, NONE, NONE, NONE, NONE, NONE]
 }
 
-const fn two(first: u32, second: u32) -> [u32; 6] {
+pub(crate) const fn two(first: u32, second: u32) -> [u32; 6] {
     [first, second, NONE, NONE, NONE, NONE]
 }
 

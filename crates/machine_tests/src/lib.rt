@@ -13,6 +13,8 @@ mod files;
 #[cfg(test)]
 mod instructions;
 #[cfg(test)]
+mod kept_pages;
+#[cfg(test)]
 mod memories;
 #[cfg(test)]
 mod merges;

@@ -88,7 +88,7 @@ struct Row {
     bytes: [u8; 4],
 }
 
-fn write_each(mem: &mut Mem, writes: &[(u32, u8)]) -> Result<(), AllocError> {
+pub(crate) fn write_each(mem: &mut Mem, writes: &[(u32, u8)]) -> Result<(), AllocError> {
     for (at, byte) in writes {
         mem.write(*at, *byte)?;
     }
@@ -107,14 +107,14 @@ pub(crate) fn range(pages: [u32; 2]) -> Option<Pages> {
 
 // A child and its snapshot. Outside of its dirty pages the child has the snapshot's bytes.
 #[derive(Drop)]
-struct Forked {
+pub(crate) struct Forked {
     child: Mem,
     snapshot: Mem,
     ghost covers: { Covers child snapshot.memory },
 }
 
 // A child of a memory, which is equal to it.
-fn fork(parent: &mut Mem) -> Result<Forked, AllocError> {
+pub(crate) fn fork(parent: &mut Mem) -> Result<Forked, AllocError> {
     let mut child = parent.frozen()?;
     let snapshot = take(&mut child)?;
     Ok(Forked { child, snapshot })
@@ -125,7 +125,10 @@ fn write_in_child(forked: &mut Forked, at: u32, byte: u8) -> Result<(), AllocErr
     forked.child.write(at, byte)
 }
 
-fn write_each_in_child(forked: &mut Forked, writes: &[(u32, u8)]) -> Result<(), AllocError> {
+pub(crate) fn write_each_in_child(
+    forked: &mut Forked,
+    writes: &[(u32, u8)],
+) -> Result<(), AllocError> {
     for (at, byte) in writes {
         write_in_child(forked, *at, *byte)?;
     }
@@ -133,7 +136,11 @@ fn write_each_in_child(forked: &mut Forked, writes: &[(u32, u8)]) -> Result<(), 
 }
 
 // The address in conflict.
-fn conflict(parent: &mut Mem, forked: &Forked, pages: [u32; 2]) -> Result<Option<u32>, MergeError> {
+pub(crate) fn conflict(
+    parent: &mut Mem,
+    forked: &Forked,
+    pages: [u32; 2],
+) -> Result<Option<u32>, MergeError> {
     let Some(range) = range(pages) else {
         return Ok(None);
     };
