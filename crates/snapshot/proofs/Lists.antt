@@ -69,12 +69,5 @@ pub changed_below : (m n : Memory) (low end : ℕ) (ps : List ℕ) → AreChange
 changed_below m n low end [] all le = All-nil (λ p. p < 1048576)
 changed_below m n low end (p ∷ ps) all le = All-cons (λ q. q < 1048576) p ps (omega (arith, all.1.0)) (changed_below m n (p + 1) end ps all.1.1.1 le)
 
--- a page that a merge passes over is none of those that it merges
-pub passed_over : (h : Held) (s : Memory) (first end page merged : ℕ) → IsPassedOver h s first end page → IsMerged h s first end merged → page ≡ merged → ⊥
-passed_over h s first end page merged (inl (inl before)) is here = omega (arith, is.above)
-passed_over h s first end page merged (inl (inr after)) is here = omega (arith, is.below)
-passed_over h s first end page merged (inr (inl clean)) is here = is.dirty (subst (IsClean h) here clean)
-passed_over h s first end page merged (inr (inr same)) is here = is.differs (subst (SamePage h.memory s) here same)
-
 pub none_merged : (h : Held) (s : Memory) (first end : ℕ) (ps : List ℕ) → ps ≡ [] → All (IsMerged h s first end) ps
 none_merged h s first end ps none = All-same (IsMerged h s first end) ps [] none (All-nil (IsMerged h s first end))
