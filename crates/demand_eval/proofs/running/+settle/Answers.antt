@@ -27,14 +27,17 @@ wait_for_child-returns t c = elim c.match-get_mut.branch [
 
 pub wait_for-loop-index-preserved : goal.wait_for-loop-index-preserved
 wait_for-loop-index-preserved t c = record {
-  same = over_awaited-more _ _ _ _ _ _ c.get-awaited.ensures c.in_ok-wait_for_child.ensures ∙ c.loop-index.invariant.same;
+  same = over_awaited-more (end_of (pred (8 - c.args.depth))) c.awaits-all.result c.loop-index.index c.get-awaited.result c.loop-index.space c.wait_for_child.new.space c.get-awaited.ensures c.in_ok-wait_for_child.ensures
+      ∙ c.loop-index.invariant.same;
   sound = one_awaited _ _ _ _ _ c.loop-index.invariant.sound c.in_ok-wait_for_child.ensures;
 }
 
 pub wait_for-returns : goal.wait_for-returns
 wait_for-returns t c =
-    sym (over_awaited-done _ _ _ _ (let end = c.len.ensures in let past = c.loop-index-test.false in omega arith)) ∙ c.loop-index.invariant.same
-    ∙ awaited_all _ _ _ _ c.requires.sound c.awaits-all.ensures
+    let end = c.len-index-end.ensures in
+    let past = c.loop-index-test.false in
+    sym (over_awaited-done (end_of (pred (8 - c.args.depth))) c.awaits-all.result c.loop-index.index c.loop-index.space (omega (arith, end, past))) ∙ c.loop-index.invariant.same
+    ∙ awaited_all (8 - c.args.depth) c.args.call c.awaits-all.result c.args.space.now c.requires.sound c.awaits-all.ensures
 
 pub meet-meet-requires : goal.meet-meet-requires
 meet-meet-requires t c =

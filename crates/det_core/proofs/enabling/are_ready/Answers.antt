@@ -7,16 +7,18 @@ use Rattle.det_core.proofs.enabling.are_ready.Goals as goal
 
 pub loop-index-preserved : goal.loop-index-preserved
 loop-index-preserved c =
-    one_ready _ _ _ (children_from c.args.children.now.entries) c.get-awaited.ensures (sym c.is_ready.ensures ∙ c.if-not-is_ready.false) ∙ c.loop-index.invariant
+    one_ready c.awaits-all.result c.loop-index.index c.get-awaited.result (children_from c.args.children.now.entries) c.get-awaited.ensures (sym c.is_ready.ensures ∙ c.if-not-is_ready.false) ∙ c.loop-index.invariant
 
 pub returns-then-not-is_ready : goal.returns-then-not-is_ready
 returns-then-not-is_ready c =
     let cs = children_from c.args.children.now.entries in
-    sym (one_waits _ _ _ cs c.get-awaited.ensures (sym c.is_ready.ensures ∙ c.if-not-is_ready.true)) ∙ c.loop-index.invariant
+    sym (one_waits c.awaits-all.result c.loop-index.index c.get-awaited.result cs c.get-awaited.ensures (sym c.is_ready.ensures ∙ c.if-not-is_ready.true)) ∙ c.loop-index.invariant
     ∙ ap (λ as'. are_ready as' cs) c.awaits-all.ensures ∙ ap (λ k. are_ready (awaits k) cs) c.call.ensures.value
 
 pub returns : goal.returns
 returns c =
     let cs = children_from c.args.children.now.entries in
-    sym (all_ready _ _ cs (let end = c.len.ensures in let past = c.loop-index-test.false in omega arith)) ∙ c.loop-index.invariant
+    let end = c.len-index-end.ensures in
+    let past = c.loop-index-test.false in
+    sym (all_ready c.awaits-all.result c.loop-index.index cs (omega (arith, end, past))) ∙ c.loop-index.invariant
     ∙ ap (λ as'. are_ready as' cs) c.awaits-all.ensures ∙ ap (λ k. are_ready (awaits k) cs) c.call.ensures.value
