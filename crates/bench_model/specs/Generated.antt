@@ -165,10 +165,10 @@ abbrev pub words_bytes : List ℕ → List ℕ
 words_bytes words = flat_map (to_le_bytes w32) words
 
 abbrev pub code_segment : Segment
-code_segment = record { address = 0x1000; permission = 1; content = words_bytes (map word_of code) }
+code_segment = record { address = 0x1000; permission = 5; content = words_bytes (map word_of code) }
 
 abbrev pub data_segment : ℕ → Segment
-data_segment seed = record { address = 0x10000; permission = 3; content = words_bytes (data_words seed) }
+data_segment seed = record { address = 0x10000; permission = 7; content = words_bytes (data_words seed) }
 
 unfoldable pub generated : ℕ → Image
 generated seed = record { entry = 0x1000; stack = 0; segments = code_segment ∷ data_segment seed ∷ [] }

@@ -33,21 +33,24 @@ limit_option = 128
 abbrev pub tree : ℕ
 tree = 256
 
+abbrev pub agreeing : ℕ
+agreeing = 512
+
 -- the bits of the permission
 abbrev pub permission_bits : ℕ
-permission_bits = 0x3000
+permission_bits = 0x7000
 
 -- all bits that may be set
 abbrev pub known_bits : ℕ
-known_bits = 0x31FF
+known_bits = 0x73FF
 
 -- one of these bits is among the options
 abbrev pub has : ℕ → ℕ → Bool
 has bits options = not (bit_and options bits == 0)
 
--- bits 12 and 13, as a number from 0 to 3
+-- bits 12 to 14, as a number from 0 to 7
 abbrev pub permission : ℕ → ℕ
-permission options = options / 4096 % 4
+permission options = options / 4096 % 8
 
 -- a bit that is no option and not of the permission
 abbrev pub has_unknown : ℕ → Bool
@@ -57,9 +60,11 @@ has_unknown options = not (bit_and options known_bits == options)
 abbrev pub has_two_changes : ℕ → Bool
 has_two_changes options = (has copy options && has zeroing options) || ((has copy options || has zeroing options) && has merging options)
 
--- permission bits without Perm; two of Copy, Zero and Merge; Tree with any other bit
+-- permission bits without Perm; two of Copy, Zero and Merge; Agree without Merge; Tree with any other bit
 abbrev pub has_clash : ℕ → Bool
-has_clash options = (has permission_bits options && not (has perm options)) || (has_two_changes options || (has tree options && not (options == tree)))
+has_clash options =
+    (has permission_bits options && not (has perm options))
+    || (has_two_changes options || ((has agreeing options && not (has merging options)) || (has tree options && not (options == tree))))
 
 -- Limit without Start, or Merge
 unfoldable pub wrong_put_options : ℕ → Bool

@@ -1,9 +1,12 @@
--- An image of a root's memory, and the one spelling of it in the format DTI1.
--- Our choice: the format DTI1.
-use Rattle.std.specs.Prelude.{◌≡◌, ℕ, ◌+◌, ◌-◌, ◌/◌, ◌^◌, ◌≤◌, ◌<◌, List, [], ◌∷◌, ◌++◌, length, refl, codes}
+-- An image of a root's memory, and its spellings in the formats DTI1 and DTI2.
+-- Our choice: the formats.
+use Rattle.std.specs.Prelude.{◌≡◌, ℕ, ◌+◌, ◌-◌, ◌*◌, ◌/◌, ◌%◌, ◌^◌, ◌≤◌, ◌<◌, ◌==◌, Bool, true, if◌then◌else◌, List, [], ◌∷◌, ◌++◌, length, refl, codes}
 use Rattle.std.specs.Int.{w16, w32, to_le_bytes}
-use Rattle.std.specs.List.{flat_map}
+use Rattle.std.specs.List.{flat_map, list_all}
 use Rattle.std.specs.Coded.{Coded, coded_ℕ, coded_list, coded×, code_by}
+use Rattle.memory_model.specs.Sizes.{page_size, greatest_permission}
+use Rattle.image_model.specs.declared.format.Format.{Format}
+use Rattle.image_model.specs.declared.format.Format.TheVariants.{Dti1, Dti2}
 
 -- bytes that stand from an address on, and the permission of each page that they touch
 pub record Segment : Type 0 where
@@ -23,26 +26,64 @@ coded_segment = code_by (ℕ × (ℕ × List ℕ)) (coded× coded_ℕ (coded× c
 abbrev pub coded_image : Coded Image
 coded_image = code_by (ℕ × (ℕ × List Segment)) (coded× coded_ℕ (coded× coded_ℕ (coded_list coded_segment))) (λ i. (i.entry, (i.stack, i.segments))) (λ p. record { entry = p.0; stack = p.1.0; segments = p.1.1 }) (λ _. refl)
 
--- ---- the spelling, little endian
+-- ---- the formats: they differ in their marks and in the permissions that they write
+
+abbrev pub mark : Format → List ℕ
+mark Dti1 = codes "DTI1"
+mark Dti2 = codes "DTI2"
+
+-- the greatest byte that stands for a permission
+abbrev pub greatest_byte : Format → ℕ
+greatest_byte Dti1 = 3
+greatest_byte Dti2 = greatest_permission
+
+-- the permission that a byte stands for; in DTI1 what may be read may be executed too
+abbrev pub permission_of : Format → ℕ → ℕ
+permission_of Dti1 byte = byte + 4 * (byte % 2)
+permission_of Dti2 byte = byte
+
+-- the byte that stands for a permission
+abbrev pub permission_byte : Format → ℕ → ℕ
+permission_byte Dti1 p = p % 4
+permission_byte Dti2 p = p
+
+-- a permission that a byte stands for: all of them, but in DTI1 those alone that let execute exactly what they let read
+abbrev pub has_permission : Format → ℕ → Bool
+has_permission Dti1 p = p / 4 == p % 2
+has_permission Dti2 p = true
+
+-- the same of all segments
+abbrev pub has_permissions : Format → List Segment → Bool
+has_permissions format ss = list_all (λ s. has_permission format s.permission) ss
+
+-- the format in which an image is written: DTI1 where it has the permissions, else DTI2
+abbrev pub format_of : Image → Format
+format_of i = if has_permissions Dti1 i.segments then Dti1 else Dti2
+
+-- ---- spellings, little endian
 
 -- address, permission, length, bytes
-abbrev pub segment_bytes : Segment → List ℕ
-segment_bytes s = to_le_bytes w32 s.address ++ s.permission ∷ (to_le_bytes w32 (length s.content) ++ s.content)
+abbrev pub segment_bytes : Format → Segment → List ℕ
+segment_bytes format s = to_le_bytes w32 s.address ++ permission_byte format s.permission ∷ (to_le_bytes w32 (length s.content) ++ s.content)
 
 -- the mark, entry, stack pointer, count, and each segment
+abbrev pub spelling : Format → Image → List ℕ
+spelling format i = mark format ++ (to_le_bytes w32 i.entry ++ (to_le_bytes w32 i.stack ++ (to_le_bytes w16 (length i.segments) ++ flat_map (segment_bytes format) i.segments)))
+
+-- the spelling that is written
 abbrev pub image_bytes : Image → List ℕ
-image_bytes i = codes "DTI1" ++ (to_le_bytes w32 i.entry ++ (to_le_bytes w32 i.stack ++ (to_le_bytes w16 (length i.segments) ++ flat_map segment_bytes i.segments)))
+image_bytes i = spelling (format_of i) i
 
 -- ---- what has a spelling
 
 -- the page of the last byte
 abbrev pub last_page : Segment → ℕ
-last_page s = (s.address + length s.content - 1) / 4096
+last_page s = (s.address + length s.content - 1) / page_size
 
 -- a segment whose first page is this page or one above it
 pub record IsSegment (page : ℕ) (s : Segment) : Type 0 where
-  pub order : page ≤ s.address / 4096
-  pub permission : s.permission ≤ 3
+  pub order : page ≤ s.address / page_size
+  pub permission : s.permission ≤ greatest_permission
   pub filled : 0 < length s.content
   pub short : length s.content < 2 ^ 32
   pub range : s.address + length s.content ≤ 2 ^ 32
@@ -60,7 +101,9 @@ pub record IsImage (i : Image) : Type 0 where
 
 -- ---- the grammar
 
--- the bytes are those of the image
+-- the bytes are the spelling of the image in a format that has its permissions
 pub record ImageOf (bytes : List ℕ) (i : Image) : Type 0 where
   pub sound : IsImage i
-  pub spelled : bytes ≡ image_bytes i
+  pub format : Format
+  pub permissions : has_permissions format i.segments ≡ true
+  pub spelled : bytes ≡ spelling format i

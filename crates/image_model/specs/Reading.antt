@@ -1,11 +1,14 @@
 -- An image read from left to right, with the first fault that is met, at the offset of its field.
 -- Our choice: the order of the tests, and the offset of each fault.
-use Rattle.std.specs.Prelude.{ℕ, zero, suc, ◌+◌, ◌/◌, ◌^◌, ◌<◌, List, [], ◌∷◌, length, slice_index, take, drop, Result, Ok, Err, nat_lt, ◌==◌, if◌then◌else◌, codes}
+use Rattle.std.specs.Prelude.{ℕ, zero, suc, ◌+◌, ◌/◌, ◌^◌, ◌<◌, List, [], ◌∷◌, length, slice_index, take, drop, Result, Ok, Err, nat_lt, ◌==◌, if◌then◌else◌}
 use Rattle.std.specs.Int.{Width, w16, w32, byte_len, from_le_bytes}
 use Rattle.image_model.specs.declared.error.ImageError.{ImageError}
 use Rattle.image_model.specs.declared.error.ImageErrorKind.{ImageErrorKind}
 use Rattle.image_model.specs.declared.error.ImageErrorKind.TheVariants.{Truncated, Magic, Count, Order, Permission, Length, Range, Trailing}
-use Rattle.image_model.specs.Image.{Image, Segment, last_page}
+use Rattle.memory_model.specs.Sizes.{page_size}
+use Rattle.image_model.specs.declared.format.Format.{Format}
+use Rattle.image_model.specs.declared.format.Format.TheVariants.{Dti1, Dti2}
+use Rattle.image_model.specs.Image.{Image, Segment, mark, greatest_byte, permission_of, last_page}
 
 -- numbers that are bytes
 abbrev pub IsBytes : List ℕ → Type 0
@@ -29,10 +32,10 @@ number_at w at bytes = if nat_lt (length bytes) (byte_len w) then fault at Trunc
 abbrev pub content_at : ℕ → ℕ → List ℕ → Result (List ℕ × List ℕ) ImageError
 content_at n at bytes = if nat_lt (length bytes) n then fault at Truncated else Ok (take n bytes, drop n bytes)
 
-abbrev pub magic_at : ℕ → List ℕ → Result (ℕ × List ℕ) ImageError
+abbrev pub magic_at : ℕ → List ℕ → Result (Format × List ℕ) ImageError
 magic_at at bytes = do
   n ← number_at w32 at bytes
-  if n.0 == from_le_bytes w32 (codes "DTI1") then Ok n else fault at Magic
+  if n.0 == from_le_bytes w32 (mark Dti1) then Ok (Dti1, n.1) else if n.0 == from_le_bytes w32 (mark Dti2) then Ok (Dti2, n.1) else fault at Magic
 
 abbrev pub count_at : ℕ → List ℕ → Result (ℕ × List ℕ) ImageError
 count_at at bytes = do
@@ -43,11 +46,11 @@ count_at at bytes = do
 abbrev pub address_at : ℕ → ℕ → List ℕ → Result (ℕ × List ℕ) ImageError
 address_at page at bytes = do
   n ← number_at w32 at bytes
-  if nat_lt (n.0 / 4096) page then fault at Order else Ok n
+  if nat_lt (n.0 / page_size) page then fault at Order else Ok n
 
-unfoldable pub permission_at : ℕ → List ℕ → Result (ℕ × List ℕ) ImageError
-permission_at at [] = fault at Truncated
-permission_at at (p ∷ rest) = if nat_lt 3 p then fault at Permission else Ok (p, rest)
+unfoldable pub permission_at : Format → ℕ → List ℕ → Result (ℕ × List ℕ) ImageError
+permission_at format at [] = fault at Truncated
+permission_at format at (byte ∷ rest) = if nat_lt (greatest_byte format) byte then fault at Permission else Ok (permission_of format byte, rest)
 
 abbrev pub length_at : ℕ → ℕ → List ℕ → Result (ℕ × List ℕ) ImageError
 length_at address at bytes = do
@@ -57,21 +60,21 @@ length_at address at bytes = do
 -- ---- segments and images
 
 -- a segment that begins in this page or above it
-unfoldable pub segment_at : ℕ → ℕ → List ℕ → Result (Segment × List ℕ) ImageError
-segment_at page at bytes = do
+unfoldable pub segment_at : Format → ℕ → ℕ → List ℕ → Result (Segment × List ℕ) ImageError
+segment_at format page at bytes = do
   a ← address_at page at bytes
-  p ← permission_at (at + 4) a.1
+  p ← permission_at format (at + 4) a.1
   n ← length_at a.0 (at + 5) p.1
   c ← content_at n.0 (at + 9) n.1
   Ok (record { address = a.0; permission = p.0; content = c.0 }, c.1)
 
 -- so many segments from this page on, and nothing after them
-unfoldable pub segments_at : ℕ → ℕ → ℕ → List ℕ → Result (List Segment) ImageError
-segments_at zero page at [] = Ok []
-segments_at zero page at (b ∷ bytes) = fault at Trailing
-segments_at (suc n) page at bytes = do
-  s ← segment_at page at bytes
-  others ← segments_at n (last_page s.0 + 1) (at + 9 + length s.0.content) s.1
+unfoldable pub segments_at : Format → ℕ → ℕ → ℕ → List ℕ → Result (List Segment) ImageError
+segments_at format zero page at [] = Ok []
+segments_at format zero page at (b ∷ bytes) = fault at Trailing
+segments_at format (suc n) page at bytes = do
+  s ← segment_at format page at bytes
+  others ← segments_at format n (last_page s.0 + 1) (at + 9 + length s.0.content) s.1
   Ok (s.0 ∷ others)
 
 -- the image that all of the bytes are, or their first fault
@@ -81,5 +84,5 @@ image_of bytes = do
   e ← number_at w32 4 m.1
   s ← number_at w32 8 e.1
   c ← count_at 12 s.1
-  ss ← segments_at c.0 0 14 c.1
+  ss ← segments_at m.0 c.0 0 14 c.1
   Ok (record { entry = e.0; stack = s.0; segments = ss })

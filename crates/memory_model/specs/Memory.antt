@@ -1,8 +1,9 @@
 -- A memory: the bytes of 2 ^ 32 addresses, and the permissions of 2 ^ 20 pages of 4,096 bytes, each 0 where nothing else is kept.
 -- Permissions stand for pages as in OSDI 2010, "Efficient System-Enforced Deterministic Parallelism", the section on the kernel
 -- interface (the Perm option of Put and Get); the order of bytes in a number is that of RISC-V Unprivileged ISA, "Base Integer ISA".
--- Source: RISC-V Unprivileged ISA, "Memory": bytes by address, the least byte of a word first.
--- Our choice: pages of 4,096 bytes, each with a permission.
+-- Source: RISC-V Unprivileged ISA, "Memory": bytes by address, the least byte of a word first; RISC-V Privileged ISA, the R, W and X bits of
+-- a page table entry.
+-- Our choice: pages of 4,096 bytes, each with a permission, and its numbers.
 use Rattle.std.specs.Prelude.{◌≡◌, ℕ, zero, suc, ◌+◌, ◌*◌, ◌/◌, ◌%◌, List, [], ◌∷◌, Option, Some, None, Bool, cond, ◌==◌, refl}
 use Rattle.std.specs.Coded.{Coded, coded×, code_by}
 use Rattle.memory_model.specs.Sparse.{Sparse, value_at, put, no_values, coded_sparse, same_sparse}
@@ -44,13 +45,13 @@ same_memory m n bytes permissions =
 abbrev pub may_read : Memory → ℕ → Bool
 may_read m a = permission_at m (a / page_size) % 2 == 1
 
--- and fetching
-abbrev pub may_fetch : Memory → ℕ → Bool
-may_fetch m a = permission_at m (a / page_size) % 2 == 1
-
 -- bit 2: writing
 abbrev pub may_write : Memory → ℕ → Bool
 may_write m a = permission_at m (a / page_size) / 2 % 2 == 1
+
+-- bit 4: executing, which is to fetch instructions
+abbrev pub may_fetch : Memory → ℕ → Bool
+may_fetch m a = permission_at m (a / page_size) / 4 % 2 == 1
 
 -- how many bytes an access has
 abbrev pub width_bytes : Width → ℕ

@@ -5,7 +5,7 @@
 use Rattle.std.specs.Prelude.{◌≡◌, ℕ, zero, suc, ◌+◌, ◌*◌, ◌^◌, ◌<◌, ◌≤◌, List, length, slice_index}
 use Rattle.memory_model.specs.Sparse.{Sparse, put}
 use Rattle.memory_model.specs.Memory.{Memory, byte_at, permission_at}
-use Rattle.memory_model.specs.Sizes.{page_size, pages}
+use Rattle.memory_model.specs.Sizes.{page_size, pages, greatest_permission}
 
 -- n numbers in a row from a key on
 unfoldable pub with_row : Sparse → ℕ → (ℕ → ℕ) → ℕ → Sparse
@@ -35,10 +35,10 @@ IsUsed m page = (permission_at m page ≡ 0) × ((k : ℕ) → k < page_size →
 abbrev pub NoneUsed : Memory → ℕ → ℕ → Type 0
 NoneUsed m n end = (page : ℕ) → n ≤ page → page < end → (permission_at m page ≡ 0) × ((k : ℕ) → k < page_size → byte_at m (page_size * page + k) ≡ 0)
 
--- bytes below 256 at addresses below 2 ^ 32, and permissions below 4 of pages below 2 ^ 20
+-- bytes below 256 at addresses below 2 ^ 32, and permissions up to the greatest of pages below 2 ^ 20
 pub record IsBounded (m : Memory) : Type 0 where
   pub byte : (a : ℕ) → byte_at m a < 256
-  pub permission : (page : ℕ) → permission_at m page < 4
+  pub permission : (page : ℕ) → permission_at m page ≤ greatest_permission
   pub addresses : (a : ℕ) → 2 ^ 32 ≤ a → byte_at m a ≡ 0
   pub pages : (page : ℕ) → 2 ^ 20 ≤ page → permission_at m page ≡ 0
 

@@ -10,6 +10,6 @@ page_size = 4096
 abbrev pub pages : ℕ
 pages = 1048576
 
--- the greatest permission of a page: reading, fetching and writing
+-- the greatest permission of a page: reading, writing and executing
 abbrev pub greatest_permission : ℕ
-greatest_permission = 3
+greatest_permission = 7

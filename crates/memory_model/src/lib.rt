@@ -15,5 +15,6 @@ pub const PAGE_SIZE: u32 = 4096;
 /// How many pages a memory has: addresses have 32 bits.
 pub const PAGES: u32 = 1_048_576;
 
-/// The greatest permission of a page: 1 reads and fetches, 2 writes, 3 does both.
-pub const GREATEST_PERMISSION: u8 = 3;
+/// The greatest permission of a page: 1 reads, 2 writes, 4 executes, and each sum of them allows what its parts allow (RISC-V
+/// Privileged ISA, the R, W and X bits of a page table entry).
+pub const GREATEST_PERMISSION: u8 = 7;

@@ -1,6 +1,6 @@
 -- Pages of a range that a child changed, and what is merged of one page.
 -- Our choice: a restatement for proofs.
-use Rattle.std.specs.Prelude.{◌≡◌, ℕ, ◌+◌, ◌*◌, ◌<◌, ◌≤◌, ◌⊎◌, false, true, List, [], ◌∷◌, slice_index}
+use Rattle.std.specs.Prelude.{◌≡◌, ℕ, Bool, ◌+◌, ◌*◌, ◌<◌, ◌≤◌, ◌⊎◌, false, true, List, [], ◌∷◌, slice_index}
 use Rattle.memory_model.specs.Memory.{Memory, byte_at}
 use Rattle.memory_model.specs.Sizes.{page_size, pages}
 use Rattle.merge_model.specs.Merge.{is_conflict, merged_byte}
@@ -11,8 +11,8 @@ abbrev pub SameBytes : Memory → Memory → ℕ → ℕ → Type 0
 SameBytes m n first end = (a : ℕ) → page_size * first ≤ a → a < page_size * end → byte_at m a ≡ byte_at n a
 
 -- no address from one to before another is in conflict
-abbrev pub NoneInConflict : Memory → Memory → Memory → ℕ → ℕ → Type 0
-NoneInConflict snapshot child parent from to = (a : ℕ) → from ≤ a → a < to → is_conflict snapshot child parent a ≡ false
+abbrev pub NoneInConflict : Bool → Memory → Memory → Memory → ℕ → ℕ → Type 0
+NoneInConflict agree snapshot child parent from to = (a : ℕ) → from ≤ a → a < to → is_conflict agree snapshot child parent a ≡ false
 
 -- the next page from n on of which the bytes of two memories may differ
 pub record IsNextToMerge (m n : Memory) (from page : ℕ) : Type 0 where
@@ -30,11 +30,11 @@ abbrev pub IsMergedPage : Memory → Memory → Memory → ℕ → List ℕ → 
 IsMergedPage snapshot child parent page bytes = (k : ℕ) → k < page_size → slice_index bytes k ≡ merged_byte snapshot child parent (page_size * page + k)
 
 -- the least address of a page that is in conflict
-pub record IsFirstConflict (snapshot child parent : Memory) (page addr : ℕ) : Type 0 where
+pub record IsFirstConflict (agree : Bool) (snapshot child parent : Memory) (page addr : ℕ) : Type 0 where
   pub above : page_size * page ≤ addr
   pub below : addr < page_size * (page + 1)
-  pub here : is_conflict snapshot child parent addr ≡ true
-  pub least : NoneInConflict snapshot child parent (page_size * page) addr
+  pub here : is_conflict agree snapshot child parent addr ≡ true
+  pub least : NoneInConflict agree snapshot child parent (page_size * page) addr
 
 -- a page that a merge of the pages from one to before another passes over: it is not one of them, or it is clean in the child, or it has the
 -- same bytes in child and snapshot

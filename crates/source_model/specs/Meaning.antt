@@ -4,7 +4,10 @@
 use Rattle.std.specs.Prelude.{ℕ, ◌+◌, ◌-◌, ◌*◌, ◌/◌, ◌%◌, ◌^◌, Bool, false, not, ◌&&◌, ◌||◌, ◌==◌, nat_lt, nat_le, List, [], ◌∷◌, ◌++◌, length, slice_index, map, reverse, filter, find, fold, take_while, Option, Some, None, is_none, is_some, unwrap_or, option_map, option_and_then, option_to_list, Result, Ok, Err, if◌then◌else◌}
 use Rattle.std.specs.List.{list_any}
 use Rattle.std.specs.Str.{bytes_eq}
-use Rattle.image_model.specs.Image.{Segment, Image, image_bytes}
+use Rattle.memory_model.specs.Sizes.{page_size}
+use Rattle.image_model.specs.declared.format.Format.{Format}
+use Rattle.image_model.specs.declared.format.Format.TheVariants.{Dti1}
+use Rattle.image_model.specs.Image.{Segment, Image, greatest_byte, permission_of, image_bytes}
 use Rattle.source_model.specs.declared.error.AsmErrorKind.{AsmErrorKind}
 use Rattle.source_model.specs.declared.error.AsmErrorKind.TheVariants as kinds
 
@@ -16,12 +19,14 @@ pub data Value : Type 0 where
   label : List ℕ → Value
   distance : ℕ → Value → Value
 
--- bytes stand next; a segment begins, at an address and with a permission; the root is to begin at an address; its stack pointer is given
+-- bytes stand next; a segment begins, at an address and with a permission; the root is to begin at an address; its stack pointer is given;
+-- permissions are those of a format of images
 pub data Effect : Type 0 where
   bytes : List ℕ → Effect
   segment : ℕ → ℕ → Effect
   entry : ℕ → Effect
   stack : ℕ → Effect
+  format : Format → Effect
 
 -- the values that a statement is written with, and what it does where the n-th of them, counted from 0, is worth so much
 pub record Statement : Type 0 where
@@ -54,8 +59,9 @@ effect_of labels here s = s.effect (slice_index (map (λ v. unwrap_or (worth_of 
 
 -- ---- what lines make
 
--- the segments that have begun, the last one first, and the last entry and stack pointer
+-- the format whose permissions segments have, the segments that have begun, the last one first, and the last entry and stack pointer
 pub record Draft : Type 0 where
+  pub format : Format
   pub segments : List Segment
   pub entry : Option ℕ
   pub stack : ℕ
@@ -72,12 +78,13 @@ address_after d = end_of d.segments % 2 ^ 32
 abbrev pub with_content : List Segment → List Segment
 with_content ss = filter (λ s. nat_lt 0 (length s.content)) ss
 
--- bytes before any segment or past 2 ^ 32; a segment of a permission above 3, whose first page is not above the last one with
--- bytes, or that follows 64 others
-abbrev pub is_out_of_place : List Segment → Effect → Bool
-is_out_of_place ss (bytes b) = nat_lt 0 (length b) && (length ss == 0 || nat_lt (2 ^ 32) (end_of ss + length b))
-is_out_of_place ss (segment a p) = nat_lt 3 p || nat_lt (a / 4096 * 4096) (end_of (with_content ss)) || nat_le 64 (length ss)
-is_out_of_place ss e = false
+-- bytes before any segment or past 2 ^ 32; a segment of a permission that the format cannot write, whose first page is not above the last one
+-- with bytes, or that follows 64 others; a format behind a segment
+abbrev pub is_out_of_place : Draft → Effect → Bool
+is_out_of_place d (bytes b) = nat_lt 0 (length b) && (length d.segments == 0 || nat_lt (2 ^ 32) (end_of d.segments + length b))
+is_out_of_place d (segment a p) = nat_lt (greatest_byte d.format) p || nat_lt (a / page_size * page_size) (end_of (with_content d.segments)) || nat_le 64 (length d.segments)
+is_out_of_place d (format f) = nat_lt 0 (length d.segments)
+is_out_of_place d e = false
 
 -- bytes come to the last segment
 abbrev pub with_bytes : List Segment → List ℕ → List Segment
@@ -86,17 +93,18 @@ with_bytes (s ∷ ss) b = record s { content = s.content ++ b } ∷ ss
 
 abbrev pub with_effect : Draft → Effect → Draft
 with_effect d (bytes b) = record d { segments = with_bytes d.segments b }
-with_effect d (segment a p) = record d { segments = record { address = a; permission = p; content = [] } ∷ d.segments }
+with_effect d (segment a p) = record d { segments = record { address = a; permission = permission_of d.format p; content = [] } ∷ d.segments }
 with_effect d (entry a) = record d { entry = Some a }
 with_effect d (stack a) = record d { stack = a }
+with_effect d (format f) = record d { format = f }
 
 -- a line with a fault of its own, or that is out of place, does nothing
 abbrev pub with_read : Labels → Draft → Read → Draft
 with_read labels d (Err kind) = d
-with_read labels d (Ok s) = let e = effect_of labels (address_after d) s in if is_out_of_place d.segments e then d else with_effect d e
+with_read labels d (Ok s) = let e = effect_of labels (address_after d) s in if is_out_of_place d e then d else with_effect d e
 
 abbrev pub blank : Draft
-blank = record { segments = []; entry = None; stack = 0 }
+blank = record { format = Dti1; segments = []; entry = None; stack = 0 }
 
 unfoldable pub draft_of : Labels → List Line → Draft
 draft_of labels lines = fold (λ d l. with_read labels d l.statement) blank lines
@@ -140,7 +148,7 @@ fault_of labels before name (Ok s) =
     first_kind (
     (list_any (is_too_far labels here) s.values, kinds.Number)
     ∷ (is_some (option_and_then (label_in before) name), kinds.Twice)
-    ∷ (is_out_of_place d.segments (effect_of labels here s), kinds.Place)
+    ∷ (is_out_of_place d (effect_of labels here s), kinds.Place)
     ∷ (nat_lt greatest_size (length (image_bytes (image_of (with_read labels d (Ok s))))), kinds.TooBig)
     ∷ (list_any (λ v. is_none (worth_of labels here v)) s.values, kinds.Label)
     ∷ [])

@@ -16,7 +16,7 @@ use Rattle.source_model.specs.declared.error.AsmErrorKind.TheVariants as kinds
 use Rattle.source_model.specs.Ascii.{is_letter, is_digit}
 use Rattle.source_model.specs.Numeral.{number_in, natural_in}
 use Rattle.source_model.specs.RegisterNames.{register_in}
-use Rattle.source_model.specs.Meaning.{Value, number, label, distance, Effect, bytes, segment, entry, stack, Read}
+use Rattle.source_model.specs.Meaning.{Value, number, label, distance, Effect, bytes, segment, entry, stack, format, Read}
 
 -- ---- operands
 
@@ -132,6 +132,7 @@ abbrev pub directives : List Form
 directives =
     record { name = codes "li"; parts = register ∷ comma ∷ value ∷ []; effect = λ v. load_immediate (v 0) (v 1) }
     ∷ record { name = codes ".segment"; parts = field 0 (2 ^ 32 - 1) ∷ natural ∷ []; effect = λ v. segment (v 0) (v 1) }
+    ∷ record { name = codes ".dti2"; parts = []; effect = λ v. format Dti2 }
     ∷ record { name = codes ".entry"; parts = value ∷ []; effect = λ v. entry (v 0) }
     ∷ record { name = codes ".stack"; parts = value ∷ []; effect = λ v. stack (v 0) }
     ∷ record { name = codes ".word"; parts = value ∷ []; effect = λ v. bytes (to_le_bytes w32 (v 0)) }

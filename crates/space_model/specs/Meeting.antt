@@ -4,7 +4,7 @@
 -- Source: OSDI 2010, "Efficient System-Enforced Deterministic Parallelism", the kernel interface: the options of Put and Get, Tree among them, and
 -- that a byte which both sides changed stops the merging space.
 -- Our choice: the order of the tests and of the parts, that all tests come before any change, and that Tree is a copy.
-use Rattle.std.specs.Prelude.{◌≡◌, ℕ, zero, suc, ◌+◌, List, [], ◌∷◌, Option, Some, None, option_map, Bool, true, if◌then◌else◌, ◌≤◌, nat_lt}
+use Rattle.std.specs.Prelude.{◌≡◌, ℕ, zero, suc, ◌+◌, List, [], ◌∷◌, Option, Some, None, option_map, Bool, true, false, if◌then◌else◌, ◌≤◌, nat_lt}
 use Rattle.memory_model.specs.Memory.{Memory, may_read, may_write}
 use Rattle.merge_model.specs.Merge.{first_conflict}
 use Rattle.call_model.specs.declared.Transfer.{Transfer}
@@ -13,7 +13,7 @@ use Rattle.call_model.specs.declared.Call.TheVariants.{Put, PutTree, Get, GetTre
 use Rattle.call_model.specs.Limits.{AreChildren, block_size}
 use Rattle.call_model.specs.Calls.{meets_children}
 use Rattle.call_model.specs.Reading.{kind_in, children_in, levels_in}
-use Rattle.call_model.specs.Options.{has, regs, merging}
+use Rattle.call_model.specs.Options.{has, regs, merging, agreeing}
 use Rattle.space_model.specs.declared.Cause.{Cause}
 use Rattle.space_model.specs.declared.Cause.TheVariants.{LoadFault, StoreFault, Badcall, Conflict}
 use Rattle.space_model.specs.declared.Refusal.{Refusal}
@@ -77,10 +77,10 @@ abbrev pub height_refusal : ℕ → Option Space → Option Refusal
 height_refusal levels None = None
 height_refusal levels (Some s) = if nat_lt levels (2 + height s) then test_refusal 8 else None
 
--- the least address of a range at which both sides have changed the byte since the snapshot
-abbrev pub conflict_refusal : Option Memory → Memory → Memory → ℕ → ℕ → Option Refusal
-conflict_refusal None child parent first count = None
-conflict_refusal (Some snapshot) child parent first count = option_map (λ a. record { cause = Conflict; value = a }) (first_conflict snapshot child parent first count)
+-- the least address of a range at which both sides have changed the byte since the snapshot; where equal new values agree, to different ones
+abbrev pub conflict_refusal : Bool → Option Memory → Memory → Memory → ℕ → ℕ → Option Refusal
+conflict_refusal agree None child parent first count = None
+conflict_refusal agree (Some snapshot) child parent first count = option_map (λ a. record { cause = Conflict; value = a }) (first_conflict agree snapshot child parent first count)
 
 -- a test where an option asks for it
 abbrev pub refusal_if : Bool → Option Refusal → Option Refusal
@@ -91,12 +91,12 @@ abbrev pub get_refusals : Transfer → Top → Top → List (Option Refusal)
 get_refusals x t c =
     refusal_if (has merging x.options) (snapshot_refusal c.snapshot)
     ∷ block_refusal x StoreFault (may_write t.memory)
-    ∷ refusal_if (has merging x.options) (conflict_refusal c.snapshot c.memory t.memory (destination_page x) (page_count x))
+    ∷ refusal_if (has merging x.options) (conflict_refusal (has agreeing x.options) c.snapshot c.memory t.memory (destination_page x) (page_count x))
     ∷ []
 
--- the tests of a join of a thread
+-- the tests of a join of a thread, to which equal new values are in conflict
 abbrev pub join_refusals : Top → Top → List (Option Refusal)
-join_refusals t c = snapshot_refusal c.snapshot ∷ conflict_refusal c.snapshot c.memory t.memory 0 shared_pages ∷ []
+join_refusals t c = snapshot_refusal c.snapshot ∷ conflict_refusal false c.snapshot c.memory t.memory 0 shared_pages ∷ []
 
 -- the tests of a call in their order, each with what it stops the caller for, where it does; of a caller with so many levels of children
 -- left below it, by what it sees of the children that it waits for
