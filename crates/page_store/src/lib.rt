@@ -1,10 +1,14 @@
-//! Pages of 4,096 bytes.
+//! Pages of 4,096 bytes, and what their permissions allow.
 #![tactic(auto)]
 
 ghost use Rattle.std.specs.Prelude.{◌≡◌, ◌↔◌, ℕ, ◌<◌, ◌+◌, ◌%◌, ◌≤◌, IfOk, IsOk, IsTrue, OnOk, OnErr, length, slice_index, slice_set, true, false};
 ghost use Rattle.page_store.specs.Bytes.{bytes_of, is_own, IsPage, with_number_in, with_bytes_in};
 ghost use Rattle.memory_model.specs.Memory.{number_from, width_bytes};
 ghost use Rattle.memory_model.specs.Sizes.{page_size};
+
+mod rights;
+
+pub use rights::{may_execute, may_read, may_write};
 
 use memory_model::{PAGE_SIZE, Width};
 use std::alloc::{AllocError, Global};
