@@ -6,8 +6,7 @@ use Rattle.std.proofs.lemmas.List.{get_or-set_same, get_or-set_other, get_or_def
 use Rattle.page_tree.specs.declared.tree.Tree.{Tree}
 use Rattle.page_tree.specs.declared.branch_ref.BranchRef.{BranchRef}
 use Rattle.page_tree.specs.declared.branch_ref.BranchRef.TheVariants.{Uniform}
-use Rattle.page_tree.specs.Blocks.{bytes_in}
-use Rattle.page_tree.specs.BranchRefs.{limb_permission, limb_page, limb_own, SameLimb, SameOwnLimb, IsOwnedLimb}
+use Rattle.page_tree.specs.BranchRefs.{limb_own, SameLimb, SameOwnLimb, IsOwnedLimb}
 use Rattle.page_tree.specs.Trees.{branch_at, IsOwnedTree}
 use Rattle.page_tree.proofs.Spread.{each_set}
 

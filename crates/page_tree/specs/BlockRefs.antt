@@ -1,11 +1,11 @@
 -- What is kept of 64 pages: a permission alone, or a block that is shared or its holder's own.
 -- Our choice: how the code keeps a memory.
-use Rattle.std.specs.Prelude.{◌≡◌, ℕ, ◌<◌, List, Bool, true, false, Option, None}
+use Rattle.std.specs.Prelude.{◌≡◌, ℕ, ◌<◌, Bool, true, false, Option, None}
 use Rattle.std.specs.Arc.{arc_value}
 use Rattle.page_store.specs.declared.PageRef.{PageRef}
 use Rattle.page_tree.specs.declared.block_ref.BlockRef.{BlockRef}
 use Rattle.page_tree.specs.declared.block_ref.BlockRef.TheVariants.{Uniform, Shared, Own}
-use Rattle.page_tree.specs.Blocks.{block_pages, page_in, permission_in, byte_in, bytes_in, is_own_in, IsWhole}
+use Rattle.page_tree.specs.Blocks.{block_pages, page_in, permission_in, byte_in, is_own_in, IsWhole}
 use Rattle.page_tree.specs.Rows.{Row}
 
 -- the permission of a page

@@ -1,6 +1,6 @@
 -- A block of 64 pages in a row, each with its permission.
 -- Our choice: 64 pages a block.
-use Rattle.std.specs.Prelude.{◌≡◌, ℕ, List, [], ◌<◌, Bool, true, false, not, nat_lt, ◌&&◌, Option, Some, None, slice_index, slice_index_or}
+use Rattle.std.specs.Prelude.{◌≡◌, ℕ, List, [], ◌<◌, Bool, false, not, nat_lt, ◌&&◌, Option, Some, None, slice_index, slice_index_or}
 use Rattle.page_store.specs.Bytes.{bytes_of, is_own, IsPage}
 use Rattle.page_store.specs.declared.PageRef.{PageRef}
 use Rattle.page_tree.specs.declared.block.Block.{Block}

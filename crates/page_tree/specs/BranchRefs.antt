@@ -1,11 +1,11 @@
 -- What is kept of 8,192 pages: a permission alone, or a branch that is shared or its holder's own.
 -- Our choice: how the code keeps a memory.
-use Rattle.std.specs.Prelude.{◌≡◌, ℕ, ◌<◌, List, Bool, true, false, Option, None}
+use Rattle.std.specs.Prelude.{◌≡◌, ℕ, ◌<◌, Bool, true, false, Option, None}
 use Rattle.std.specs.Arc.{arc_value}
 use Rattle.page_store.specs.declared.PageRef.{PageRef}
 use Rattle.page_tree.specs.declared.branch_ref.BranchRef.{BranchRef}
 use Rattle.page_tree.specs.declared.branch_ref.BranchRef.TheVariants.{Uniform, Shared, Own}
-use Rattle.page_tree.specs.Blocks.{byte_in, bytes_in}
+use Rattle.page_tree.specs.Blocks.{byte_in}
 use Rattle.page_tree.specs.Branches.{branch_pages, branch_permission, branch_page, branch_own, AreWholeBelow}
 use Rattle.page_tree.specs.Rows.{Row}
 

@@ -1,11 +1,11 @@
 -- 8,192 pages in a row, by blocks of 64.
 -- Our choice: 128 blocks a branch.
-use Rattle.std.specs.Prelude.{◌≡◌, ℕ, ◌/◌, ◌%◌, ◌<◌, List, Bool, Option, slice_index_or, true, false}
+use Rattle.std.specs.Prelude.{◌≡◌, ℕ, ◌/◌, ◌%◌, ◌<◌, Bool, Option, slice_index_or, true, false}
 use Rattle.page_store.specs.declared.PageRef.{PageRef}
 use Rattle.page_tree.specs.declared.block_ref.BlockRef.{BlockRef}
 use Rattle.page_tree.specs.declared.block_ref.BlockRef.TheVariants.{Uniform}
 use Rattle.page_tree.specs.declared.branch.Branch.{Branch}
-use Rattle.page_tree.specs.Blocks.{block_pages, byte_in, bytes_in}
+use Rattle.page_tree.specs.Blocks.{block_pages, byte_in}
 use Rattle.page_tree.specs.BlockRefs.{ref_permission, ref_page, ref_own, AreWholeIn}
 use Rattle.page_tree.specs.Rows.{Row}
 

@@ -1,11 +1,11 @@
 -- What is kept of 1,048,576 pages: a permission alone, or a tree that is shared or its holder's own.
 -- Our choice: how the code keeps a memory.
-use Rattle.std.specs.Prelude.{◌≡◌, ℕ, ◌<◌, List, Bool, true, false, Option, None}
+use Rattle.std.specs.Prelude.{◌≡◌, ℕ, ◌<◌, Bool, true, false, Option, None}
 use Rattle.std.specs.Arc.{arc_value}
 use Rattle.page_store.specs.declared.PageRef.{PageRef}
 use Rattle.page_tree.specs.declared.tree_ref.TreeRef.{TreeRef}
 use Rattle.page_tree.specs.declared.tree_ref.TreeRef.TheVariants.{Uniform, Shared, Own}
-use Rattle.page_tree.specs.Blocks.{byte_in, bytes_in}
+use Rattle.page_tree.specs.Blocks.{byte_in}
 use Rattle.page_tree.specs.Trees.{tree_pages, tree_permission, tree_page, tree_own, AreWholeTree}
 use Rattle.page_tree.specs.Rows.{Row}
 

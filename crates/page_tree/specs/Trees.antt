@@ -1,11 +1,11 @@
 -- The 1,048,576 pages of a memory, by branches of 8,192.
 -- Our choice: 128 branches a tree.
-use Rattle.std.specs.Prelude.{◌≡◌, ℕ, ◌/◌, ◌%◌, ◌<◌, List, Bool, Option, slice_index_or, true, false}
+use Rattle.std.specs.Prelude.{◌≡◌, ℕ, ◌/◌, ◌%◌, ◌<◌, Bool, Option, slice_index_or, true, false}
 use Rattle.page_store.specs.declared.PageRef.{PageRef}
 use Rattle.page_tree.specs.declared.branch_ref.BranchRef.{BranchRef}
 use Rattle.page_tree.specs.declared.branch_ref.BranchRef.TheVariants.{Uniform}
 use Rattle.page_tree.specs.declared.tree.Tree.{Tree}
-use Rattle.page_tree.specs.Blocks.{byte_in, bytes_in}
+use Rattle.page_tree.specs.Blocks.{byte_in}
 use Rattle.page_tree.specs.Branches.{branch_pages}
 use Rattle.page_tree.specs.BranchRefs.{limb_permission, limb_page, limb_own, AreWholeLimb}
 use Rattle.page_tree.specs.Rows.{Row}

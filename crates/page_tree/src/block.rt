@@ -9,7 +9,7 @@ use std::array::from_fn;
 /// How many pages a block has.
 pub const BLOCK_PAGES: usize = 64;
 
-/// 64 pages in a row, each with its permission, 0 to 3. The bytes of a page that is not kept are 0.
+/// 64 pages in a row, each with its permission. The bytes of a page that is not kept are 0.
 #[derive(Drop)]
 pub struct Block {
     pub pages: [Option<PageRef>; BLOCK_PAGES],

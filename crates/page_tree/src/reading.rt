@@ -1,6 +1,7 @@
-ghost use Rattle.std.specs.Prelude.{◌≡◌, ◌%◌, ◌<◌, ◌==◌, if◌then◌else◌, IfSome, IsNone};
+ghost use Rattle.std.specs.Prelude.{◌≡◌, ◌/◌, ◌%◌, ◌<◌, ◌==◌, if◌then◌else◌, IfSome, IsNone};
 ghost use Rattle.memory_model.specs.Memory.{number_from, width_bytes};
 ghost use Rattle.memory_model.specs.Sizes.{page_size};
+ghost use Rattle.memory_model.specs.declared.Width.TheVariants.{Four};
 ghost use Rattle.page_tree.specs.Blocks.{block_pages, page_in, permission_in, byte_in};
 ghost use Rattle.page_tree.specs.BlockRefs.{ref_permission, ref_page};
 ghost use Rattle.page_tree.specs.Branches.{branch_pages, branch_permission, branch_page};
@@ -15,6 +16,7 @@ use crate::branch_ref::BranchRef;
 use crate::tree::Tree;
 use crate::tree_ref::TreeRef;
 use memory_model::Width;
+use page_store::{may_execute, may_read};
 
 impl Block {
     /// The number of the bytes at an aligned place of a page. It is 0 where none are kept.
@@ -39,10 +41,24 @@ impl Block {
         requires aligned { at % width_bytes width ≡ 0 }
         ensures { result ≡ (if permission_in self.now j % 2 == 1 then Some (number_from (byte_in (page_in self.now j)) width at) else None) }
     {
-        if self.permissions[j] % 2 != 1 {
+        if !may_read(self.permissions[j]) {
             return None;
         }
         Some(self.number(j, at, width))
+    }
+
+    /// The word at an aligned place of a page that may be executed.
+    #[inline(always)]
+    pub fn fetch(&self, j: usize, at: u16) -> Option<u32>
+        requires page { j < block_pages }
+        requires within { at < page_size }
+        requires aligned { at % 4 ≡ 0 }
+        ensures { result ≡ (if permission_in self.now j / 4 % 2 == 1 then Some (number_from (byte_in (page_in self.now j)) Four at) else None) }
+    {
+        if !may_execute(self.permissions[j]) {
+            return None;
+        }
+        Some(self.number(j, at, Width::Four))
     }
 }
 
@@ -148,7 +164,33 @@ impl TreeRef {
         requires page { page < tree_pages }
         ensures { result ≡ (if root_permission self.now page % 2 == 1 then Some 0 else None) }
     {
-        if self.permission(page) % 2 != 1 {
+        if !may_read(self.permission(page)) {
+            return None;
+        }
+        Some(0)
+    }
+
+    /// The word at an aligned place of a page that may be executed.
+    #[inline(always)]
+    pub fn fetch(&self, page: usize, at: u16) -> Option<u32>
+        requires page { page < tree_pages }
+        requires within { at < page_size }
+        requires aligned { at % 4 ≡ 0 }
+        ensures { result ≡ (if root_permission self.now page / 4 % 2 == 1 then Some (number_from (byte_in (root_page self.now page)) Four at) else None) }
+    {
+        match self.block(page) {
+            Some(block) => block.fetch(page % BLOCK_PAGES, at),
+            None => self.fetch_zero(page),
+        }
+    }
+
+    // A zero, where a page of which no bytes are kept may be executed.
+    #[inline(always)]
+    fn fetch_zero(&self, page: usize) -> Option<u32>
+        requires page { page < tree_pages }
+        ensures { result ≡ (if root_permission self.now page / 4 % 2 == 1 then Some 0 else None) }
+    {
+        if !may_execute(self.permission(page)) {
             return None;
         }
         Some(0)

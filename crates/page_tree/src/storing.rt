@@ -18,7 +18,7 @@ use crate::branch_ref::BranchRef;
 use crate::tree::Tree;
 use crate::tree_ref::TreeRef;
 use memory_model::Width;
-use page_store::PageRef;
+use page_store::{PageRef, may_write};
 
 impl Block {
     /// Writes the lowest `width` bytes of `value` at an aligned place of an own page that may be written. False: nothing has changed,
@@ -35,7 +35,7 @@ impl Block {
         ensures sure { is_own_in (page_in self.old page) ≡ true → permission_in self.old page / 2 % 2 ≡ 1 → IsTrue result }
         ensures whole { AreWhole self.old → AreWhole self.new }
     {
-        if self.permissions[page] / 2 % 2 != 1 {
+        if !may_write(self.permissions[page]) {
             return false;
         }
         write_slot(&mut self.pages[page], at, width, value)
