@@ -1,10 +1,10 @@
 -- Pages of a source that stand in the place of others.
-use Rattle.std.specs.Prelude.{◌≡◌, ℕ, ◌+◌, ◌-◌, ◌*◌, ◌/◌, ◌%◌, ◌<◌, ◌≤◌, ◌⊎◌, Bool, true, false, cond, not, nat_lt, ◌&&◌, Option, Result, Ok, Err, OnErr}
+use Rattle.std.specs.Prelude.{◌≡◌, ℕ, ◌+◌, ◌-◌, ◌*◌, ◌/◌, ◌%◌, ◌<◌, ◌≤◌, ◌⊎◌, Bool, true, false, cond, not, nat_lt, ◌&&◌, Result, Ok, Err, OnErr}
 use Rattle.std.proofs.Common.{refl, sym, ◌∙◌, ap, arith, inl, inr}
 use Rattle.std.proofs.lemmas.Bool.{cases_lt}
 use Rattle.std.proofs.lemmas.Bool.Decides.{nat_tests}
 use Rattle.memory_model.specs.Sparse.{value_at}
-use Rattle.memory_model.specs.Memory.{Memory, byte_at, permission_at}
+use Rattle.memory_model.specs.Memory.{byte_at, permission_at}
 use Rattle.memory_model.specs.Ranges.{with_copies, with_row}
 use Rattle.memory_model.proofs.Rows.{value_at-row_key, value_at-row_before, value_at-row_after}
 use Rattle.page_tree.specs.declared.tree_ref.TreeRef.{TreeRef}

@@ -1,8 +1,8 @@
 -- Pages that a change leaves owned and dirty as they were.
-use Rattle.std.specs.Prelude.{◌≡◌, ℕ, ◌+◌, ◌*◌, ◌/◌, ◌<◌, ◌≤◌, cond, Result, Ok, Err, OnOk, OnErr}
-use Rattle.std.proofs.Common.{refl, sym, ◌∙◌, ap, arith, inl, inr}
+use Rattle.std.specs.Prelude.{◌≡◌, ℕ, ◌<◌, cond, Result, Ok, Err, OnOk, OnErr}
+use Rattle.std.proofs.Common.{refl, sym, ◌∙◌, ap, inl, inr}
 use Rattle.std.proofs.lemmas.Bool.{cases_lt}
-use Rattle.memory_model.specs.Sparse.{put, value_at}
+use Rattle.memory_model.specs.Sparse.{value_at}
 use Rattle.memory_model.specs.Memory.{Memory}
 use Rattle.memory_model.proofs.Rows.{value_at-put_other}
 use Rattle.page_tree.specs.TreeRefs.{root_own, root_permission}

@@ -1,7 +1,7 @@
 -- What a memory is after the bytes of one page have changed.
-use Rattle.std.specs.Prelude.{◌≡◌, ℕ, ◌+◌, ◌-◌, ◌*◌, ◌/◌, ◌%◌, ◌<◌, ◌≤◌, ◌==◌, ◌++◌, Bool, true, false, cond, List, [], ◌∷◌, take, drop, length, slice_index, slice_set, Option, Some, None}
-use Rattle.std.proofs.Common.{refl, sym, ◌∙◌, ap, arith, inl, inr, subst, eq-eqb, ne_eqb}
-use Rattle.std.proofs.lemmas.List.{get_or-set_same, get_or-set_other, length-set, length-take-le, length-append, length-drop, take-append-drop, take-take, drop-take, get_or_append_left, get_or-append_right, get_or-take, get_or-drop}
+use Rattle.std.specs.Prelude.{◌≡◌, ℕ, ◌+◌, ◌-◌, ◌*◌, ◌/◌, ◌%◌, ◌<◌, ◌≤◌, ◌++◌, true, false, cond, List, [], ◌∷◌, take, drop, length, slice_index, slice_set, Option, Some, None}
+use Rattle.std.proofs.Common.{refl, sym, ◌∙◌, ap, arith, inl, inr, eq-eqb, ne_eqb}
+use Rattle.std.proofs.lemmas.List.{get_or-set_same, get_or-set_other, length-set, length-take-le, take-append-drop, take-take, drop-take, get_or_append_left, get_or-append_right, get_or-take, get_or-drop}
 use Rattle.std.proofs.lemmas.Bool.{cases_eq, cases_lt, false≢true}
 use Rattle.memory_model.specs.declared.Width.{Width}
 use Rattle.memory_model.specs.declared.Width.TheVariants.{One, Two, Four}
@@ -14,8 +14,8 @@ use Rattle.page_store.specs.Bytes.{bytes_of, is_own, IsPage, with_number_in, wit
 use Rattle.page_tree.specs.declared.tree_ref.TreeRef.{TreeRef}
 use Rattle.page_tree.specs.Blocks.{byte_in, bytes_in, is_own_in, IsWhole}
 use Rattle.page_tree.specs.Rows.{Row, IsReplacedRow, IsEditedRow}
-use Rattle.page_tree.specs.TreeRefs.{root_row, root_permission, root_page, root_own, AreWholeRoot}
-use Rattle.space_mem.specs.Tables.{memory_of, owned_of, SetsPage}
+use Rattle.page_tree.specs.TreeRefs.{root_row, root_page, root_own, AreWholeRoot}
+use Rattle.space_mem.specs.Tables.{memory_of, SetsPage}
 use Rattle.space_mem.proofs.Tables.{memory_is, byte_at-of, byte_at-high, byte_at-page, permission_at-of, permission_at-high, byte_in-bytes, aligned_in}
 use Rattle.space_mem.proofs.Updates.{root_whole, own_kept}
 

@@ -1,20 +1,20 @@
 -- What a memory is after a range of its pages has changed.
-use Rattle.std.specs.Prelude.{◌≡◌, ℕ, ◌+◌, ◌-◌, ◌*◌, ◌/◌, ◌%◌, ◌<◌, ◌≤◌, ◌⊎◌, Bool, true, false, cond, None}
-use Rattle.std.proofs.Common.{refl, sym, ◌∙◌, ap, arith, inl, inr}
+use Rattle.std.specs.Prelude.{◌≡◌, ℕ, ◌-◌, ◌*◌, ◌/◌, ◌%◌, ◌<◌, ◌≤◌, ◌⊎◌, true, false, cond, None}
+use Rattle.std.proofs.Common.{sym, ◌∙◌, ap, arith, inl, inr}
 use Rattle.std.proofs.lemmas.Bool.{cases_lt}
 use Rattle.memory_model.specs.Sparse.{Sparse, value_at}
-use Rattle.memory_model.specs.Memory.{Memory, byte_at, permission_at, with_permissions}
+use Rattle.memory_model.specs.Memory.{Memory, byte_at, with_permissions}
 use Rattle.memory_model.specs.Ranges.{with_zeros, with_row}
 use Rattle.memory_model.proofs.Rows.{value_at-row_key, value_at-row_before, value_at-row_after}
 use Rattle.memory_model.proofs.Runs.{byte_at-with_permissions, permission_at-with_permissions, permission_at-with_permissions_out}
 use Rattle.page_tree.specs.declared.tree_ref.TreeRef.{TreeRef}
 use Rattle.page_tree.specs.Blocks.{byte_in, within}
 use Rattle.page_tree.specs.Rows.{IsPermittedRow, IsClearedRow}
-use Rattle.page_tree.specs.TreeRefs.{root_row, root_permission, root_page, root_own}
+use Rattle.page_tree.specs.TreeRefs.{root_row, root_permission, root_page}
 use Rattle.space_mem.specs.declared.table.PageTable.{PageTable}
-use Rattle.space_mem.specs.Held.{Held, Marks}
-use Rattle.space_mem.specs.Tables.{memory_of, owned_of, marked_of, held_of}
-use Rattle.space_mem.proofs.Tables.{memory_is, byte_at-of, byte_at-high, byte_at-page, permission_at-of, permission_at-high, owned_at, owned_high, marked_at}
+use Rattle.space_mem.specs.Held.{Marks}
+use Rattle.space_mem.specs.Tables.{memory_of, held_of}
+use Rattle.space_mem.proofs.Tables.{memory_is, byte_at-of, byte_at-high, byte_at-page, permission_at-of, permission_at-high, marked_at}
 use Rattle.space_mem.proofs.Updates.{in_range, before_range, after_range}
 
 -- a page of a range, or one beside it

@@ -1,12 +1,12 @@
 -- What stands in the memory of a page table.
-use Rattle.std.specs.Prelude.{◌≡◌, ℕ, ◌+◌, ◌-◌, ◌*◌, ◌/◌, ◌%◌, ◌<◌, ◌≤◌, ◌==◌, Bool, true, false, cond, List, [], length, slice_index, Option, Some, None, if◌then◌else◌}
+use Rattle.std.specs.Prelude.{◌≡◌, ℕ, ◌+◌, ◌-◌, ◌*◌, ◌/◌, ◌%◌, ◌<◌, ◌≤◌, ◌==◌, Bool, true, false, cond, slice_index, Option, Some, None, if◌then◌else◌}
 use Rattle.std.proofs.Common.{refl, sym, ◌∙◌, ap, arith, inl, inr, subst}
-use Rattle.std.proofs.lemmas.Bool.{cases_eq, cases_lt}
+use Rattle.std.proofs.lemmas.Bool.{cases_lt}
 use Rattle.memory_model.specs.declared.Width.{Width}
 use Rattle.memory_model.specs.declared.Width.TheVariants.{One, Two, Four}
 use Rattle.memory_model.specs.Sparse.{Sparse, no_values, value_at, value_at-no_values, same_sparse}
-use Rattle.memory_model.specs.Memory.{Memory, byte_at, permission_at, width_bytes, number_from, may_read, may_write, same_memory, no_memory}
-use Rattle.memory_model.specs.Ranges.{with_row, IsBounded}
+use Rattle.memory_model.specs.Memory.{Memory, byte_at, permission_at, width_bytes, number_from, may_read, may_write, may_fetch}
+use Rattle.memory_model.specs.Ranges.{with_row}
 use Rattle.memory_model.proofs.Rows.{value_at-row_key, value_at-row_after}
 use Rattle.page_store.specs.declared.PageRef.{PageRef}
 use Rattle.page_store.specs.Bytes.{bytes_of, IsPage}
@@ -14,7 +14,7 @@ use Rattle.page_tree.specs.Blocks.{byte_in, bytes_in, IsWhole}
 use Rattle.page_tree.specs.declared.tree_ref.TreeRef.{TreeRef}
 use Rattle.page_tree.specs.TreeRefs.{root_permission, root_page, root_own}
 use Rattle.space_mem.specs.declared.table.PageTable.{PageTable}
-use Rattle.space_mem.specs.Held.{Held, Owns, IsClean}
+use Rattle.space_mem.specs.Held.{Held, Owns}
 use Rattle.space_mem.specs.Tables.{memory_of, owned_of, marked_of, held_of}
 
 pub row_at : (value : ℕ → ℕ) (n k : ℕ) → k < n → value_at (with_row no_values 0 value n) k ≡ value k
@@ -138,12 +138,19 @@ may_read-of t a below = ap (λ n. n % 2 == 1) (permission_at-of t (a / 4096) (om
 pub may_write-of : (t : TreeRef) (a : ℕ) → a < 4294967296 → may_write (memory_of t) a ≡ (root_permission t (a / 4096) / 2 % 2 == 1)
 may_write-of t a below = ap (λ n. n / 2 % 2 == 1) (permission_at-of t (a / 4096) (omega arith))
 
+pub may_fetch-of : (t : TreeRef) (a : ℕ) → a < 4294967296 → may_fetch (memory_of t) a ≡ (root_permission t (a / 4096) / 4 % 2 == 1)
+may_fetch-of t a below = ap (λ n. n / 4 % 2 == 1) (permission_at-of t (a / 4096) (omega arith))
+
 abbrev pub number_if : Bool → ℕ → Option ℕ
 number_if b n = if b then Some n else None
 
 pub load_of : (t : TreeRef) (a : ℕ) (width : Width) → a < 4294967296 → a % width_bytes width ≡ 0 → number_if (root_permission t (a / 4096) % 2 == 1) (number_from (byte_in (root_page t (a / 4096))) width (a % 4096)) ≡ number_if (may_read (memory_of t) a) (number_from (byte_at (memory_of t)) width a)
 load_of t a width below aligned =
     sym (ap (λ b. number_if b (number_from (byte_at (memory_of t)) width a)) (may_read-of t a below) ∙ ap (number_if (root_permission t (a / 4096) % 2 == 1)) (number-memory_of t a width below aligned))
+
+pub fetch_of : (t : TreeRef) (a : ℕ) → a < 4294967296 → a % 4 ≡ 0 → number_if (root_permission t (a / 4096) / 4 % 2 == 1) (number_from (byte_in (root_page t (a / 4096))) Four (a % 4096)) ≡ number_if (may_fetch (memory_of t) a) (number_from (byte_at (memory_of t)) Four a)
+fetch_of t a below aligned =
+    sym (ap (λ b. number_if b (number_from (byte_at (memory_of t)) Four a)) (may_fetch-of t a below) ∙ ap (number_if (root_permission t (a / 4096) / 4 % 2 == 1)) (number-memory_of t a Four below aligned))
 
 -- every byte of a tree's page is the byte of its list
 pub byte_in-bytes : (o : Option PageRef) (k : ℕ) → byte_in o k ≡ slice_index (bytes_in o) k

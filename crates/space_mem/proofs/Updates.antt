@@ -1,10 +1,10 @@
 -- What a page table stands for after its trees have changed.
-use Rattle.std.specs.Prelude.{◌≡◌, ℕ, ◌+◌, ◌-◌, ◌*◌, ◌/◌, ◌%◌, ◌<◌, ◌≤◌, ◌==◌, ◌⊎◌, ◌&&◌, not, nat_lt, min, Bool, true, false, cond, List, length, slice_index, Option, Some, None, OnErr, OnOk}
-use Rattle.std.proofs.Common.{Result, Ok, Err, refl, sym, ◌∙◌, ap, arith, inl, inr, subst, eq-eqb, ne_eqb}
+use Rattle.std.specs.Prelude.{◌≡◌, ℕ, ◌+◌, ◌-◌, ◌*◌, ◌/◌, ◌%◌, ◌<◌, ◌≤◌, ◌⊎◌, ◌&&◌, not, nat_lt, min, Bool, true, false, cond, Option, Some, None, OnErr}
+use Rattle.std.proofs.Common.{Result, Ok, Err, refl, sym, ◌∙◌, ap, arith, inl, inr, subst}
 use Rattle.std.proofs.lemmas.Bool.{cases_eq, cases_lt, false≢true}
 use Rattle.std.proofs.lemmas.Bool.Decides.{nat_tests}
 use Rattle.std.proofs.lemmas.List.{get_or_past}
-use Rattle.memory_model.specs.Sparse.{Sparse, no_values, put, value_at, value_at-put, value_at-no_values, same_sparse}
+use Rattle.memory_model.specs.Sparse.{Sparse, no_values, put, value_at, value_at-no_values, same_sparse}
 use Rattle.memory_model.specs.Memory.{no_memory}
 use Rattle.memory_model.specs.Ranges.{IsBounded, IsPageOf, IsNextPage, NoneUsed}
 use Rattle.memory_model.proofs.Rows.{value_at-put_same, value_at-put_other}
@@ -26,8 +26,8 @@ use Rattle.page_tree.specs.Rows.{SameRow, SameOwners, IsPermittedRow, IsBlankPag
 use Rattle.page_tree.specs.Ready.{ReadyBlock, ReadyLimb, ReadyRoot}
 use Rattle.space_mem.specs.declared.table.PageTable.{PageTable}
 use Rattle.space_mem.specs.Held.{Held, Owns, owning, nothing_held, all_pages}
-use Rattle.space_mem.specs.Tables.{memory_of, owned_of, marked_of, held_of, IsTable}
-use Rattle.space_mem.proofs.Tables.{memory_is, memory_same, same_held, same_rows, row_is, owned_at, owned_high, owned_none, marked_at, byte_at-of, byte_at-high, permission_at-of, permission_at-high, small_byte, byte_at-page, marked_high, whole_bytes}
+use Rattle.space_mem.specs.Tables.{memory_of, owned_of, marked_of, IsTable}
+use Rattle.space_mem.proofs.Tables.{memory_is, memory_same, same_rows, row_is, owned_at, owned_high, owned_none, marked_at, byte_at-of, byte_at-high, permission_at-of, permission_at-high, small_byte, byte_at-page, marked_high, whole_bytes}
 
 pub at_error : {T E : Type 0} (r : Result T E) (P : Type 0) → P → OnErr r P
 at_error (Ok x) P p = tt

@@ -1,6 +1,6 @@
 -- The memory that a page table stands for.
 -- Our choice: how the code keeps a memory.
-use Rattle.std.specs.Prelude.{◌≡◌, ℕ, ◌+◌, ◌*◌, ◌/◌, ◌%◌, ◌<◌, ◌≤◌, Bool, true, cond, List, slice_index}
+use Rattle.std.specs.Prelude.{◌≡◌, ℕ, ◌/◌, ◌%◌, ◌<◌, ◌≤◌, true, cond, List, slice_index}
 use Rattle.memory_model.specs.Sparse.{Sparse, no_values}
 use Rattle.memory_model.specs.Memory.{Memory}
 use Rattle.memory_model.specs.Ranges.{with_row}
@@ -38,7 +38,7 @@ held_of t = record { memory = memory_of t.pages; owned = owned_of t.pages; dirty
 abbrev pub IsBare : TreeRef → Type 0
 IsBare t = (p k : ℕ) → p < pages → byte_in (root_page t p) k ≡ 0
 
--- what every page table keeps: each page that is kept has the bytes of a page, permissions are at most 3, each page that is owned is
+-- what every page table keeps: each page that is kept has the bytes of a page, permissions are up to the greatest, each page that is owned is
 -- marked as dirty, and marks have no bytes
 pub record IsTable (t : PageTable) : Type 0 where
   pub whole : AreWholeRoot t.pages

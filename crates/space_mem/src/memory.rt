@@ -1,5 +1,7 @@
 ghost use Rattle.std.specs.Prelude.{◌≡◌, ℕ, ◌+◌, ◌*◌, ◌/◌, ◌%◌, ◌<◌, ◌≤◌, ◌^◌, length, IfOk, IfSome, IsNone, OnOk, OnErr, IsOk, IsTrue, if◌then◌else◌};
-ghost use Rattle.memory_model.specs.Memory.{byte_at, permission_at, may_read, may_fetch, may_write, width_bytes, number_from, with_byte, with_bytes, with_permissions, first_without, bytes_from};
+ghost use Rattle.memory_model.specs.Memory.{byte_at, permission_at, may_read, may_fetch, width_bytes, number_from, with_byte, with_bytes, with_permissions, first_without, bytes_from};
+ghost use Rattle.memory_model.specs.Memory as memory;
+ghost use Rattle.memory_model.specs.Sizes.{greatest_permission};
 ghost use Rattle.memory_model.specs.Sparse.{no_values, put, value_at};
 ghost use Rattle.memory_model.specs.Ranges.{IsZeroPage, IsPageOf, IsBounded, IsNextPage, NoneUsed, with_copies, with_page, with_zeros};
 ghost use Rattle.page_store.specs.Bytes.{bytes_of};
@@ -8,13 +10,13 @@ ghost use Rattle.space_mem.specs.Held.{Owns, KeepsMarksOutside, IsClean, Marks, 
 use crate::layout::Pages;
 use crate::table::PageTable;
 use memory_model::Width;
-use page_store::PageRef;
+use page_store::{PageRef, may_write};
 use page_tree::TreeRef;
 use std::alloc::{AllocError, Global};
 use std::marker::Model;
 
-/// A memory: a byte at each of 2^32 addresses, and a permission, 0 to 3, of each of 2^20 pages of 4,096 bytes (1 reads and
-/// fetches, 2 writes). Contracts see it as its bytes and permissions, which pages it owns (a write to one takes no memory), and which
+/// A memory: a byte at each of 2^32 addresses, and a permission, 0 to 7, of each of 2^20 pages of 4,096 bytes (1 reads, 2
+/// writes, 4 executes). Contracts see it as its bytes and permissions, which pages it owns (a write to one takes no memory), and which
 /// are dirty: they may have changed since the last snapshot. Each page that is owned is dirty.
 ///
 /// It is kept by a page table; a page that was never written has no bytes of its own, and a page that other memories share is copied at the
@@ -85,7 +87,7 @@ impl Mem {
         requires { at % 4 ≡ 0 }
         ensures { result ≡ (if may_fetch self.now.memory at then Some (number_from (byte_at self.now.memory) Width.Four at) else None) }
     {
-        self.table.load(at, Width::Four)
+        self.table.fetch(at)
     }
 
     /// The number of the four bytes at an address that is a multiple of 4, the least byte first, whatever its page's permission.
@@ -100,9 +102,9 @@ impl Mem {
     /// Whether the page of an address may be written.
     #[inline(always)]
     pub fn can_store(&self, at: u32) -> bool
-        ensures { result ≡ may_write self.now.memory at }
+        ensures { result ≡ memory.may_write self.now.memory at }
     {
-        self.table.permission(at / 4096) / 2 % 2 == 1
+        may_write(self.table.permission(at / 4096))
     }
 
     /// Writes the lowest bytes of a number at an aligned address that may be written. The page is owned
@@ -110,7 +112,7 @@ impl Mem {
     #[inline(always)]
     pub fn store(&mut self, at: u32, width: Width, value: u32) -> Result<(), AllocError>
         requires aligned { at % width_bytes width ≡ 0 }
-        requires allowed { IsTrue (may_write self.old.memory at) }
+        requires allowed { IsTrue (memory.may_write self.old.memory at) }
         ensures ok { OnOk result (self.new ≡ with_stored self.old at width value) }
         ensures err { OnErr result (self.new ≡ self.old) }
         ensures owned { Owns self.old (at / 4096) → IsOk result }
@@ -125,10 +127,10 @@ impl Mem {
     #[inline(always)]
     pub fn try_store(&mut self, at: u32, width: Width, value: u32) -> Result<bool, AllocError>
         requires { at % width_bytes width ≡ 0 }
-        ensures allowed { IfOk result (λ stored. stored ≡ may_write self.old.memory at) }
+        ensures allowed { IfOk result (λ stored. stored ≡ memory.may_write self.old.memory at) }
         ensures ok { IfOk result (λ stored. self.new ≡ (if stored then with_stored self.old at width value else self.old)) }
         ensures err { OnErr result (self.new ≡ self.old) }
-        ensures wanted { OnErr result (IsTrue (may_write self.old.memory at)) }
+        ensures wanted { OnErr result (IsTrue (memory.may_write self.old.memory at)) }
         ensures owned { Owns self.old (at / 4096) → IsOk result }
         ensures marks { Marks self.old self.new }
     {
@@ -149,10 +151,10 @@ impl Mem {
         Ok(())
     }
 
-    /// Gives each page of a range the permission, 0 to 3; bytes stay, and which pages are owned. Its one error is want of
-    /// memory: nothing has changed then.
+    /// Gives each page of a range the permission, 0 to 7: 1 reads, 2 writes, 4 executes, and each sum of them allows what its parts
+    /// allow. Bytes stay, and which pages are owned. Its one error is want of memory: nothing has changed then.
     pub fn set_perm(&mut self, range: Pages, perm: u8) -> Result<(), AllocError>
-        requires { perm < 4 }
+        requires { perm ≤ greatest_permission }
         ensures ok { OnOk result (self.new ≡ record self.old { memory = with_permissions self.old.memory range.first range.count perm }) }
         ensures err { OnErr result (self.new ≡ self.old) }
         ensures marks { Marks self.old self.new }
@@ -284,7 +286,7 @@ impl Mem {
         Ok(())
     }
 
-    /// What every memory keeps: bytes below 256 at addresses below 2^32, and permissions below 4 of pages below 2^20.
+    /// What every memory keeps: bytes below 256 at addresses below 2^32, and permissions up to 7 of pages below 2^20.
     #[inline(always)]
     pub fn bounds(&self)
         ensures { IsBounded self.now.memory }

@@ -1,7 +1,7 @@
 ghost use Rattle.std.specs.Prelude.{◌≡◌, ℕ, ◌+◌, ◌-◌, ◌<◌, ◌≤◌, OnOk, OnErr};
 ghost use Rattle.memory_model.specs.Memory.{with_permissions};
 ghost use Rattle.memory_model.specs.Ranges.{with_zeros};
-ghost use Rattle.memory_model.specs.Sizes.{pages};
+ghost use Rattle.memory_model.specs.Sizes.{greatest_permission, pages};
 ghost use Rattle.space_mem.specs.Held.{KeepsMarksOutside, Marks};
 ghost use Rattle.space_mem.specs.Tables.{IsTable, held_of, memory_of};
 
@@ -14,7 +14,7 @@ impl PageTable {
         requires table { IsTable self.old }
         requires rise { first ≤ end }
         requires within { end ≤ pages }
-        requires permission { permission < 4 }
+        requires permission { permission ≤ greatest_permission }
         ensures table { IsTable self.new }
         ensures ok { OnOk result (held_of self.new ≡ record (held_of self.old) { memory = with_permissions (memory_of self.old.pages) first (end - first) permission }) }
         ensures err { OnErr result (held_of self.new ≡ held_of self.old) }

@@ -1,5 +1,5 @@
 ghost use Rattle.std.specs.Prelude.{◌≡◌, ℕ, ◌+◌, ◌*◌, ◌/◌, ◌%◌, ◌<◌, ◌≤◌, ◌==◌, IfSome, IsNone, if◌then◌else◌};
-ghost use Rattle.memory_model.specs.Memory.{number_from, width_bytes, byte_at, permission_at, may_read};
+ghost use Rattle.memory_model.specs.Memory.{number_from, width_bytes, byte_at, permission_at, may_fetch, may_read};
 ghost use Rattle.memory_model.specs.Ranges.{IsPageOf, IsZeroPage, IsBounded, IsNextPage, NoneUsed};
 ghost use Rattle.memory_model.specs.declared.Width.TheVariants.{Four};
 ghost use Rattle.page_store.specs.Bytes.{bytes_of};
@@ -19,6 +19,16 @@ impl PageTable {
     {
         self.pages
             .load((at / PAGE_SIZE) as usize, (at % PAGE_SIZE) as u16, width)
+    }
+
+    // The word at a multiple of 4, if it may be fetched.
+    #[inline(always)]
+    pub fn fetch(&self, at: u32) -> Option<u32>
+        requires { at % 4 ≡ 0 }
+        ensures { let m = memory_of self.now.pages in result ≡ (if may_fetch m at then Some (number_from (byte_at m) Four at) else None) }
+    {
+        self.pages
+            .fetch((at / PAGE_SIZE) as usize, (at % PAGE_SIZE) as u16)
     }
 
     // The word at a multiple of 4, whatever the permission.

@@ -7,6 +7,7 @@ ghost use Rattle.space_mem.specs.Tables.{IsTable, held_of, memory_of};
 
 use crate::table::PageTable;
 use memory_model::{PAGE_SIZE, Width};
+use page_store::may_write;
 use std::alloc::AllocError;
 
 impl PageTable {
@@ -59,7 +60,7 @@ impl PageTable {
         ensures idle { Owns (held_of self.old) (at / page_size) → IsOk result }
         ensures marks { Marks (held_of self.old) (held_of self.new) }
     {
-        if self.permission(at / PAGE_SIZE) / 2 % 2 != 1 {
+        if !may_write(self.permission(at / PAGE_SIZE)) {
             return Ok(false);
         }
         self.store(at, width, value)?;

@@ -1,6 +1,6 @@
 use Rattle.std.proofs.Common.{◌≡◌, ℕ, ◌<◌, ◌≤◌, ◌∙◌, ap, arith, refl, sym, subst, inl, inr}
 use Rattle.std.proofs.lemmas.Bool.{false≢true, cases_eq}
-use Rattle.space_mem.specs.Held.{Held, IsOutside, Owns}
+use Rattle.space_mem.specs.Held.{IsOutside, Owns}
 use Rattle.space_mem.proofs.Dirty.{marks_refl, marks_then}
 use Rattle.space_mem.proofs.Kept.{keeps_beside, keeps_refl, keeps_same, keeps_then}
 use Rattle.space_mem.proofs.Updates.{owns_too}

@@ -1,4 +1,4 @@
-use Rattle.std.proofs.Common.{◌≡◌, ◌∙◌, ◌*◌, ◌/◌, ap, arith, subst, sym}
+use Rattle.std.proofs.Common.{◌≡◌, ◌∙◌, ◌*◌, ◌/◌, ap, arith, subst}
 use Rattle.memory_model.proofs.Rows.{value_at-put_same}
 use Rattle.memory_model.specs.Sparse.{value_at}
 use Rattle.space_mem.specs.Held.{Held, Owns, owning}

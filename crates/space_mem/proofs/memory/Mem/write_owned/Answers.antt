@@ -1,7 +1,6 @@
-use Rattle.std.proofs.Common.{◌≡◌, ◌∙◌, ◌+◌, ◌-◌, ◌/◌, take, drop, refl, ap, arith, sym, subst}
-use Rattle.memory_model.specs.Memory.{with_bytes}
+use Rattle.std.proofs.Common.{◌≡◌, ◌∙◌, ◌+◌, ◌-◌, ◌/◌, take, drop, refl, ap, arith}
 use Rattle.memory_model.specs.Sparse.{value_at}
-use Rattle.space_mem.specs.Held.{Held, Owns}
+use Rattle.space_mem.specs.Held.{Held}
 use Rattle.space_mem.proofs.Dirty.{marks_refl, marks_then}
 use Rattle.space_mem.proofs.PageEdits.{written_turn}
 use Rattle.space_mem.proofs.memory.Mem.write_owned.Goals as goal

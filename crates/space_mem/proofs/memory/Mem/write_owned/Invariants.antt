@@ -1,4 +1,4 @@
-use Rattle.std.proofs.Common.{◌≡◌, ℕ, ◌≤◌, ◌-◌, take, length}
+use Rattle.std.proofs.Common.{◌≡◌, ◌≤◌, ◌-◌, take, length}
 use Rattle.memory_model.specs.Memory.{with_bytes}
 use Rattle.space_mem.specs.Held.{Marks}
 use Rattle.space_mem.proofs.memory.Mem.write_owned.Given as goal

@@ -1,4 +1,4 @@
-use Rattle.std.proofs.Common.{◌∙◌, sym, arith, refl}
+use Rattle.std.proofs.Common.{◌∙◌, sym, refl}
 use Rattle.std.proofs.lemmas.Bool.{false≢true}
 use Rattle.space_mem.proofs.Tables.{same_held, none_owned}
 use Rattle.space_mem.proofs.Updates.{marked_of-none}

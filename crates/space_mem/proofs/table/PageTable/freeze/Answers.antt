@@ -1,4 +1,3 @@
-use Rattle.std.proofs.Common.{◌∙◌, ap, arith}
 use Rattle.space_mem.proofs.Tables.{owned_none}
 use Rattle.space_mem.proofs.Updates.{root_memory}
 use Rattle.space_mem.proofs.Freezes.{owns_less}

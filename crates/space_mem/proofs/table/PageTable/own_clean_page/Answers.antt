@@ -1,4 +1,4 @@
-use Rattle.std.proofs.Common.{◌∙◌, ap, arith, refl}
+use Rattle.std.proofs.Common.{◌∙◌, ap, refl}
 use Rattle.memory_model.specs.Sparse.{put}
 use Rattle.space_mem.proofs.Tables.{same_held, owned_same}
 use Rattle.space_mem.proofs.Updates.{at_error, marked_one, owned_one, root_memory, marked_row}

@@ -1,4 +1,4 @@
-use Rattle.std.proofs.Common.{◌∙◌, sym, ap, arith, refl}
+use Rattle.std.proofs.Common.{◌∙◌, ap, arith, refl}
 use Rattle.page_tree.specs.Blocks.{byte_in}
 use Rattle.space_mem.proofs.Tables.{byte_at-page, byte_at-high}
 use Rattle.space_mem.proofs.Updates.{page_of}

@@ -1,4 +1,4 @@
-use Rattle.std.proofs.Common.{◌-◌, ◌∙◌, sym, ap, arith, refl}
+use Rattle.std.proofs.Common.{◌-◌, ◌∙◌, sym, ap, refl}
 use Rattle.space_mem.proofs.Tables.{same_held}
 use Rattle.space_mem.proofs.Updates.{at_error, row_memory, owned_row}
 use Rattle.space_mem.proofs.RangeEdits.{permitted_memory}

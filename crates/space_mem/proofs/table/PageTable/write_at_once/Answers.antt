@@ -1,4 +1,4 @@
-use Rattle.std.proofs.Common.{◌∙◌, ◌/◌, ◌≡◌, true, sym, ap, arith, refl, eq-eqb}
+use Rattle.std.proofs.Common.{◌∙◌, ◌/◌, ◌≡◌, true, sym, ap, arith, eq-eqb}
 use Rattle.page_tree.specs.TreeRefs.{root_own}
 use Rattle.space_mem.specs.Tables.{owned_of, marked_of}
 use Rattle.space_mem.proofs.Tables.{same_held, owned_at, marked_at, may_write-of}

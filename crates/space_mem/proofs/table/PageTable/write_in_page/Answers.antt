@@ -1,7 +1,7 @@
-use Rattle.std.proofs.Common.{◌≡◌, ◌∙◌, ◌+◌, ◌/◌, ◌%◌, ℕ, sym, ap, arith, refl, subst, true, None}
+use Rattle.std.proofs.Common.{◌≡◌, ◌∙◌, ◌/◌, ◌%◌, ℕ, sym, ap, arith, refl, subst, true}
 use Rattle.std.proofs.lemmas.Bool.{false≢true}
 use Rattle.memory_model.specs.Memory.{with_bytes}
-use Rattle.page_store.specs.Bytes.{bytes_of, is_own, with_bytes_in}
+use Rattle.page_store.specs.Bytes.{with_bytes_in}
 use Rattle.page_tree.specs.Blocks.{bytes_in, is_own_in}
 use Rattle.page_tree.specs.Rows.{IsEditedRow}
 use Rattle.page_tree.specs.TreeRefs.{root_row, root_own}

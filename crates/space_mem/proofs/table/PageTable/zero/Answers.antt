@@ -1,4 +1,4 @@
-use Rattle.std.proofs.Common.{◌≡◌, ◌∙◌, ◌-◌, ◌<◌, ◌≤◌, ℕ, sym, ap, arith, refl, inl, inr, cond, false, None}
+use Rattle.std.proofs.Common.{◌∙◌, ◌-◌, ap, arith, refl, cond, false, None}
 use Rattle.memory_model.specs.Ranges.{with_zeros}
 use Rattle.page_tree.specs.TreeRefs.{root_page, root_own, root_permission}
 use Rattle.page_tree.specs.Blocks.{byte_in}
