@@ -1,12 +1,15 @@
 -- A field that is read is the field that was written, and what was written is read again.
-use Rattle.std.proofs.Common.{◌≡◌, ℕ, suc, ◌+◌, ◌/◌, ◌^◌, ◌<◌, ◌≤◌, Bool, true, false, cond, eqb, ltb, List, [], ◌∷◌, ◌++◌, length, take, drop, Result, Ok, Err, refl, sym, ap, subst, ◌∙◌, append_assoc, arith, inl, inr, lit<}
-use Rattle.std.specs.Prelude.{codes}
+use Rattle.std.proofs.Common.{◌≡◌, ℕ, suc, ◌+◌, ◌/◌, ◌^◌, ◌<◌, ◌≤◌, Bool, true, false, cond, eqb, ltb, List, [], ◌∷◌, ◌++◌, length, take, drop, Result, Ok, Err, refl, sym, ap, subst, ◌∙◌, append_assoc, arith, ◌⊎◌, inl, inr, lit<}
 use Rattle.std.specs.Int.{Width, w16, w32, byte_len, from_le_bytes, to_le_bytes}
-use Rattle.std.proofs.lemmas.Bool.{cases_lt, ltb-false, le-ltb, eqb-true}
+use Rattle.std.proofs.lemmas.Bool.{cases_lt, ltb-false, le-ltb, eqb-true, eq-eqb}
 use Rattle.std.proofs.lemmas.List.{take_at, drop_at, take-append-drop, length-append, length-take, get_or-drop, get_or-take, get_or_past}
 use Rattle.std.proofs.lemmas.Nat.{le_bytes_2, le_bytes_4, from_le_bytes-to_le_bytes_2, from_le_bytes-to_le_bytes_4}
 use Rattle.image_model.specs.declared.error.ImageError.{ImageError}
 use Rattle.image_model.specs.declared.error.ImageErrorKind.TheVariants.{Truncated, Magic, Count, Order, Permission, Length, Range}
+use Rattle.memory_model.specs.Sizes.{page_size, greatest_permission}
+use Rattle.image_model.specs.declared.format.Format.{Format}
+use Rattle.image_model.specs.declared.format.Format.TheVariants.{Dti1, Dti2}
+use Rattle.image_model.specs.Image.{mark, greatest_byte, permission_of, permission_byte, has_permission}
 use Rattle.image_model.specs.Reading.{IsBytes, ◌>>=◌, number_at, content_at, magic_at, count_at, address_at, permission_at, length_at}
 
 IsBytes-drop : (n : ℕ) (bytes : List ℕ) → IsBytes bytes → IsBytes (drop n bytes)
@@ -106,18 +109,29 @@ content_again at content rest =
 
 -- ---- numbers that are tested
 
-pub magic_takes : (at : ℕ) (bytes : List ℕ) (x : ℕ × List ℕ) → IsBytes bytes → magic_at at bytes ≡ Ok x → Takes bytes (codes "DTI1") x.1
-magic_takes at bytes x fits e =
-    let b = bind_ok (number_at w32 at bytes) (λ n. cond (eqb n.0 (from_le_bytes w32 (codes "DTI1"))) (Ok n) (Err (record { at = at; kind = Magic }))) x e in
-    let g = wanted_ok (eqb b.0.0 (from_le_bytes w32 (codes "DTI1"))) (record { at = at; kind = Magic }) b.0 x b.2 in
-    let t = number_takes w32 (2 ^ 32) wide32 at bytes b.0 fits b.1 in
-    let marked : Takes bytes (codes "DTI1") b.0.1 = subst (λ (k : ℕ). Takes bytes (to_le_bytes w32 k) b.0.1) (eqb-true _ _ g.0) t.0 in
-    subst (λ (y : ℕ × List ℕ). Takes bytes (codes "DTI1") y.1) g.1 marked
+-- the mark that was met
+marked_ok : (one two : Bool) (rest : List ℕ) (d : ImageError) (x : Format × List ℕ) → cond one (Ok (Dti1, rest)) (cond two (Ok (Dti2, rest)) (Err d)) ≡ Ok x → ((one ≡ true) × ((Dti1, rest) ≡ x)) ⊎ ((two ≡ true) × ((Dti2, rest) ≡ x))
+marked_ok true two rest d x e = inl (refl, cc)
+marked_ok false true rest d x e = inr (refl, cc)
+marked_ok false false rest d x e = absurd cc
 
-pub magic_again : (at : ℕ) (rest : List ℕ) → magic_at at (codes "DTI1" ++ rest) ≡ Ok (from_le_bytes w32 (codes "DTI1"), rest)
-magic_again at rest =
-    let lt : from_le_bytes w32 (codes "DTI1") < 2 ^ 32 = lit< tt in
-    let read : number_at w32 at (codes "DTI1" ++ rest) ≡ Ok (from_le_bytes w32 (codes "DTI1"), rest) = number_again w32 (2 ^ 32) wide32 at (from_le_bytes w32 (codes "DTI1")) rest lt in
+pub magic_takes : (at : ℕ) (bytes : List ℕ) (x : Format × List ℕ) → IsBytes bytes → magic_at at bytes ≡ Ok x → Takes bytes (mark x.0) x.1
+magic_takes at bytes x fits e =
+    let b = bind_ok (number_at w32 at bytes) (λ n. cond (eqb n.0 (from_le_bytes w32 (mark Dti1))) (Ok (Dti1, n.1)) (cond (eqb n.0 (from_le_bytes w32 (mark Dti2))) (Ok (Dti2, n.1)) (Err (record { at = at; kind = Magic })))) x e in
+    let t = number_takes w32 (2 ^ 32) wide32 at bytes b.0 fits b.1 in
+    elim (marked_ok (eqb b.0.0 (from_le_bytes w32 (mark Dti1))) (eqb b.0.0 (from_le_bytes w32 (mark Dti2))) b.0.1 (record { at = at; kind = Magic }) x b.2) [
+      | inl m ↦ subst (λ (y : Format × List ℕ). Takes bytes (mark y.0) y.1) m.1 (subst (λ (k : ℕ). Takes bytes (to_le_bytes w32 k) b.0.1) (eqb-true _ _ m.0) t.0)
+      | inr m ↦ subst (λ (y : Format × List ℕ). Takes bytes (mark y.0) y.1) m.1 (subst (λ (k : ℕ). Takes bytes (to_le_bytes w32 k) b.0.1) (eqb-true _ _ m.0) t.0)
+    ]
+
+pub magic_again : (format : Format) (at : ℕ) (rest : List ℕ) → magic_at at (mark format ++ rest) ≡ Ok (format, rest)
+magic_again Dti1 at rest =
+    let lt : from_le_bytes w32 (mark Dti1) < 2 ^ 32 = lit< tt in
+    let read : number_at w32 at (mark Dti1 ++ rest) ≡ Ok (from_le_bytes w32 (mark Dti1), rest) = number_again w32 (2 ^ 32) wide32 at (from_le_bytes w32 (mark Dti1)) rest lt in
+    rw read refl
+magic_again Dti2 at rest =
+    let lt : from_le_bytes w32 (mark Dti2) < 2 ^ 32 = lit< tt in
+    let read : number_at w32 at (mark Dti2 ++ rest) ≡ Ok (from_le_bytes w32 (mark Dti2), rest) = number_again w32 (2 ^ 32) wide32 at (from_le_bytes w32 (mark Dti2)) rest lt in
     rw read refl
 
 pub count_takes : (at : ℕ) (bytes : List ℕ) (x : ℕ × List ℕ) → IsBytes bytes → count_at at bytes ≡ Ok x → Takes bytes (to_le_bytes w16 x.0) x.1 × (x.0 ≤ 64)
@@ -133,30 +147,55 @@ count_again at n rest le =
     let lt : n < 2 ^ 16 = omega arith in
     rw (number_again w16 (2 ^ 16) wide16 at n rest lt, few) refl
 
-pub address_takes : (page at : ℕ) (bytes : List ℕ) (x : ℕ × List ℕ) → IsBytes bytes → address_at page at bytes ≡ Ok x → Takes bytes (to_le_bytes w32 x.0) x.1 × (page ≤ x.0 / 4096)
+pub address_takes : (page at : ℕ) (bytes : List ℕ) (x : ℕ × List ℕ) → IsBytes bytes → address_at page at bytes ≡ Ok x → Takes bytes (to_le_bytes w32 x.0) x.1 × (page ≤ x.0 / page_size)
 address_takes page at bytes x fits e =
-    let b = bind_ok (number_at w32 at bytes) (λ n. cond (ltb (n.0 / 4096) page) (Err (record { at = at; kind = Order })) (Ok n)) x e in
-    let g = guard_ok (ltb (b.0.0 / 4096) page) (record { at = at; kind = Order }) b.0 x b.2 in
+    let b = bind_ok (number_at w32 at bytes) (λ n. cond (ltb (n.0 / page_size) page) (Err (record { at = at; kind = Order })) (Ok n)) x e in
+    let g = guard_ok (ltb (b.0.0 / page_size) page) (record { at = at; kind = Order }) b.0 x b.2 in
     let t = number_takes w32 (2 ^ 32) wide32 at bytes b.0 fits b.1 in
-    subst (λ (y : ℕ × List ℕ). Takes bytes (to_le_bytes w32 y.0) y.1 × (page ≤ y.0 / 4096)) g.1 (t.0, ltb-false _ _ g.0)
+    subst (λ (y : ℕ × List ℕ). Takes bytes (to_le_bytes w32 y.0) y.1 × (page ≤ y.0 / page_size)) g.1 (t.0, ltb-false _ _ g.0)
 
-pub address_again : (page at n : ℕ) (rest : List ℕ) → n < 2 ^ 32 → page ≤ n / 4096 → address_at page at (to_le_bytes w32 n ++ rest) ≡ Ok (n, rest)
+pub address_again : (page at n : ℕ) (rest : List ℕ) → n < 2 ^ 32 → page ≤ n / page_size → address_at page at (to_le_bytes w32 n ++ rest) ≡ Ok (n, rest)
 address_again page at n rest lt le =
-    let above : ltb (n / 4096) page ≡ false = le-ltb _ _ le in
+    let above : ltb (n / page_size) page ≡ false = le-ltb _ _ le in
     rw (number_again w32 (2 ^ 32) wide32 at n rest lt, above) refl
 
-pub permission_takes : (at : ℕ) (bytes : List ℕ) (x : ℕ × List ℕ) → IsBytes bytes → permission_at at bytes ≡ Ok x → Takes bytes (x.0 ∷ []) x.1 × (x.0 ≤ 3)
-unfolding permission_at
-permission_takes at [] x fits e = absurd cc
-permission_takes at (p ∷ rest) x fits e =
-    let g = guard_ok (ltb 3 p) (record { at = at; kind = Permission }) (p, rest) x e in
-    subst (λ (y : ℕ × List ℕ). Takes (p ∷ rest) (y.0 ∷ []) y.1 × (y.0 ≤ 3)) g.1 (record { parts = refl; rest_fits = λ i. fits (suc i) }, ltb-false _ _ g.0)
+-- a permission of a page that the format has
+pub record IsPermission (format : Format) (p : ℕ) : Type 0 where
+  pub most : p ≤ greatest_permission
+  pub has : has_permission format p ≡ true
 
-pub permission_again : (at p : ℕ) (rest : List ℕ) → p ≤ 3 → permission_at at (p ∷ rest) ≡ Ok (p, rest)
+-- the byte of the permission that a byte stands for is that byte
+byte_back : (format : Format) (byte : ℕ) → byte ≤ greatest_byte format → permission_byte format (permission_of format byte) ≡ byte
+byte_back Dti1 byte le = omega arith
+byte_back Dti2 byte le = refl
+
+-- the permission that the byte of a permission stands for is that permission
+permission_back : (format : Format) (p : ℕ) → IsPermission format p → permission_of format (permission_byte format p) ≡ p
+permission_back Dti1 p h = omega (arith, h.most, eqb-true _ _ h.has)
+permission_back Dti2 p h = refl
+
+IsPermission-permission_of : (format : Format) (byte : ℕ) → byte ≤ greatest_byte format → IsPermission format (permission_of format byte)
+IsPermission-permission_of Dti1 byte le = record { most = omega arith; has = eq-eqb _ _ (omega arith) }
+IsPermission-permission_of Dti2 byte le = record { most = le; has = refl }
+
+permission_byte_le : (format : Format) (p : ℕ) → IsPermission format p → permission_byte format p ≤ greatest_byte format
+permission_byte_le Dti1 p h = omega arith
+permission_byte_le Dti2 p h = h.most
+
+pub permission_takes : (format : Format) (at : ℕ) (bytes : List ℕ) (x : ℕ × List ℕ) → IsBytes bytes → permission_at format at bytes ≡ Ok x → Takes bytes (permission_byte format x.0 ∷ []) x.1 × IsPermission format x.0
 unfolding permission_at
-permission_again at p rest le =
-    let low : ltb 3 p ≡ false = le-ltb _ _ le in
-    rw low refl
+permission_takes format at [] x fits e = absurd cc
+permission_takes format at (byte ∷ rest) x fits e =
+    let g = guard_ok (ltb (greatest_byte format) byte) (record { at = at; kind = Permission }) (permission_of format byte, rest) x e in
+    let low : byte ≤ greatest_byte format = ltb-false _ _ g.0 in
+    let same : byte ∷ rest ≡ permission_byte format (permission_of format byte) ∷ rest = ap (λ (b : ℕ). b ∷ rest) (sym (byte_back format byte low)) in
+    subst (λ (y : ℕ × List ℕ). Takes (byte ∷ rest) (permission_byte format y.0 ∷ []) y.1 × IsPermission format y.0) g.1 (record { parts = same; rest_fits = λ i. fits (suc i) }, IsPermission-permission_of format byte low)
+
+pub permission_again : (format : Format) (at p : ℕ) (rest : List ℕ) → IsPermission format p → permission_at format at (permission_byte format p ∷ rest) ≡ Ok (p, rest)
+unfolding permission_at
+permission_again format at p rest h =
+    let low : ltb (greatest_byte format) (permission_byte format p) ≡ false = le-ltb _ _ (permission_byte_le format p h) in
+    rw (low, permission_back format p h) refl
 
 pub record IsLength (address n : ℕ) : Type 0 where
   pub filled : 0 < n

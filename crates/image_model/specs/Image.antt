@@ -1,6 +1,6 @@
 -- An image of a root's memory, and its spellings in the formats DTI1 and DTI2.
 -- Our choice: the formats.
-use Rattle.std.specs.Prelude.{◌≡◌, ℕ, ◌+◌, ◌-◌, ◌*◌, ◌/◌, ◌%◌, ◌^◌, ◌≤◌, ◌<◌, ◌==◌, Bool, true, if◌then◌else◌, List, [], ◌∷◌, ◌++◌, length, refl, codes}
+use Rattle.std.specs.Prelude.{◌≡◌, ℕ, ◌+◌, ◌-◌, ◌*◌, ◌/◌, ◌%◌, ◌^◌, ◌≤◌, ◌<◌, ◌==◌, Bool, true, if◌then◌else◌, List, [], ◌∷◌, ◌++◌, length, All, Contains, refl, codes}
 use Rattle.std.specs.Int.{w16, w32, to_le_bytes}
 use Rattle.std.specs.List.{flat_map, list_all}
 use Rattle.std.specs.Coded.{Coded, coded_ℕ, coded_list, coded×, code_by}
@@ -73,6 +73,10 @@ spelling format i = mark format ++ (to_le_bytes w32 i.entry ++ (to_le_bytes w32 
 -- the spelling that is written
 abbrev pub image_bytes : Image → List ℕ
 image_bytes i = spelling (format_of i) i
+
+-- each permission is one that both formats have: 0, 2, 5 or 7
+abbrev pub AreInBoth : List Segment → Type 0
+AreInBoth ss = All (λ s. Contains (0 ∷ 2 ∷ 5 ∷ 7 ∷ []) s.permission) ss
 
 -- ---- what has a spelling
 

@@ -7,13 +7,13 @@ use std::fmt;
 pub enum ImageErrorKind {
     /// A field, or a segment's bytes, does not fit in what is left.
     Truncated,
-    /// The first four bytes are not `DTI1`.
+    /// The first four bytes are neither `DTI1` nor `DTI2`.
     Magic,
     /// There are more than 64 segments.
     Count,
     /// A segment's first page is not above the last page of the segment before.
     Order,
-    /// A permission is above 3.
+    /// The byte of a permission is above 3 in the format DTI1, or above 7 in DTI2.
     Permission,
     /// A segment has no bytes.
     Length,

@@ -8,4 +8,4 @@ mod laws;
 
 pub use error::{ImageError, ImageErrorKind};
 pub use format::Format;
-pub use laws::{one_image, read_again, reads_exactly_images, refuses_exactly_the_rest};
+pub use laws::{one_image, read_again, reads_exactly_images, refuses_exactly_the_rest, spellings};
