@@ -7,12 +7,13 @@ use Rattle.image_model.specs.Image as model
 use Rattle.image_model.specs.Image.{ImageOf, AreSegments, last_page}
 use Rattle.image_model.specs.Reading.{IsBytes, image_of}
 use Rattle.image_model.proofs.Images.{image_takes}
-use Rattle.image_file.specs.declared.fault.ImageFault.{ImageFault}
+use Rattle.fault_model.specs.declared.fault.Fault.{Fault}
+use Rattle.fault_model.specs.Gives.{Gives}
+use Rattle.image_model.specs.declared.error.ImageError.{ImageError}
 use Rattle.image_file.specs.declared.image.Segment.{Segment}
-use Rattle.image_file.specs.Gives.{Gives}
 use Rattle.image_file.specs.View.{segment_view, segment_views}
 
-pub is_found : (bytes : List ℕ) (r : Result model.Image ImageFault) → IsBytes bytes → Gives (λ i. i) r (image_of bytes) → IfOk r (λ i. ImageOf bytes i)
+pub is_found : (bytes : List ℕ) (r : Result model.Image (Fault ImageError)) → IsBytes bytes → Gives (λ i. i) r (image_of bytes) → IfOk r (λ i. ImageOf bytes i)
 is_found bytes (Ok i) fits given = image_takes bytes i fits given
 is_found bytes (Err e) fits given = tt
 

@@ -3,9 +3,10 @@ use Rattle.std.proofs.Common.{◌≡◌, ℕ, suc, ◌-◌, ◌+◌, ◌≤◌, 
 use Rattle.std.proofs.lemmas.List.{append-nil}
 use Rattle.image_model.specs.declared.error.ImageError.{ImageError}
 use Rattle.image_model.specs.declared.error.ImageErrorKind.TheVariants.{Trailing}
-use Rattle.image_file.specs.declared.fault.ImageFault.{ImageFault}
-use Rattle.image_file.specs.declared.fault.ImageFault.TheVariants as faults
-use Rattle.image_file.specs.Gives.{Fails}
+use Rattle.fault_model.specs.declared.fault.Fault.{Fault}
+use Rattle.fault_model.specs.declared.fault.Fault.TheVariants as faults
+use Rattle.fault_model.specs.Gives.{Fails}
+use Rattle.image_model.specs.declared.format.Format.{Format}
 use Rattle.image_model.specs.Image.{Segment, last_page, IsSegment, AreSegments}
 use Rattle.image_model.specs.Reading.{◌>>=◌, fault, segment_at, segments_at}
 
@@ -17,39 +18,39 @@ regroup : (front : List Segment) (n : Segment) (read : Result (List Segment) Ima
 regroup front n (Ok x) = ap (λ (ns : List Segment). Ok ns) (simp append_assoc)
 regroup front n (Err f) = refl
 
-pub goes_on : (front : List Segment) (count i page at : ℕ) (bytes : List ℕ) (s : Segment) (after : List ℕ) (total : Result (List Segment) ImageError) → i < count → segment_at page at bytes ≡ Ok (s, after)
-    → with_front front (segments_at (count - i) page at bytes) ≡ total → with_front (front ++ s ∷ []) (segments_at (count - (i + 1)) (last_page s + 1) (at + (9 + length s.content)) after) ≡ total
+pub goes_on : (format : Format) (front : List Segment) (count i page at : ℕ) (bytes : List ℕ) (s : Segment) (after : List ℕ) (total : Result (List Segment) ImageError) → i < count → segment_at format page at bytes ≡ Ok (s, after)
+    → with_front front (segments_at format (count - i) page at bytes) ≡ total → with_front (front ++ s ∷ []) (segments_at format (count - (i + 1)) (last_page s + 1) (at + (9 + length s.content)) after) ≡ total
 unfolding segments_at
-goes_on front count i page at bytes s after total lt h so_far =
+goes_on format front count i page at bytes s after total lt h so_far =
     let k : count - i ≡ suc (count - (i + 1)) = omega arith in
     let place : at + (9 + length s.content) ≡ at + 9 + length s.content = omega arith in
-    let one : with_front front (segments_at (count - i) page at bytes) ≡ with_front (front ++ s ∷ []) (segments_at (count - (i + 1)) (last_page s + 1) (at + (9 + length s.content)) after) =
-    rw (place, k, h) (regroup front s (segments_at (count - (i + 1)) (last_page s + 1) (at + 9 + length s.content) after)) in
+    let one : with_front front (segments_at format (count - i) page at bytes) ≡ with_front (front ++ s ∷ []) (segments_at format (count - (i + 1)) (last_page s + 1) (at + (9 + length s.content)) after) =
+    rw (place, k, h) (regroup front s (segments_at format (count - (i + 1)) (last_page s + 1) (at + 9 + length s.content) after)) in
     sym one ∙ so_far
 
-pub ends : (e : ImageFault) (front : List Segment) (count i page at : ℕ) (bytes : List ℕ) (total : Result (List Segment) ImageError) → i < count → Fails e (segment_at page at bytes)
-    → with_front front (segments_at (count - i) page at bytes) ≡ total → Fails e total
+pub ends : (format : Format) (e : Fault ImageError) (front : List Segment) (count i page at : ℕ) (bytes : List ℕ) (total : Result (List Segment) ImageError) → i < count → Fails e (segment_at format page at bytes)
+    → with_front front (segments_at format (count - i) page at bytes) ≡ total → Fails e total
 unfolding segments_at
-ends faults.Memory front count i page at bytes total lt h so_far = tt
-ends (faults.Bad f) front count i page at bytes total lt h so_far =
+ends format faults.Memory front count i page at bytes total lt h so_far = tt
+ends format (faults.Bad f) front count i page at bytes total lt h so_far =
     let k : count - i ≡ suc (count - (i + 1)) = omega arith in
-    let one : with_front front (segments_at (count - i) page at bytes) ≡ Err f = rw (k, h) refl in
+    let one : with_front front (segments_at format (count - i) page at bytes) ≡ Err f = rw (k, h) refl in
     sym so_far ∙ one
 
-pub is_done : (front : List Segment) (count i page at : ℕ) (bytes : List ℕ) (total : Result (List Segment) ImageError) → count ≤ i → length bytes ≡ 0 → with_front front (segments_at (count - i) page at bytes) ≡ total → total ≡ Ok front
+pub is_done : (format : Format) (front : List Segment) (count i page at : ℕ) (bytes : List ℕ) (total : Result (List Segment) ImageError) → count ≤ i → length bytes ≡ 0 → with_front front (segments_at format (count - i) page at bytes) ≡ total → total ≡ Ok front
 unfolding segments_at
-is_done front count i page at [] total le none so_far =
+is_done format front count i page at [] total le none so_far =
     let k : count - i ≡ 0 = omega arith in
-    let one : with_front front (segments_at (count - i) page at []) ≡ Ok front = rw k (ap (λ (ns : List Segment). Ok ns) (append-nil front)) in
+    let one : with_front front (segments_at format (count - i) page at []) ≡ Ok front = rw k (ap (λ (ns : List Segment). Ok ns) (append-nil front)) in
     sym so_far ∙ one
-is_done front count i page at (b ∷ bytes) total le none so_far = absurd (omega (arith, none))
+is_done format front count i page at (b ∷ bytes) total le none so_far = absurd (omega (arith, none))
 
-pub is_trailing : (front : List Segment) (count i page at : ℕ) (bytes : List ℕ) (total : Result (List Segment) ImageError) → count ≤ i → 0 < length bytes → with_front front (segments_at (count - i) page at bytes) ≡ total → total ≡ fault at Trailing
+pub is_trailing : (format : Format) (front : List Segment) (count i page at : ℕ) (bytes : List ℕ) (total : Result (List Segment) ImageError) → count ≤ i → 0 < length bytes → with_front front (segments_at format (count - i) page at bytes) ≡ total → total ≡ fault at Trailing
 unfolding segments_at
-is_trailing front count i page at [] total le some so_far = absurd (omega (arith, some))
-is_trailing front count i page at (b ∷ bytes) total le some so_far =
+is_trailing format front count i page at [] total le some so_far = absurd (omega (arith, some))
+is_trailing format front count i page at (b ∷ bytes) total le some so_far =
     let k : count - i ≡ 0 = omega arith in
-    let one : with_front front (segments_at (count - i) page at (b ∷ bytes)) ≡ fault at Trailing = rw k refl in
+    let one : with_front front (segments_at format (count - i) page at (b ∷ bytes)) ≡ fault at Trailing = rw k refl in
     sym so_far ∙ one
 
 -- the page from which a next segment may begin

@@ -8,7 +8,7 @@ use std::marker::Model;
 pub struct Segment {
     /// The address of the first byte.
     pub addr: u32,
-    /// From 0 to 3: 1 allows reading and fetching, 2 writing.
+    /// From 0 to 7: 1 allows reading, 2 writing, 4 executing.
     pub perm: u8,
     /// At least one byte, and fewer than 2^32.
     pub bytes: Vec<u8>,

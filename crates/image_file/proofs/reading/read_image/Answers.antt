@@ -2,7 +2,7 @@ use Rattle.std.proofs.Common.{Result, subst, arith}
 use Rattle.image_model.specs.declared.error.ImageError.{ImageError}
 use Rattle.image_model.specs.Image as model
 use Rattle.image_model.proofs.Images.{image_reads}
-use Rattle.image_file.specs.Gives.{Gives}
+use Rattle.fault_model.specs.Gives.{Gives}
 use Rattle.image_file.proofs.Found.{is_found}
 use Rattle.image_file.proofs.reading.read_image.Goals as goal
 

@@ -7,7 +7,7 @@ use Rattle.image_file.proofs.reading.segments_of.Given as goal
 
 abbrev pub invariant-loop : goal.invariant-loop
 invariant-loop l = record {
-  read : with_front (segment_views l.parts.items) (segments_at (l.count - l.counter) l.page l.at l.rest) ≡ segments_at l.count 0 14 l.bytes;
+  read : with_front (segment_views l.parts.items) (segments_at l.format (l.count - l.counter) l.page l.at l.rest) ≡ segments_at l.format l.count 0 14 l.bytes;
   sound : AreSegments 0 (segment_views l.parts.items);
   page : l.page ≡ page_after 0 (segment_views l.parts.items);
   len : vec_len l.parts ≡ l.counter;
