@@ -1,12 +1,13 @@
 ghost use Rattle.std.specs.Prelude.{◌≡◌, ℕ, OnOk, IfOk, IfErr, Ok, Err};
-ghost use Rattle.dev_script.specs.Gives.{Gives, NamesRefused};
+ghost use Rattle.fault_model.specs.Gives.{Gives};
+ghost use Rattle.dev_script.specs.Refused.{NamesRefused};
 ghost use Rattle.dev_script.specs.View.{item_view, no_devices, script_view, with_item};
 ghost use Rattle.device_model.specs.Devices as model;
 ghost use Rattle.script_model.specs.Reading.{script_of};
 ghost use Rattle.script_model.specs.Script.{ScriptOf, IsFirstRefused};
 
 use crate::devices::Devices;
-use crate::fault::ScriptFault;
+use crate::fault::{ScriptFault, bad};
 use crate::item::{Item, item_of};
 use std::alloc::{AllocError, Global};
 use std::collections::VecDeque;
@@ -54,7 +55,7 @@ fn lines_of(alloc: Global, bytes: &[u8]) -> Result<Script, ScriptFault>
         let (line, after) = first_line(rest);
         match item_of(alloc, line)? {
             Some(item) => add(&mut script, item)?,
-            None => return Err(ScriptFault::bad(number)),
+            None => return Err(bad(number)),
         }
         number += 1;
         rest = after;

@@ -2,7 +2,7 @@ use Rattle.std.proofs.Common.{Result, subst}
 use Rattle.script_model.specs.declared.error.ScriptError.{ScriptError}
 use Rattle.device_model.specs.Devices.{Devices}
 use Rattle.script_model.proofs.Scripts.{script_again, refused_again}
-use Rattle.dev_script.specs.Gives.{Gives}
+use Rattle.fault_model.specs.Gives.{Gives}
 use Rattle.dev_script.proofs.Found.{is_found, is_named}
 use Rattle.dev_script.proofs.reading.read_script.Goals as goal
 
