@@ -21,7 +21,7 @@ unfolding schedule_of items_of lines_with_returns
 no_lines = refl
 
 -- the first line that is refused is named
-pub third_line : schedule_of (codes "/\n\n/1/x\nworse") ≡ Err 3
+pub third_line : schedule_of (codes "/\n\n/1/x\nworse") ≡ Err (record { line = 3 })
 unfolding schedule_of items_of item_of path_of numbers_of number_of lines_with_returns
 third_line = refl
 

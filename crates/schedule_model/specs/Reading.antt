@@ -4,6 +4,7 @@
 use Rattle.std.specs.Prelude.{ℕ, ◌==◌, nat_le, List, [], ◌∷◌, length, Option, Some, None, option_map, Result, if◌then◌else◌}
 use Rattle.std.specs.List.{slice_split}
 use Rattle.call_model.specs.Limits.{greatest_child, greatest_depth}
+use Rattle.schedule_model.specs.declared.error.ScheduleError.{ScheduleError}
 use Rattle.schedule_model.specs.Schedule.{Item, Nothing, Next, most_digits, paths_from}
 use Rattle.text_lines.specs.Reading.{number_of, value_of}
 
@@ -38,5 +39,5 @@ item_of (b ∷ bs) = if b == 35 then Some Nothing else if b == 47 then option_ma
 -- ---- all lines
 
 -- the paths of a schedule, or the first line that is refused
-unfoldable pub schedule_of : List ℕ → Result (List (List ℕ)) ℕ
-schedule_of bytes = value_of item_of paths_from (λ number. number) bytes
+unfoldable pub schedule_of : List ℕ → Result (List (List ℕ)) ScheduleError
+schedule_of bytes = value_of item_of paths_from (λ number. record { line = number }) bytes

@@ -11,7 +11,7 @@ pub fn reads_exactly_schedules()
 
 /// The line that is named is the first one that says nothing known.
 pub fn names_the_first_refused_line()
-    ensures { (bytes : List ℕ) (n : ℕ) → schedule_of bytes ≡ Err n ↔ IsFirstRefused bytes n }
+    ensures { (bytes : List ℕ) (n : ℕ) → schedule_of bytes ≡ Err (record { line = n }) ↔ IsFirstRefused bytes n }
 {}
 
 /// A line is named exactly where the bytes are no schedule.
