@@ -9,6 +9,7 @@ use Rattle.script_model.specs.declared.error.ScriptError.{ScriptError}
 use Rattle.device_model.specs.Devices.{Devices}
 use Rattle.script_model.specs.Script.{devices_from}
 use Rattle.script_model.specs.Reading.{script_of}
+use Rattle.schedule_model.specs.declared.error.ScheduleError.{ScheduleError}
 use Rattle.schedule_model.specs.Reading.{schedule_of}
 use Rattle.bench_model.specs.Generated.{generated}
 use Rattle.space_model.specs.Space.{Space, top_of}
@@ -27,7 +28,7 @@ abbrev pub read_or : {A E : Type 0} → (E → End) → Result A E → Result A 
 read_or end (Ok value) = Ok value
 read_or end (Err fault) = Err (end fault)
 
--- The image of a file's bytes, or the end that refuses them. The first bytes say the format; today there is one, DTI1, which refuses all others.
+-- The image of a file's bytes, or the end that refuses them. The first bytes say the format, DTI1 or DTI2.
 abbrev pub image_of_file : List ℕ → Result Image End
 image_of_file bytes = read_or (λ e. BadImage e) (image_of bytes)
 
@@ -35,7 +36,7 @@ abbrev pub devices_of_file : List ℕ → Result Devices End
 devices_of_file bytes = read_or (λ (e : ScriptError). BadScript e) (script_of bytes)
 
 abbrev pub paths_of_file : List ℕ → Result (List (List ℕ)) End
-paths_of_file bytes = read_or (λ line. BadSchedule line) (schedule_of bytes)
+paths_of_file bytes = read_or (λ (e : ScheduleError). BadSchedule e) (schedule_of bytes)
 
 abbrev pub image_of_source : List ℕ → Result Image End
 image_of_source bytes = read_or (λ e. BadSource e) (source_of bytes)

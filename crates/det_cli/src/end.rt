@@ -1,6 +1,7 @@
 ghost use Rattle.std.specs.Prelude.{◌≡◌};
 ghost use Rattle.det_cli.specs.Status.{status_of};
 
+use det_core::ScheduleError;
 use dev_script::ScriptError;
 use image_file::ImageError;
 use rv_asm::AsmError;
@@ -18,8 +19,8 @@ pub enum End {
     BadImage(ImageError),
     /// There is room for the bytes of the script, and they are no script; with its first line that is refused.
     BadScript(ScriptError),
-    /// There is room for the bytes of the schedule, and they are no schedule; with the first line that is refused.
-    BadSchedule { line: u64 },
+    /// There is room for the bytes of the schedule, and they are no schedule; with its first line that is refused.
+    BadSchedule(ScheduleError),
     /// There is room for the bytes of the source, and they are no source; with its first fault.
     BadSource(AsmError),
     /// A file has more bytes than there is room for; `read` is one more than the room.
@@ -42,7 +43,7 @@ pub fn status(end: &End) -> u8
         End::Usage => 2,
         End::BadImage(_)
         | End::BadScript(_)
-        | End::BadSchedule { .. }
+        | End::BadSchedule(_)
         | End::BadSource(_)
         | End::TooLarge { .. } => 3,
         End::ReadFault => 4,

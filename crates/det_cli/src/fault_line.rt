@@ -16,14 +16,8 @@ fn line_text(alloc: Global, end: &End) -> Result<String, AllocError>
         End::Ret | End::Trapped => Ok(String::new(alloc)),
         End::Usage => format!(in alloc; "det: usage: run|walk|asm|bench\n"),
         End::BadImage(e) => format!(in alloc; "det: image: {e}\n"),
-        End::BadScript(e) => {
-            let line = e.line;
-            format!(in alloc; "det: script: line {line}\n")
-        }
-        End::BadSchedule { line } => {
-            let line = *line;
-            format!(in alloc; "det: schedule: line {line}\n")
-        }
+        End::BadScript(e) => format!(in alloc; "det: script: {e}\n"),
+        End::BadSchedule(e) => format!(in alloc; "det: schedule: {e}\n"),
         End::BadSource(e) => {
             let line = e.line;
             let kind = e.kind.name();

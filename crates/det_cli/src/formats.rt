@@ -36,7 +36,7 @@ pub(crate) trait FileFormat: Drop + Sized {
     ghost small: { ROOM < 2 ^ 32 };
 }
 
-// The first bytes say the format, of which there is one.
+// The first bytes say the format.
 impl FileFormat for Image {
     const ROOM: u64 = IMAGE_ROOM;
 
@@ -93,7 +93,7 @@ impl FileFormat for Vec<Path> {
     fn read(alloc: Global, bytes: &[u8]) -> Result<Vec<Path>, End> {
         match read_schedule(alloc, bytes) {
             Ok(paths) => Ok(paths),
-            Err(ScheduleFault::Bad { line }) => Err(End::BadSchedule { line }),
+            Err(ScheduleFault::Bad(e)) => Err(End::BadSchedule(e)),
             Err(ScheduleFault::Memory) => Err(End::NoMemory),
         }
     }
@@ -119,7 +119,7 @@ impl FileFormat for Assembled {
     fn read(alloc: Global, bytes: &[u8]) -> Result<Assembled, End> {
         match assemble(alloc, bytes) {
             Ok(image) => Ok(Assembled { image }),
-            Err(AsmFault::Source(e)) => Err(End::BadSource(e)),
+            Err(AsmFault::Bad(e)) => Err(End::BadSource(e)),
             Err(AsmFault::Memory) => Err(End::NoMemory),
         }
     }

@@ -1,10 +1,11 @@
 ghost use Rattle.std.specs.Prelude.{◌≡◌, ◌++◌, ℕ, List, OnOk, IfOk, IfErr, Ok, Err};
-ghost use Rattle.det_core.specs.Gives.{Gives, NamesRefused};
+ghost use Rattle.fault_model.specs.Gives.{Gives};
+ghost use Rattle.det_core.specs.Refused.{NamesRefused};
 ghost use Rattle.det_core.specs.View.{item_view, path_views};
 ghost use Rattle.schedule_model.specs.Reading.{schedule_of};
 ghost use Rattle.schedule_model.specs.Schedule.{paths_in, ScheduleOf, IsFirstRefused};
 
-use crate::schedule_fault::ScheduleFault;
+use crate::schedule_fault::{ScheduleFault, bad};
 use crate::schedule_line::{Item, item_of};
 use space_tree::Path;
 use std::alloc::{AllocError, Global};
@@ -31,7 +32,7 @@ fn paths_of(alloc: Global, bytes: &[u8]) -> Result<Vec<Path>, ScheduleFault>
         let (line, after) = first_line(rest);
         match item_of(line) {
             Some(item) => add(&mut paths, item)?,
-            None => return Err(ScheduleFault::Bad { line: number }),
+            None => return Err(bad(number)),
         }
         number += 1;
         rest = after;
@@ -50,7 +51,7 @@ pub fn read_schedule(alloc: Global, bytes: &[u8]) -> Result<Vec<Path>, ScheduleF
     // The line that is named is the first one that is refused.
     ensures named { IfErr result (λ e. NamesRefused e bytes.now) }
     // The first line that is refused is named, unless memory runs out.
-    ensures refused { (n : ℕ) → IsFirstRefused bytes.now n → Gives (λ found. path_views found.items) result (Err n) }
+    ensures refused { (n : ℕ) → IsFirstRefused bytes.now n → Gives (λ found. path_views found.items) result (Err (record { line = n })) }
     // The same as a function of the bytes.
     ensures exact { Gives (λ found. path_views found.items) result (schedule_of bytes.now) }
 {

@@ -15,7 +15,7 @@ pub returns-in-None : goal.returns-in-None
 unfolding schedule_of
 returns-in-None c =
     let refused : item_of c.first_line.result.0.now ≡ None = sym c.item_of.ensures ∙ ap (option_map item_view) c.in-None.is in
-    rw (ends item_of c.loop-rest.number c.loop-rest.invariant.front c.loop-rest.rest.now c.first_line.result.0.now c.first_line.result.1.now _ c.first_line.ensures.lines refused c.loop-rest.invariant.so_far) refl
+    rw (c.bad.ensures, ends item_of c.loop-rest.number c.loop-rest.invariant.front c.loop-rest.rest.now c.first_line.result.0.now c.first_line.result.1.now _ c.first_line.ensures.lines refused c.loop-rest.invariant.so_far) refl
 
 pub loop-rest-preserved : goal.loop-rest-preserved
 loop-rest-preserved c =
