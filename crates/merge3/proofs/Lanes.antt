@@ -16,23 +16,53 @@ differs a b = cond (other a b) 255 0
 abbrev pub both : List ℕ → List ℕ → List ℕ → List ℕ
 both s c p = zip2 bit_and (zip2 differs c s) (zip2 differs p s)
 
-one_lane : (b d : Bool) → ◌≡◌ {A = ℕ} (cond (top 7 (bit_and (cond b 255 0) (cond d 255 0))) 1 0) 0 → b && d ≡ false
+-- the lanes in conflict
+abbrev pub conflicts : Bool → List ℕ → List ℕ → List ℕ → List ℕ
+conflicts true s c p = zip2 bit_and (both s c p) (zip2 differs c p)
+conflicts false s c p = both s c p
+
+-- a byte in conflict
+abbrev in_conflict : Bool → ℕ → ℕ → ℕ → Bool
+in_conflict agree s c p = other c s && other p s && not (agree && eqb c p)
+
+one_lane : (b d : Bool) → ◌≡◌ {A = ℕ} (cond (top 7 (bit_and (cond b 255 0) (cond d 255 0))) 1 0) 0 → b && d && true ≡ false
 one_lane true true e = absurd (omega arith)
 one_lane true false e = refl
 one_lane false d e = refl
 
-none_both : (s c p : List ℕ) → length c ≡ length s → length p ≡ length s → mask_l (map (top 7) (both s c p)) ≡ 0 → (i : ℕ) → i < length s
-    → other (get_or c i 0) (get_or s i 0) && other (get_or p i 0) (get_or s i 0) ≡ false
-none_both [] c p lc lp e i below = absurd (omega arith)
-none_both (x ∷ xs) [] p lc lp e i below = absurd (omega arith)
-none_both (x ∷ xs) (y ∷ ys) [] lc lp e i below = absurd (omega arith)
-none_both (x ∷ xs) (y ∷ ys) (z ∷ zs) lc lp e zero below = one_lane (other y x) (other z x) (omega arith)
-none_both (x ∷ xs) (y ∷ ys) (z ∷ zs) lc lp e (suc i) below = none_both xs ys zs (omega arith) (omega arith) (omega arith) i (omega arith)
+agreeing_lane : (b d f : Bool) → ◌≡◌ {A = ℕ} (cond (top 7 (bit_and (bit_and (cond b 255 0) (cond d 255 0)) (cond (not f) 255 0))) 1 0) 0 → b && d && not f ≡ false
+agreeing_lane true true true e = refl
+agreeing_lane true true false e = absurd (omega arith)
+agreeing_lane true false f e = refl
+agreeing_lane false d f e = refl
 
--- where the mask is empty there is no conflict
-pub none_in_lanes : (s c p : List ℕ) (at : ℕ) → at + 64 ≤ length s → at + 64 ≤ length c → at + 64 ≤ length p
-    → mask_l (map (top 7) (both (chunk at 64 s) (chunk at 64 c) (chunk at 64 p))) % 2 ^ 64 ≡ 0 → NoneInConflictFrom s c p at (at + 64)
-none_in_lanes s c p at room_s room_c room_p empty k from to =
+none_in_each : (agree : Bool) (s c p : List ℕ) → length c ≡ length s → length p ≡ length s → mask_l (map (top 7) (conflicts agree s c p)) ≡ 0 → (i : ℕ) → i < length s
+    → in_conflict agree (get_or s i 0) (get_or c i 0) (get_or p i 0) ≡ false
+none_in_each agree [] c p lc lp e i below = absurd (omega arith)
+none_in_each agree (x ∷ xs) [] p lc lp e i below = absurd (omega arith)
+none_in_each agree (x ∷ xs) (y ∷ ys) [] lc lp e i below = absurd (omega arith)
+none_in_each true (x ∷ xs) (y ∷ ys) (z ∷ zs) lc lp e zero below = agreeing_lane (other y x) (other z x) (eqb y z) (omega arith)
+none_in_each false (x ∷ xs) (y ∷ ys) (z ∷ zs) lc lp e zero below = one_lane (other y x) (other z x) (omega arith)
+none_in_each true (x ∷ xs) (y ∷ ys) (z ∷ zs) lc lp e (suc i) below = none_in_each true xs ys zs (omega arith) (omega arith) (omega arith) i (omega arith)
+none_in_each false (x ∷ xs) (y ∷ ys) (z ∷ zs) lc lp e (suc i) below = none_in_each false xs ys zs (omega arith) (omega arith) (omega arith) i (omega arith)
+
+long_both : (s c p : List ℕ) → length c ≡ length s → length p ≡ length s → length (both s c p) ≡ length s
+long_both s c p lc lp =
+    let first = length-zip2 differs c s lc ∙ lc in
+    let second = length-zip2 differs p s lp ∙ lp in
+    length-zip2 bit_and (zip2 differs c s) (zip2 differs p s) (first ∙ sym second) ∙ first
+
+long_conflicts : (agree : Bool) (s c p : List ℕ) → length c ≡ length s → length p ≡ length s → length (conflicts agree s c p) ≡ length s
+long_conflicts true s c p lc lp =
+    let first = long_both s c p lc lp in
+    let second = length-zip2 differs c p (lc ∙ sym lp) ∙ lc in
+    length-zip2 bit_and (both s c p) (zip2 differs c p) (first ∙ sym second) ∙ first
+long_conflicts false s c p lc lp = long_both s c p lc lp
+
+-- where the mask of lanes in conflict is empty there is none
+pub none_in_lanes : (agree : Bool) (s c p lanes : List ℕ) (at : ℕ) → at + 64 ≤ length s → at + 64 ≤ length c → at + 64 ≤ length p
+    → lanes ≡ conflicts agree (chunk at 64 s) (chunk at 64 c) (chunk at 64 p) → mask_l (map (top 7) lanes) % 2 ^ 64 ≡ 0 → NoneInConflictFrom agree s c p at (at + 64)
+none_in_lanes agree s c p lanes at room_s room_c room_p are empty k from to =
     let xs = chunk at 64 s in
     let ys = chunk at 64 c in
     let zs = chunk at 64 p in
@@ -42,16 +72,13 @@ none_in_lanes s c p at room_s room_c room_p empty k from to =
     let ls = length-chunk at 64 s room_s in
     let ly = length-chunk at 64 c room_c in
     let lz = length-chunk at 64 p room_p in
-    let first = length-zip2 differs ys xs (ly ∙ sym ls) in
-    let second = length-zip2 differs zs xs (lz ∙ sym ls) in
-    let all = length-zip2 bit_and (zip2 differs ys xs) (zip2 differs zs xs) (first ∙ ly ∙ sym (second ∙ lz)) in
-    let lanes = map (top 7) (both xs ys zs) in
-    let many : length lanes ≡ 64 = length-map (both xs ys zs) (top 7) ∙ all ∙ first ∙ ly in
-    let clear = sym (mask_l-mod lanes 64 (omega (arith, many))) ∙ empty in
+    let tests = map (top 7) (conflicts agree xs ys zs) in
+    let many : length tests ≡ 64 = length-map (conflicts agree xs ys zs) (top 7) ∙ long_conflicts agree xs ys zs (ly ∙ sym ls) (lz ∙ sym ls) ∙ ls in
+    let clear = sym (mask_l-mod tests 64 (omega (arith, many))) ∙ ap (λ l. mask_l (map (top 7) l) % 2 ^ 64) (sym are) ∙ empty in
     let es = get_or-chunk at 64 s i 0 small ∙ ap (λ j. get_or s j 0) back in
     let ec = get_or-chunk at 64 c i 0 small ∙ ap (λ j. get_or c j 0) back in
     let ep = get_or-chunk at 64 p i 0 small ∙ ap (λ j. get_or p j 0) back in
-    sym (λ j. other (ec j) (es j) && other (ep j) (es j)) ∙ none_both xs ys zs (ly ∙ sym ls) (lz ∙ sym ls) clear i (omega (arith, ls))
+    sym (λ j. in_conflict agree (es j) (ec j) (ep j)) ∙ none_in_each agree xs ys zs (ly ∙ sym ls) (lz ∙ sym ls) clear i (omega (arith, ls))
 
 same_lane : (a b : ℕ) → ◌≡◌ {A = ℕ} (cond (top 7 (differs a b)) 1 0) 0 → a ≡ b
 same_lane a b = go (eqb a b) refl

@@ -16,20 +16,22 @@ const LANES: usize = 64;
 const GROUPS: usize = SIZE / LANES;
 
 /// Merges a page: `out` has at each offset the child's byte where it differs from the snapshot's, else the parent's (OSDI 2010,
-/// the section on reconciling memory). The error is the least offset, below 4,096, at which both the child's byte and the
-/// parent's differ from the snapshot's, equal to one another or not; `out` is as it was then. It takes no memory.
+/// the section on reconciling memory). The error is the least offset, below 4,096, that is in conflict; `out` is as it was then.
+/// An offset is in conflict where both the child's byte and the parent's differ from the snapshot's; with `agree`, only where
+/// they differ from one another as well. It takes no memory.
 pub fn merge_page(
     snapshot: &[u8; SIZE],
     child: &[u8; SIZE],
     parent: &[u8; SIZE],
     out: &mut [u8; SIZE],
+    agree: bool,
 ) -> Result<(), u16>
     ensures ok { OnOk result (IsMergeBelow snapshot.now child.now parent.now out.new page_size) }
-    ensures sure { OnOk result (NoneInConflict snapshot.now child.now parent.now page_size) }
-    ensures conflict { IfErr result (IsFirstConflict snapshot.now child.now parent.now) }
+    ensures sure { OnOk result (NoneInConflict agree snapshot.now child.now parent.now page_size) }
+    ensures conflict { IfErr result (IsFirstConflict agree snapshot.now child.now parent.now) }
     ensures err { OnErr result (out.new ≡ out.old) }
 {
-    match first_conflict(snapshot, child, parent) {
+    match first_conflict(snapshot, child, parent, agree) {
         Some(offset) => Err(offset),
         None => {
             merge_bytes(snapshot, child, parent, out);
@@ -63,48 +65,58 @@ fn differ(a: &[u8], b: &[u8], at: usize) -> bool
     x.simd_ne(y).to_bitmask() != 0
 }
 
-// The least offset at which both sides differ from the snapshot.
-fn first_conflict(snapshot: &[u8; SIZE], child: &[u8; SIZE], parent: &[u8; SIZE]) -> Option<u16>
-    ensures some { IfSome result (IsFirstConflict snapshot.now child.now parent.now) }
-    ensures none { IsNone result → NoneInConflict snapshot.now child.now parent.now page_size }
+// The least offset that is in conflict.
+fn first_conflict(
+    snapshot: &[u8; SIZE],
+    child: &[u8; SIZE],
+    parent: &[u8; SIZE],
+    agree: bool,
+) -> Option<u16>
+    ensures some { IfSome result (IsFirstConflict agree snapshot.now child.now parent.now) }
+    ensures none { IsNone result → NoneInConflict agree snapshot.now child.now parent.now page_size }
 {
     for group in 0..GROUPS {
         let at = LANES * group;
-        if may_conflict(snapshot, child, parent, at) {
-            return first_conflict_from(snapshot, child, parent, at);
+        if may_conflict(snapshot, child, parent, agree, at) {
+            return first_conflict_from(snapshot, child, parent, agree, at);
         }
     }
     None
 }
 
-// Whether both sides differ from the snapshot at one of the lanes from an offset on.
+// Whether one of the lanes from an offset on is in conflict.
 #[inline(always)]
-fn may_conflict(snapshot: &[u8], child: &[u8], parent: &[u8], at: usize) -> bool
+fn may_conflict(snapshot: &[u8], child: &[u8], parent: &[u8], agree: bool, at: usize) -> bool
     requires snapshot { at + 64 ≤ length snapshot.now }
     requires child { at + 64 ≤ length child.now }
     requires parent { at + 64 ≤ length parent.now }
-    ensures { IsFalse result → NoneInConflictFrom snapshot.now child.now parent.now at (at + 64) }
+    ensures { IsFalse result → NoneInConflictFrom agree snapshot.now child.now parent.now at (at + 64) }
 {
     let s = u8x64::from_slice(&snapshot[at..]);
     let c = u8x64::from_slice(&child[at..]);
     let p = u8x64::from_slice(&parent[at..]);
     let both = c.simd_ne(s) & p.simd_ne(s);
-    both.to_bitmask() != 0
+    let conflicts = if agree { both & c.simd_ne(p) } else { both };
+    conflicts.to_bitmask() != 0
 }
 
-// The least offset at which both sides differ from the snapshot, where there is none before `from`.
+// The least offset that is in conflict, where there is none before `from`.
 fn first_conflict_from(
     snapshot: &[u8; SIZE],
     child: &[u8; SIZE],
     parent: &[u8; SIZE],
+    agree: bool,
     from: usize,
 ) -> Option<u16>
-    requires { NoneInConflict snapshot.now child.now parent.now from }
-    ensures some { IfSome result (IsFirstConflict snapshot.now child.now parent.now) }
-    ensures none { IsNone result → NoneInConflict snapshot.now child.now parent.now page_size }
+    requires { NoneInConflict agree snapshot.now child.now parent.now from }
+    ensures some { IfSome result (IsFirstConflict agree snapshot.now child.now parent.now) }
+    ensures none { IsNone result → NoneInConflict agree snapshot.now child.now parent.now page_size }
 {
     for k in from..SIZE {
-        if child[k] != snapshot[k] && parent[k] != snapshot[k] {
+        if child[k] != snapshot[k]
+            && parent[k] != snapshot[k]
+            && !(agree && child[k] == parent[k])
+        {
             return Some(k as u16);
         }
     }
