@@ -1,5 +1,5 @@
 -- Addresses in conflict, by page and by byte.
-use Rattle.std.specs.Prelude.{◌≡◌, ℕ, ◌+◌, ◌*◌, ◌-◌, ◌<◌, ◌≤◌, ◌==◌, not, ◌&&◌, List, if◌then◌else◌}
+use Rattle.std.specs.Prelude.{◌≡◌, ℕ, ◌+◌, ◌*◌, ◌-◌, ◌<◌, ◌≤◌, ◌==◌, Bool, not, ◌&&◌, List, if◌then◌else◌}
 use Rattle.std.proofs.Common.{sym, ◌∙◌, ap, arith, inl, inr, eq-eqb}
 use Rattle.std.proofs.lemmas.Bool.{cases_lt}
 use Rattle.memory_model.specs.Memory.{Memory, byte_at}
@@ -12,25 +12,25 @@ use Rattle.snapshot.specs.declared.fault.MergeError.TheVariants.{Conflict, Memor
 use Rattle.snapshot.specs.Faults.{IsConflictAt, MayFail}
 use Rattle.snapshot.specs.Pages.{IsFirstConflict, IsMergedPage, NoneInConflict, SameBytes}
 
-pub conflict_at : (s c p : Memory) (page : ℕ) (xs ys zs : List ℕ) → IsPageOf s page xs → IsPageOf c page ys → IsPageOf p page zs → (k : ℕ) → k < 4096 → model.is_conflict s c p (4096 * page + k) ≡ bytes.is_conflict xs ys zs k
-conflict_at s c p page xs ys zs hs hc hp k below =
+pub conflict_at : (agree : Bool) (s c p : Memory) (page : ℕ) (xs ys zs : List ℕ) → IsPageOf s page xs → IsPageOf c page ys → IsPageOf p page zs → (k : ℕ) → k < 4096 → model.is_conflict agree s c p (4096 * page + k) ≡ bytes.is_conflict agree xs ys zs k
+conflict_at agree s c p page xs ys zs hs hc hp k below =
     let a = hs.byte k below in
     let b = hc.byte k below in
     let d = hp.byte k below in
-    λ i. not (b i == a i) && not (d i == a i)
+    λ i. not (b i == a i) && not (d i == a i) && not (agree && b i == d i)
 
-pub none_in_page : (s c p : Memory) (page : ℕ) (xs ys zs : List ℕ) (end to : ℕ) → IsPageOf s page xs → IsPageOf c page ys → IsPageOf p page zs → bytes.NoneInConflict xs ys zs end → end ≤ 4096 → to ≤ 4096 * page + end → NoneInConflict s c p (4096 * page) to
-none_in_page s c p page xs ys zs end to hs hc hp agree within le a above below =
+pub none_in_page : (agree : Bool) (s c p : Memory) (page : ℕ) (xs ys zs : List ℕ) (end to : ℕ) → IsPageOf s page xs → IsPageOf c page ys → IsPageOf p page zs → bytes.NoneInConflict agree xs ys zs end → end ≤ 4096 → to ≤ 4096 * page + end → NoneInConflict agree s c p (4096 * page) to
+none_in_page agree s c p page xs ys zs end to hs hc hp none within le a above below =
     let k = a - 4096 * page in
     let e : a ≡ 4096 * page + k = omega arith in
-    ap (model.is_conflict s c p) e ∙ conflict_at s c p page xs ys zs hs hc hp k (omega arith) ∙ agree k (omega arith)
+    ap (model.is_conflict agree s c p) e ∙ conflict_at agree s c p page xs ys zs hs hc hp k (omega arith) ∙ none k (omega arith)
 
-pub first_in_page : (s c p : Memory) (page : ℕ) (xs ys zs : List ℕ) (k : ℕ) → IsPageOf s page xs → IsPageOf c page ys → IsPageOf p page zs → bytes.IsFirstConflict xs ys zs k → IsFirstConflict s c p page (4096 * page + k)
-first_in_page s c p page xs ys zs k hs hc hp found = record {
+pub first_in_page : (agree : Bool) (s c p : Memory) (page : ℕ) (xs ys zs : List ℕ) (k : ℕ) → IsPageOf s page xs → IsPageOf c page ys → IsPageOf p page zs → bytes.IsFirstConflict agree xs ys zs k → IsFirstConflict agree s c p page (4096 * page + k)
+first_in_page agree s c p page xs ys zs k hs hc hp found = record {
   above = omega arith;
   below = omega (arith, found.within);
-  here = conflict_at s c p page xs ys zs hs hc hp k found.within ∙ found.here;
-  least = none_in_page s c p page xs ys zs k (4096 * page + k) hs hc hp found.least (omega (arith, found.within)) (omega arith);
+  here = conflict_at agree s c p page xs ys zs hs hc hp k found.within ∙ found.here;
+  least = none_in_page agree s c p page xs ys zs k (4096 * page + k) hs hc hp found.least (omega (arith, found.within)) (omega arith);
 }
 
 pub merged_in_page : (s c p : Memory) (page : ℕ) (xs ys zs out : List ℕ) → IsPageOf s page xs → IsPageOf c page ys → IsPageOf p page zs → bytes.IsMergeBelow xs ys zs out 4096 → IsMergedPage s c p page out
@@ -41,19 +41,19 @@ merged_in_page s c p page xs ys zs out hs hc hp merged k below =
     merged k below ∙ sym (λ i. if not (b i == a i) then b i else d i)
 
 -- where the child changed nothing there is no conflict
-pub none_unchanged : (s c p : Memory) (first end : ℕ) → SameBytes c s first end → NoneInConflict s c p (4096 * first) (4096 * end)
-none_unchanged s c p first end same a above below =
-    ap (λ b. not b && model.is_changed s p a) (eq-eqb (byte_at c a) (byte_at s a) (same a above below))
+pub none_unchanged : (agree : Bool) (s c p : Memory) (first end : ℕ) → SameBytes c s first end → NoneInConflict agree s c p (4096 * first) (4096 * end)
+none_unchanged agree s c p first end same a above below =
+    ap (λ b. not b && model.is_changed s p a && not (agree && byte_at c a == byte_at p a)) (eq-eqb (byte_at c a) (byte_at s a) (same a above below))
 
-pub none_join : (s c p : Memory) (x y z : ℕ) → NoneInConflict s c p x y → NoneInConflict s c p y z → NoneInConflict s c p x z
-none_join s c p x y z before after a above below = elim (cases_lt a y) [
+pub none_join : (agree : Bool) (s c p : Memory) (x y z : ℕ) → NoneInConflict agree s c p x y → NoneInConflict agree s c p y z → NoneInConflict agree s c p x z
+none_join agree s c p x y z before after a above below = elim (cases_lt a y) [
   | inl low ↦ before a above low
   | inr high ↦ after a high below
 ]
 
 -- the first conflict of a page, where no page of the range before it has one
-pub fails_at : (s c p : Memory) (first count page : ℕ) (e : MergeError) → first ≤ page → page < first + count → NoneInConflict s c p (4096 * first) (4096 * page) → IsConflictAt (IsFirstConflict s c p page) e → MayFail (model.first_conflict s c p first count) e
-fails_at s c p first count page (Conflict addr) from to none found =
-    first_conflict-some s c p first count addr (omega (arith, found.above)) (omega (arith, found.below))
-    (none_join s c p (4096 * first) (4096 * page) addr none found.least) found.here
-fails_at s c p first count page NoMemory from to none found = absurd found
+pub fails_at : (agree : Bool) (s c p : Memory) (first count page : ℕ) (e : MergeError) → first ≤ page → page < first + count → NoneInConflict agree s c p (4096 * first) (4096 * page) → IsConflictAt (IsFirstConflict agree s c p page) e → MayFail (model.first_conflict agree s c p first count) e
+fails_at agree s c p first count page (Conflict addr) from to none found =
+    first_conflict-some agree s c p first count addr (omega (arith, found.above)) (omega (arith, found.below))
+    (none_join agree s c p (4096 * first) (4096 * page) addr none found.least) found.here
+fails_at agree s c p first count page NoMemory from to none found = absurd found

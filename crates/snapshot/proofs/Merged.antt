@@ -1,5 +1,5 @@
 -- Memories of which some pages are merged.
-use Rattle.std.specs.Prelude.{◌≡◌, ℕ, ◌+◌, ◌-◌, ◌*◌, ◌<◌, ◌≤◌, ◌⊎◌, ◌==◌, not, ◌&&◌, if◌then◌else◌, List, [], ◌∷◌, drop, length}
+use Rattle.std.specs.Prelude.{◌≡◌, ℕ, ◌+◌, ◌-◌, ◌*◌, ◌<◌, ◌≤◌, ◌⊎◌, ◌==◌, Bool, not, ◌&&◌, if◌then◌else◌, List, [], ◌∷◌, drop, length}
 use Rattle.std.proofs.Common.{sym, ◌∙◌, ap, arith, inl, inr, refl, eq-eqb, get_or, subst}
 use Rattle.std.proofs.lemmas.List.{drop_more, drop_all}
 use Rattle.std.proofs.lemmas.Bool.{cases_lt}
@@ -70,12 +70,12 @@ pub up_last : (s c old now : Memory) (first end : ℕ) (ps : List ℕ) (i : ℕ)
 up_last s c old now first end ps i past up = subst (IsUpTo s c old now first end) (drop_all i ps past) up
 
 -- the next page has no conflict still
-pub up_free : (s c old now : Memory) (first end page : ℕ) (rest : List ℕ) → IsUpTo s c old now first end (page ∷ rest) → NoneInConflict s c old (4096 * first) (4096 * end) → NoneInConflict s c now (4096 * page) (4096 * (page + 1))
-up_free s c old now first end page rest up none a above below =
+pub up_free : (agree : Bool) (s c old now : Memory) (first end page : ℕ) (rest : List ℕ) → IsUpTo s c old now first end (page ∷ rest) → NoneInConflict agree s c old (4096 * first) (4096 * end) → NoneInConflict agree s c now (4096 * page) (4096 * (page + 1))
+up_free agree s c old now first end page rest up none a above below =
     let from = up.changed.0 in
     let to = up.changed.1.0 in
     let same = up.after a (omega (arith, from)) in
-    ap (λ v. is_changed s c a && not (v == byte_at s a)) same ∙ none a (omega (arith, from, up.from)) (omega (arith, to))
+    ap (λ v. is_changed s c a && not (v == byte_at s a) && not (agree && byte_at c a == v)) same ∙ none a (omega (arith, from, up.from)) (omega (arith, to))
 
 -- the next page is merged
 pub up_step : (s c old now new : Memory) (first end page : ℕ) (rest : List ℕ) → IsUpTo s c old now first end (page ∷ rest) → new ≡ with_merge s c now page 1 → IsUpTo s c old new first end rest

@@ -17,12 +17,13 @@ pub fn changed_pages(
     child: &Mem,
     snapshot: &Mem,
     range: Pages,
+    agree: bool,
 ) -> Result<Vec<u32>, MergeError>
     requires covers { Covers child.now snapshot.now.memory }
     ensures changed { IfOk result (λ changed. AreChanged child.now.memory snapshot.now.memory range.first (range.first + range.count) changed.items) }
     ensures each { IfOk result (λ changed. All (IsMerged child.now snapshot.now.memory range.first (range.first + range.count)) changed.items) }
-    ensures sure { OnOk result (NoneInConflict snapshot.now.memory child.now.memory parent.now.memory (page_size * range.first) (page_size * (range.first + range.count))) }
-    ensures conflict { IfErr result (MayFail (first_conflict snapshot.now.memory child.now.memory parent.now.memory range.first range.count)) }
+    ensures sure { OnOk result (NoneInConflict agree snapshot.now.memory child.now.memory parent.now.memory (page_size * range.first) (page_size * (range.first + range.count))) }
+    ensures conflict { IfErr result (MayFail (first_conflict agree snapshot.now.memory child.now.memory parent.now.memory range.first range.count)) }
 {
     let end = range.first + range.count;
     let mut changed = Vec::new(parent.allocator());
@@ -32,7 +33,7 @@ pub fn changed_pages(
         if page >= end {
             return Ok(changed);
         }
-        if merge_in_page(parent, child, snapshot, page, &mut scratch)? {
+        if merge_in_page(parent, child, snapshot, page, agree, &mut scratch)? {
             changed.push(page)?;
         }
         from = page + 1;

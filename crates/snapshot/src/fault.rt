@@ -7,7 +7,8 @@ use thiserror::Error;
 /// Why a merge was not done.
 #[derive(Debug, Drop, Error)]
 pub enum MergeError {
-    /// Both sides changed the byte at an address since the snapshot, and at no lower one of the range.
+    /// The least address of the range that is in conflict: both sides changed its byte since the snapshot, and with agreement to
+    /// different ones.
     #[error("both sides changed the byte at address {addr}")]
     Conflict {
         /// The address.

@@ -36,10 +36,11 @@ fn merge_one(
     child: &Mem,
     snapshot: &Mem,
     page: u32,
+    agree: bool,
     scratch: &mut [u8; SIZE],
 ) -> Result<(), MergeError>
     requires within { page < pages }
-    requires free { NoneInConflict snapshot.now.memory child.now.memory parent.old.memory (page_size * page) (page_size * (page + 1)) }
+    requires free { NoneInConflict agree snapshot.now.memory child.now.memory parent.old.memory (page_size * page) (page_size * (page + 1)) }
     requires owned { Owns parent.old page }
     ensures ok { OnOk result (parent.new.memory ≡ with_merge snapshot.now.memory child.now.memory parent.old.memory page 1) }
     ensures sure { IsOk result }
@@ -47,7 +48,7 @@ fn merge_one(
     ensures others { (p : ℕ) → (p ≡ page → ⊥) → KeepsMarks parent.old parent.new p }
     ensures marks { Marks parent.old parent.new }
 {
-    if !merge_in_page(parent, child, snapshot, page, scratch)? {
+    if !merge_in_page(parent, child, snapshot, page, agree, scratch)? {
         return Ok(());
     }
     parent.write_bytes(PAGE_SIZE * page, scratch)?;
@@ -60,10 +61,11 @@ fn merge_each(
     child: &Mem,
     snapshot: &Mem,
     range: Pages,
+    agree: bool,
     changed: &[u32],
 ) -> Result<(), MergeError>
     requires changed { AreChanged child.now.memory snapshot.now.memory range.first (range.first + range.count) changed.now }
-    requires free { NoneInConflict snapshot.now.memory child.now.memory parent.old.memory (page_size * range.first) (page_size * (range.first + range.count)) }
+    requires free { NoneInConflict agree snapshot.now.memory child.now.memory parent.old.memory (page_size * range.first) (page_size * (range.first + range.count)) }
     requires owned { All (Owns parent.old) changed.now }
     ensures ok { OnOk result (parent.new.memory ≡ with_merge snapshot.now.memory child.now.memory parent.old.memory range.first range.count) }
     ensures sure { IsOk result }
@@ -73,7 +75,7 @@ fn merge_each(
 {
     let mut scratch = [0; SIZE];
     for page in changed {
-        merge_one(parent, child, snapshot, *page, &mut scratch)?;
+        merge_one(parent, child, snapshot, *page, agree, &mut scratch)?;
     }
     Ok(())
 }
@@ -82,21 +84,28 @@ fn merge_each(
 /// of the range, each byte of the child's that differs from the snapshot's takes the place of the parent's. Permissions stay,
 /// and the pages that the parent owned are owned. It reads the child's dirty pages alone: outside of them the child has the
 /// snapshot's bytes. A page of the parent that is not dirty afterwards was not dirty before, and has the bytes that it had. The
-/// error is `Conflict` at the least address of the range at which both the child's byte and the parent's differ from the
-/// snapshot's, equal to one another or not, or want of memory. At an error no byte and no permission of the parent has changed;
-/// some pages of the range may be owned that were not. A page outside of the range, a page that is clean in the child, and one
-/// that has the same bytes in child and snapshot, are owned and dirty in the parent where they were, also at an error.
-pub fn merge(parent: &mut Mem, child: &Mem, snapshot: &Mem, range: Pages) -> Result<(), MergeError>
+/// error is `Conflict` at the least address of the range that is in conflict, or want of memory. An address is in conflict where
+/// both the child's byte and the parent's differ from the snapshot's; with `agree`, only where they differ from one another as
+/// well. At an error no byte and no permission of the parent has changed; some pages of the range may be owned that were not. A
+/// page outside of the range, a page that is clean in the child, and one that has the same bytes in child and snapshot, are owned
+/// and dirty in the parent where they were, also at an error.
+pub fn merge(
+    parent: &mut Mem,
+    child: &Mem,
+    snapshot: &Mem,
+    range: Pages,
+    agree: bool,
+) -> Result<(), MergeError>
     requires covers { Covers child.now snapshot.now.memory }
     ensures ok { OnOk result (parent.new.memory ≡ with_merge snapshot.now.memory child.now.memory parent.old.memory range.first range.count) }
-    ensures sure { OnOk result (first_conflict snapshot.now.memory child.now.memory parent.old.memory range.first range.count ≡ None) }
-    ensures conflict { IfErr result (MayFail (first_conflict snapshot.now.memory child.now.memory parent.old.memory range.first range.count)) }
+    ensures sure { OnOk result (first_conflict agree snapshot.now.memory child.now.memory parent.old.memory range.first range.count ≡ None) }
+    ensures conflict { IfErr result (MayFail (first_conflict agree snapshot.now.memory child.now.memory parent.old.memory range.first range.count)) }
     ensures err { OnErr result (parent.new.memory ≡ parent.old.memory) }
     ensures stays { (page : ℕ) → Owns parent.old page → Owns parent.new page }
     ensures kept { (page : ℕ) → IsPassedOver child.now snapshot.now.memory range.first (range.first + range.count) page → KeepsMarks parent.old parent.new page }
     ensures marks { Marks parent.old parent.new }
 {
-    let changed = changed_pages(parent, child, snapshot, range)?;
+    let changed = changed_pages(parent, child, snapshot, range, agree)?;
     own_each(parent, &changed)?;
-    merge_each(parent, child, snapshot, range, &changed)
+    merge_each(parent, child, snapshot, range, agree, &changed)
 }

@@ -30,21 +30,22 @@ pub fn merge_in_page(
     child: &Mem,
     snapshot: &Mem,
     page: u32,
+    agree: bool,
     out: &mut [u8; SIZE],
 ) -> Result<bool, MergeError>
     requires { page < pages }
     ensures merged { IfOk result (λ changed. IsTrue changed → IsMergedPage snapshot.now.memory child.now.memory parent.now.memory page out.new) }
     ensures same { IfOk result (λ changed. IsFalse changed → SameBytes child.now.memory snapshot.now.memory page (page + 1)) }
     ensures differs { IfOk result (λ changed. IsTrue changed → SamePage child.now.memory snapshot.now.memory page → ⊥) }
-    ensures sure { OnOk result (NoneInConflict snapshot.now.memory child.now.memory parent.now.memory (page_size * page) (page_size * (page + 1))) }
-    ensures conflict { IfErr result (IsConflictAt (IsFirstConflict snapshot.now.memory child.now.memory parent.now.memory page)) }
+    ensures sure { OnOk result (NoneInConflict agree snapshot.now.memory child.now.memory parent.now.memory (page_size * page) (page_size * (page + 1))) }
+    ensures conflict { IfErr result (IsConflictAt (IsFirstConflict agree snapshot.now.memory child.now.memory parent.now.memory page)) }
 {
     let before = page_bytes(snapshot, page);
     let written = page_bytes(child, page);
     if same_page(before, written) {
         return Ok(false);
     }
-    match merge_page(before, written, page_bytes(parent, page), out) {
+    match merge_page(before, written, page_bytes(parent, page), out, agree) {
         Ok(()) => Ok(true),
         Err(offset) => {
             let addr = PAGE_SIZE * page + u32::from(offset);

@@ -28,8 +28,8 @@ returns-then-page-end-clause-sure c =
     let l = c.loop-page in
     let s = c.args.snapshot.now.memory in
     let d = c.args.child.now.memory in
-    none_join s d c.args.parent.now.memory _ (4096 * l.from) _ l.invariant.none
-    (none_unchanged s d c.args.parent.now.memory l.from _ (same_less d s l.from _ _ c.if-page-end.true c.in-Some.ensures.some.same))
+    none_join c.args.agree s d c.args.parent.now.memory _ (4096 * l.from) _ l.invariant.none
+    (none_unchanged c.args.agree s d c.args.parent.now.memory l.from _ (same_less d s l.from _ _ c.if-page-end.true c.in-Some.ensures.some.same))
 
 pub returns-in_err-merge_in_page-clause-conflict : goal.returns-in_err-merge_in_page-clause-conflict
 returns-in_err-merge_in_page-clause-conflict c =
@@ -38,9 +38,9 @@ returns-in_err-merge_in_page-clause-conflict c =
     let d = c.args.child.now.memory in
     let p = c.args.parent.now.memory in
     let next = c.in-Some.ensures.some in
-    let none = none_join s d p _ (4096 * l.from) _ l.invariant.none (none_unchanged s d p l.from c.in-Some.page next.same) in
+    let none = none_join c.args.agree s d p _ (4096 * l.from) _ l.invariant.none (none_unchanged c.args.agree s d p l.from c.in-Some.page next.same) in
     let told = err_from_is_err_and c.from_residual.result c.from_residual.ensures.1 in
-    rw (told.1, told.2) (fails_at s d p c.args.range.first c.args.range.count c.in-Some.page c.in_err-merge_in_page.field-0.0 (omega (arith, next.above, l.invariant.above)) c.if-page-end.false none c.in_err-merge_in_page.ensures.conflict)
+    rw (told.1, told.2) (fails_at c.args.agree s d p c.args.range.first c.args.range.count c.in-Some.page c.in_err-merge_in_page.field-0.0 (omega (arith, next.above, l.invariant.above)) c.if-page-end.false none c.in_err-merge_in_page.ensures.conflict)
 
 pub loop-page-preserved : goal.loop-page-preserved
 loop-page-preserved c =
@@ -71,8 +71,8 @@ loop-page-preserved c =
             (record { above = omega (arith, next.above, l.invariant.above); below = c.if-page-end.false; dirty = c.in-Some.ensures.dirty; differs = c.in_ok-merge_in_page.ensures.differs w.if-branch.true }))
         | else-branch w ↦ subst (All (IsMerged c.args.child.now s c.args.range.first (c.args.range.first + c.args.range.count))) (sym (ap (λ v. v.items) w.changed-is)) l.invariant.each
       ];
-      none = none_join s d p _ (4096 * page) _
-          (none_join s d p _ (4096 * l.from) _ l.invariant.none (none_unchanged s d p l.from page next.same))
+      none = none_join c.args.agree s d p _ (4096 * page) _
+          (none_join c.args.agree s d p _ (4096 * l.from) _ l.invariant.none (none_unchanged c.args.agree s d p l.from page next.same))
           c.in_ok-merge_in_page.ensures.sure;
     }
 
@@ -87,5 +87,5 @@ returns-clause-sure c =
     let l = c.loop-page in
     let s = c.args.snapshot.now.memory in
     let d = c.args.child.now.memory in
-    none_join s d c.args.parent.now.memory _ (4096 * l.from) _ l.invariant.none
-    (none_unchanged s d c.args.parent.now.memory l.from _ (same_less d s l.from _ 1048576 (omega (arith, c.args.range.within)) (c.in_default.ensures.none refl)))
+    none_join c.args.agree s d c.args.parent.now.memory _ (4096 * l.from) _ l.invariant.none
+    (none_unchanged c.args.agree s d c.args.parent.now.memory l.from _ (same_less d s l.from _ 1048576 (omega (arith, c.args.range.within)) (c.in_default.ensures.none refl)))

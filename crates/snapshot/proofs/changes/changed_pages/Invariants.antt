@@ -8,7 +8,7 @@ invariant-loop-page l = record {
   within : l.from ≤ l.end;
   changed : AreChanged l.child.memory l.snapshot.memory l.fn.range.first l.from l.changed.items;
   each : All (IsMerged l.child l.snapshot.memory l.fn.range.first (l.fn.range.first + l.fn.range.count)) l.changed.items;
-  none : NoneInConflict l.snapshot.memory l.child.memory l.parent.memory (4096 * l.fn.range.first) (4096 * l.from);
+  none : NoneInConflict l.agree l.snapshot.memory l.child.memory l.parent.memory (4096 * l.fn.range.first) (4096 * l.from);
 }
 
 abbrev pub decreases-loop-page : goal.decreases-loop-page

@@ -10,4 +10,4 @@ own_each-requires c =
     subst (All (λ page. page < 1048576)) (sym c.deref.ensures.value) below
 
 pub returns-clause-sure : goal.returns-clause-sure
-returns-clause-sure c = on_ok_weaker c.merge_each.result (λ _. first_conflict-none c.args.snapshot.now.memory c.args.child.now.memory c.args.parent.now.memory c.args.range.first c.args.range.count c.in_ok-changed.ensures.sure) c.merge_each.ensures.ok
+returns-clause-sure c = on_ok_weaker c.merge_each.result (λ _. first_conflict-none c.args.agree c.args.snapshot.now.memory c.args.child.now.memory c.args.parent.now.memory c.args.range.first c.args.range.count c.in_ok-changed.ensures.sure) c.merge_each.ensures.ok

@@ -20,7 +20,7 @@ merge_one-requires-clause-within c =
 pub merge_one-requires-clause-free : goal.merge_one-requires-clause-free
 merge_one-requires-clause-free c =
     let up = up_next _ _ _ _ _ _ c.args.changed.now c.loop-page.page-index c.loop-page-test.true c.loop-page.invariant.up in
-    up_free _ _ _ _ _ _ _ _ up c.requires.free
+    up_free c.args.agree _ _ _ _ _ _ _ _ up c.requires.free
 
 pub merge_one-requires-clause-owned : goal.merge_one-requires-clause-owned
 merge_one-requires-clause-owned c = c.loop-page.invariant.stays _ (c.requires.owned c.loop-page.page-index 0 c.loop-page-test.true)

@@ -11,7 +11,7 @@ returns-then-same_page-clause-same c _ =
 
 pub returns-then-same_page-clause-sure : goal.returns-then-same_page-clause-sure
 returns-then-same_page-clause-sure c =
-    none_unchanged c.args.snapshot.now.memory c.args.child.now.memory c.args.parent.now.memory c.args.page (c.args.page + 1)
+    none_unchanged c.args.agree c.args.snapshot.now.memory c.args.child.now.memory c.args.parent.now.memory c.args.page (c.args.page + 1)
     (same_page _ _ c.args.page _ _ c.page_bytes-written.ensures c.page_bytes-before.ensures (sym (c.same_page.ensures.0 c.if-same_page.true)))
 
 pub returns-in-Ok-clause-merged : goal.returns-in-Ok-clause-merged
@@ -20,12 +20,12 @@ returns-in-Ok-clause-merged c _ =
 
 pub returns-in-Ok-clause-sure : goal.returns-in-Ok-clause-sure
 returns-in-Ok-clause-sure c =
-    none_in_page _ _ _ c.args.page _ _ _ 4096 _ c.page_bytes-before.ensures c.page_bytes-written.ensures c.page_bytes.ensures c.in-Ok.ensures.sure (omega arith) (omega arith)
+    none_in_page _ _ _ _ c.args.page _ _ _ 4096 _ c.page_bytes-before.ensures c.page_bytes-written.ensures c.page_bytes.ensures c.in-Ok.ensures.sure (omega arith) (omega arith)
 
 pub returns-in-Err-clause-conflict : goal.returns-in-Err-clause-conflict
 returns-in-Err-clause-conflict c =
-    let found = first_in_page _ _ _ c.args.page _ _ _ c.in-Err.offset c.page_bytes-before.ensures c.page_bytes-written.ensures c.page_bytes.ensures c.in-Err.ensures.conflict in
-    subst (λ k. IsFirstConflict c.args.snapshot.now.memory c.args.child.now.memory c.args.parent.now.memory c.args.page (4096 * c.args.page + k)) (sym c.from.ensures) found
+    let found = first_in_page c.args.agree _ _ _ c.args.page _ _ _ c.in-Err.offset c.page_bytes-before.ensures c.page_bytes-written.ensures c.page_bytes.ensures c.in-Err.ensures.conflict in
+    subst (λ k. IsFirstConflict c.args.agree c.args.snapshot.now.memory c.args.child.now.memory c.args.parent.now.memory c.args.page (4096 * c.args.page + k)) (sym c.from.ensures) found
 
 pub returns-in-Ok-clause-differs : goal.returns-in-Ok-clause-differs
 returns-in-Ok-clause-differs c _ same =
