@@ -2,6 +2,7 @@
 -- Our choice: the numbers, and which registers hold what.
 use Rattle.std.specs.Prelude.{ℕ, ◌==◌, Bool, true, false, List, [], ◌∷◌, Option}
 use Rattle.std.specs.List.{find}
+use Rattle.call_model.specs.declared.call_numbers.TheConstants as numbers
 use Rattle.call_model.specs.declared.Kind.{Kind}
 use Rattle.call_model.specs.declared.Kind.TheVariants.{Put, Get, Ret, ConsoleOut, ConsoleIn, Clock, Random, Fork, Wait, Tfork, Tjoin, FileNew, FilePut, FileGet, FileLength, FileDelete}
 use Rattle.call_model.specs.declared.row.Row.{Row}
@@ -21,22 +22,22 @@ abbrev pub columns : ℕ → Options → Children → Ranges → Bool → ℕ �
 columns n o c r d levels tree_levels = record { number = n; options = o; children = c; ranges = r; device = d; levels = levels; tree_levels = tree_levels }
 
 abbrev pub row : Kind → Row
-row Put = columns 1 options.Put Tree Pages false 1 2
-row Get = columns 2 options.Get Tree Pages false 0 0
-row Ret = columns 3 Nothing Nobody Nowhere false 0 0
-row ConsoleOut = columns 4 Nothing Nobody ranges.One true 0 0
-row ConsoleIn = columns 5 Nothing Nobody ranges.One true 0 0
-row Clock = columns 6 Nothing Nobody Nowhere true 0 0
-row Random = columns 7 Nothing Nobody Nowhere true 0 0
-row Fork = columns 16 Nothing children.One Nowhere false 1 1
-row Wait = columns 17 Nothing children.One Nowhere false 0 0
-row Tfork = columns 18 Nothing children.One Nowhere false 1 1
-row Tjoin = columns 19 Nothing children.One Nowhere false 0 0
-row FileNew = columns 24 ChoiceInA3 Nobody ranges.One false 0 0
-row FilePut = columns 25 ChoiceInA5 Nobody Two false 0 0
-row FileGet = columns 26 Nothing Nobody Two false 0 0
-row FileLength = columns 27 Nothing Nobody ranges.One false 0 0
-row FileDelete = columns 28 Nothing Nobody ranges.One false 0 0
+row Put = columns numbers.PUT options.Put Tree Pages false 1 2
+row Get = columns numbers.GET options.Get Tree Pages false 0 0
+row Ret = columns numbers.RET Nothing Nobody Nowhere false 0 0
+row ConsoleOut = columns numbers.CONSOLE_OUT Nothing Nobody ranges.One true 0 0
+row ConsoleIn = columns numbers.CONSOLE_IN Nothing Nobody ranges.One true 0 0
+row Clock = columns numbers.CLOCK Nothing Nobody Nowhere true 0 0
+row Random = columns numbers.RANDOM Nothing Nobody Nowhere true 0 0
+row Fork = columns numbers.FORK Nothing children.One Nowhere false 1 1
+row Wait = columns numbers.WAIT Nothing children.One Nowhere false 0 0
+row Tfork = columns numbers.TFORK Nothing children.One Nowhere false 1 1
+row Tjoin = columns numbers.TJOIN Nothing children.One Nowhere false 0 0
+row FileNew = columns numbers.FILE_NEW ChoiceInA3 Nobody ranges.One false 0 0
+row FilePut = columns numbers.FILE_PUT ChoiceInA5 Nobody Two false 0 0
+row FileGet = columns numbers.FILE_GET Nothing Nobody Two false 0 0
+row FileLength = columns numbers.FILE_LENGTH Nothing Nobody ranges.One false 0 0
+row FileDelete = columns numbers.FILE_DELETE Nothing Nobody ranges.One false 0 0
 
 abbrev pub kinds : List Kind
 kinds = Put ∷ Get ∷ Ret ∷ ConsoleOut ∷ ConsoleIn ∷ Clock ∷ Random ∷ Fork ∷ Wait ∷ Tfork ∷ Tjoin ∷ FileNew ∷ FilePut ∷ FileGet ∷ FileLength ∷ FileDelete ∷ []

@@ -4,45 +4,46 @@
 -- Our choice: their bits, and which do not stand together.
 use Rattle.std.specs.Prelude.{◌≡◌, ◌≤◌, ℕ, ◌+◌, ◌/◌, ◌%◌, ◌^◌, ◌==◌, Bool, not, ◌&&◌, ◌||◌, nat_lt, bit_and}
 use Rattle.memory_model.specs.Sizes.{page_size}
+use Rattle.call_model.specs.declared.option_bits.TheConstants as bits
 use Rattle.call_model.specs.Limits.{last_block}
 
 abbrev pub regs : ℕ
-regs = 1
+regs = bits.REGS
 
 abbrev pub copy : ℕ
-copy = 2
+copy = bits.COPY
 
 abbrev pub zeroing : ℕ
-zeroing = 4
+zeroing = bits.ZERO
 
 abbrev pub merging : ℕ
-merging = 8
+merging = bits.MERGE
 
 abbrev pub perm : ℕ
-perm = 16
+perm = bits.PERM
 
 abbrev pub snap : ℕ
-snap = 32
+snap = bits.SNAP
 
 abbrev pub start : ℕ
-start = 64
+start = bits.START
 
 abbrev pub limit_option : ℕ
-limit_option = 128
+limit_option = bits.LIMIT
 
 abbrev pub tree : ℕ
-tree = 256
+tree = bits.TREE
 
 abbrev pub agreeing : ℕ
-agreeing = 512
+agreeing = bits.AGREE
 
 -- the bits of the permission
 abbrev pub permission_bits : ℕ
-permission_bits = 0x7000
+permission_bits = bits.PERMISSION
 
 -- all bits that may be set
 abbrev pub known_bits : ℕ
-known_bits = 0x73FF
+known_bits = bits.KNOWN
 
 -- one of these bits is among the options
 abbrev pub has : ℕ → ℕ → Bool

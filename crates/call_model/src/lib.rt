@@ -1,13 +1,16 @@
-//! Definitions of calls and of the register block, for contracts: `specs/` has them.
+//! Definitions of calls and of the register block, for contracts: `specs/` has them, over the numbers that stand here.
 #![tactic(auto)]
 
+pub mod call_numbers;
+pub mod limits;
+pub mod option_bits;
 mod row;
 
 pub use row::{Children, Options, Ranges, Row};
 
 /// What Put and Get are asked for (OSDI 2010, "Efficient System-Enforced Deterministic Parallelism", the section on the
 /// kernel interface), in registers a0 to a6. Options are bits: 1 Regs, 2 Copy, 4 Zero, 8 Merge, 16 Perm, 32 Snap, 64 Start,
-/// 128 Limit; bits 12 and 13 are the permission. Addresses and sizes are in bytes, the limit in events.
+/// 128 Limit, 512 Agree; bits 12 to 14 are the permission. Addresses and sizes are in bytes, the limit in events.
 #[derive(Clone, Copy, Debug, PartialEq, Eq)]
 pub struct Transfer {
     pub options: u32,
