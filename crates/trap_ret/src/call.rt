@@ -187,8 +187,9 @@ fn call_of(kind: Kind, x: &[u32; 32]) -> Call
 /// number of the first. In this order:
 ///
 /// 1. a7 is no call number;
-/// 2. an option that is not known, permission bits without Perm, two of Copy, Zero and Merge, Tree with another bit; in Put
-///    Merge, or Limit without Start; in Get one of Snap, Start and Limit; in FileNew an a3, or in FilePut an a5, above 1;
+/// 2. an option that is not known, permission bits without Perm, two of Copy, Zero and Merge, Agree without Merge, Tree with
+///    another bit; in Put Merge, or Limit without Start; in Get one of Snap, Start and Limit; in FileNew an a3, or in FilePut an
+///    a5, above 1;
 /// 3. a child number above 65,535, with Tree one of three;
 /// 4. a range of Put or Get that is not of whole pages of 4,096 bytes or passes the end of memory; console out's bytes, console in's
 ///    buffer, or a file call's name, data or buffer, that pass it;

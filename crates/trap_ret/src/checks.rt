@@ -2,10 +2,10 @@ ghost use Rattle.std.specs.Prelude.{◌≡◌, ◌+◌, ◌<◌};
 ghost use Rattle.call_model.specs.Options as options_of;
 ghost use Rattle.call_model.specs.Tests as table;
 
-use crate::limits::{GREATEST_CHILD, GREATEST_DEPTH, GREATEST_LENGTH, LAST_BLOCK};
 use crate::options::{
-    COPY, KNOWN, LIMIT, MERGE, PERM, PERMISSION, REGS, SNAP, START, TREE, ZERO, has,
+    AGREE, COPY, KNOWN, LIMIT, MERGE, PERM, PERMISSION, REGS, SNAP, START, TREE, ZERO, has,
 };
+use call_model::limits::{GREATEST_CHILD, GREATEST_DEPTH, GREATEST_LENGTH, LAST_BLOCK};
 use call_model::{Children, Options, Ranges, Row};
 use memory_model::PAGE_SIZE;
 
@@ -26,12 +26,13 @@ fn has_two_changes(options: u32) -> bool
         || ((has(options, COPY) || has(options, ZERO)) && has(options, MERGE))
 }
 
-// Permission bits without Perm, two changes of one range, or Tree with another bit.
+// Permission bits without Perm, two changes of one range, Agree without Merge, or Tree with another bit.
 fn has_clash(options: u32) -> bool
     ensures { result ≡ options_of.has_clash options }
 {
     (has(options, PERMISSION) && !has(options, PERM))
         || has_two_changes(options)
+        || (has(options, AGREE) && !has(options, MERGE))
         || (has(options, TREE) && options != TREE)
 }
 

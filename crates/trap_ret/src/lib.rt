@@ -5,14 +5,13 @@ mod block;
 mod call;
 mod causes;
 mod checks;
-pub mod limits;
 pub mod options;
 mod rows;
 mod waiting;
 
 pub use block::{read_block, reread_block, rewrite_block, write_block};
 pub use call::{AcceptedCall, read_call};
-pub use call_model::{Badcall, Block, Call, FileCall, Transfer};
+pub use call_model::{Badcall, Block, Call, FileCall, Transfer, limits};
 pub use causes::{cause_number, cause_of};
 pub use space_model::{Await, Cause, Reach, Status};
 pub use waiting::{Awaited, awaits};

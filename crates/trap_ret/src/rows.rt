@@ -6,29 +6,29 @@ ghost use Rattle.call_model.specs.declared.row.Options.TheVariants as options_of
 ghost use Rattle.call_model.specs.declared.row.Children.TheVariants as children_of;
 ghost use Rattle.call_model.specs.declared.row.Ranges.TheVariants as ranges_of;
 
-use call_model::{Children, Kind, Options, Ranges, Row};
+use call_model::{Children, Kind, Options, Ranges, Row, call_numbers as numbers};
 
 /// The kind of call that has this number, if there is one.
 pub(crate) fn kind_of(number: u32) -> Option<Kind>
     ensures { result ≡ table.kind_of number }
 {
     match number {
-        1 => Some(Kind::Put),
-        2 => Some(Kind::Get),
-        3 => Some(Kind::Ret),
-        4 => Some(Kind::ConsoleOut),
-        5 => Some(Kind::ConsoleIn),
-        6 => Some(Kind::Clock),
-        7 => Some(Kind::Random),
-        16 => Some(Kind::Fork),
-        17 => Some(Kind::Wait),
-        18 => Some(Kind::Tfork),
-        19 => Some(Kind::Tjoin),
-        24 => Some(Kind::FileNew),
-        25 => Some(Kind::FilePut),
-        26 => Some(Kind::FileGet),
-        27 => Some(Kind::FileLength),
-        28 => Some(Kind::FileDelete),
+        numbers::PUT => Some(Kind::Put),
+        numbers::GET => Some(Kind::Get),
+        numbers::RET => Some(Kind::Ret),
+        numbers::CONSOLE_OUT => Some(Kind::ConsoleOut),
+        numbers::CONSOLE_IN => Some(Kind::ConsoleIn),
+        numbers::CLOCK => Some(Kind::Clock),
+        numbers::RANDOM => Some(Kind::Random),
+        numbers::FORK => Some(Kind::Fork),
+        numbers::WAIT => Some(Kind::Wait),
+        numbers::TFORK => Some(Kind::Tfork),
+        numbers::TJOIN => Some(Kind::Tjoin),
+        numbers::FILE_NEW => Some(Kind::FileNew),
+        numbers::FILE_PUT => Some(Kind::FilePut),
+        numbers::FILE_GET => Some(Kind::FileGet),
+        numbers::FILE_LENGTH => Some(Kind::FileLength),
+        numbers::FILE_DELETE => Some(Kind::FileDelete),
         _ => None,
     }
 }
@@ -101,21 +101,21 @@ pub(crate) fn row(kind: Kind) -> Row
     ensures { result ≡ table.row kind }
 {
     match kind {
-        Kind::Put => transfer(1, Options::Put, 1, 2),
-        Kind::Get => transfer(2, Options::Get, 0, 0),
-        Kind::Ret => plain(3),
-        Kind::ConsoleOut => device(4, Ranges::One),
-        Kind::ConsoleIn => device(5, Ranges::One),
-        Kind::Clock => device(6, Ranges::Nowhere),
-        Kind::Random => device(7, Ranges::Nowhere),
-        Kind::Fork => child(16, 1),
-        Kind::Wait => child(17, 0),
-        Kind::Tfork => child(18, 1),
-        Kind::Tjoin => child(19, 0),
-        Kind::FileNew => file(24, Options::ChoiceInA3, Ranges::One),
-        Kind::FilePut => file(25, Options::ChoiceInA5, Ranges::Two),
-        Kind::FileGet => file(26, Options::Nothing, Ranges::Two),
-        Kind::FileLength => file(27, Options::Nothing, Ranges::One),
-        Kind::FileDelete => file(28, Options::Nothing, Ranges::One),
+        Kind::Put => transfer(numbers::PUT, Options::Put, 1, 2),
+        Kind::Get => transfer(numbers::GET, Options::Get, 0, 0),
+        Kind::Ret => plain(numbers::RET),
+        Kind::ConsoleOut => device(numbers::CONSOLE_OUT, Ranges::One),
+        Kind::ConsoleIn => device(numbers::CONSOLE_IN, Ranges::One),
+        Kind::Clock => device(numbers::CLOCK, Ranges::Nowhere),
+        Kind::Random => device(numbers::RANDOM, Ranges::Nowhere),
+        Kind::Fork => child(numbers::FORK, 1),
+        Kind::Wait => child(numbers::WAIT, 0),
+        Kind::Tfork => child(numbers::TFORK, 1),
+        Kind::Tjoin => child(numbers::TJOIN, 0),
+        Kind::FileNew => file(numbers::FILE_NEW, Options::ChoiceInA3, Ranges::One),
+        Kind::FilePut => file(numbers::FILE_PUT, Options::ChoiceInA5, Ranges::Two),
+        Kind::FileGet => file(numbers::FILE_GET, Options::Nothing, Ranges::Two),
+        Kind::FileLength => file(numbers::FILE_LENGTH, Options::Nothing, Ranges::One),
+        Kind::FileDelete => file(numbers::FILE_DELETE, Options::Nothing, Ranges::One),
     }
 }
