@@ -2,8 +2,8 @@
 . ./text.sh
 digest_with() {
     {
-        code ../../examples/conflict.img 92 | page 01000000 01
-        bytes "$1" | page 02000000 03
+        code ../../examples/conflict.img 92 | page 01000000 05
+        bytes "$1" | page 02000000 07
     } | digest
 }
 echo "/ conflict 00002000 00001030 20 $(digest_with 41)"

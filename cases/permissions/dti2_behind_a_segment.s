@@ -1,0 +1,2 @@
+.segment 0x1000 1
+.dti2

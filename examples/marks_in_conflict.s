@@ -1,0 +1,44 @@
+; As marks_agree, but the threads are joined by TJOIN, to which equal new values are in conflict as well: the second join stops the root, and names the
+; first place that both threads have marked.
+.segment 0x1000 1
+        addi s0, zero, 0        ; the threads are children 0 to 2
+        addi s1, zero, 3
+fork:   addi a1, s0, 0
+        addi a7, zero, 18       ; TFORK
+        ecall
+        bne a0, zero, walk      ; a0 is 1 in the thread, 0 in the root
+        addi s0, s0, 1
+        bne s0, s1, fork
+
+        addi s0, zero, 0
+join:   addi a1, s0, 0
+        addi a7, zero, 19       ; TJOIN
+        ecall
+        addi t1, zero, 20
+        bne a1, t1, failed      ; 20 is ret
+        addi s0, s0, 1
+        bne s0, s1, join
+
+        lui a1, 2
+        addi a2, zero, 13
+        addi a7, zero, 4        ; console out of the ring
+        ecall
+        addi a7, zero, 3        ; Ret
+        ecall
+failed: ebreak
+walk:   addi t0, s0, 2          ; steps of two, three or four
+        addi t1, zero, 0        ; the place
+        addi t2, zero, 12
+        lui t3, 2
+        addi t4, zero, 120      ; x
+mark:   add t5, t3, t1
+        sb t4, 0(t5)
+        add t1, t1, t0
+        blt t1, t2, mark
+        addi a7, zero, 3        ; Ret
+        ecall
+.segment 0x2000 3
+        .word 0x2e2e2e2e        ; twelve dots and a line feed
+        .word 0x2e2e2e2e
+        .word 0x2e2e2e2e
+        .byte 0x0a
