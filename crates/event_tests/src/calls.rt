@@ -14,7 +14,7 @@ const NAME: u32 = 0x1004;
 // A root that is about to call, whose page at 0x1000 has all rights, and which has two bytes of input.
 fn root(alloc: Global) -> Result<Top, AllocError> {
     let mut memory = Mem::new(alloc);
-    memory.set_perm(Pages { first: 1, count: 1 }, 3)?;
+    memory.set_perm(Pages { first: 1, count: 1 }, 7)?;
     let mut at: u32 = 0x1000;
     for byte in BYTES {
         memory.write(at, byte)?;

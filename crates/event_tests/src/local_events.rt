@@ -18,7 +18,7 @@ fn root(alloc: Global, words: [u32; 4], fuel: u32) -> Result<Top, AllocError>
     requires { 1 ≤ fuel }
 {
     let mut memory = Mem::new(alloc);
-    memory.set_perm(Pages { first: 1, count: 1 }, 1)?;
+    memory.set_perm(Pages { first: 1, count: 1 }, 5)?;
     let mut at: u32 = 0x1000;
     for word in words {
         for byte in word.to_le_bytes() {

@@ -1,10 +1,10 @@
 use crate::expected::{assert_bytes, assert_text};
-use image_file::{Image, Segment, read_image, write_image};
+use image_file::{Image, ImageFault, Segment, read_image, write_image};
 use std::alloc::{AllocError, Global};
 use std::process::Abort;
 use std::test::*;
 
-/// A program of three instructions at 0x1000, where reading and fetching are allowed.
+/// A program of three instructions at 0x1000, which may be read and executed.
 const IMAGE: [u8; 35] = [
     0x44, 0x54, 0x49, 0x31, 0x00, 0x10, 0, 0, 0, 0, 0, 0, 1, 0, 0x00, 0x10, 0, 0, 1, 12, 0, 0, 0,
     0x93, 0x08, 0x30, 0x00, 0x13, 0x05, 0x70, 0x00, 0x73, 0x00, 0x00, 0x00,
@@ -24,7 +24,7 @@ const ONE_PAGE_TWICE: [u8; 39] = [
 
 fn assert_segment(rt: &impl Abort, segment: &Segment) {
     assert_eq!(rt; segment.addr, 0x1000);
-    assert_eq!(rt; segment.perm, 1);
+    assert_eq!(rt; segment.perm, 5);
     assert_bytes(rt, &segment.bytes, &IMAGE[23..]);
 }
 
@@ -96,4 +96,43 @@ fn names_the_fault_of_a_changed_byte(rt: HostRuntime) {
     one_changed(&rt, 12, 65, "count at 12");
     one_changed(&rt, 18, 4, "permission at 18");
     one_changed(&rt, 19, 0, "length at 19");
+}
+
+// The program's bytes in the second format, with a permission.
+fn second_format(permission: u8) -> [u8; 35] {
+    let mut changed = IMAGE;
+    changed[3] = b'2';
+    changed[18] = permission;
+    changed
+}
+
+// The byte of the mark and that of the permission with which an image of this permission is written.
+fn written_with(alloc: Global, permission: u8) -> Result<[u8; 2], ImageFault> {
+    let image = read_image(alloc, &second_format(permission))?;
+    let bytes = write_image(alloc, &image)?;
+    match bytes.as_slice() {
+        [_, _, _, mark, _, _, _, _, _, _, _, _, _, _, _, _, _, _, byte, ..] => Ok([*mark, *byte]),
+        _ => Ok([0, 0]),
+    }
+}
+
+fn one_permission<R: AllocGlobal + Abort>(rt: &R, permission: u8, want: [u8; 2]) {
+    match written_with(rt.alloc(), permission) {
+        Ok(got) => assert_eq!(rt; got, want, "at {permission}"),
+        Err(_) => panic!(rt; "refused"),
+    }
+}
+
+/// Each permission is read in the second format, and written in the first one where that has it.
+#[test]
+fn writes_each_permission(rt: HostRuntime) {
+    one_permission(&rt, 0, [b'1', 0]);
+    one_permission(&rt, 1, [b'2', 1]);
+    one_permission(&rt, 2, [b'1', 2]);
+    one_permission(&rt, 3, [b'2', 3]);
+    one_permission(&rt, 4, [b'2', 4]);
+    one_permission(&rt, 5, [b'1', 1]);
+    one_permission(&rt, 6, [b'2', 6]);
+    one_permission(&rt, 7, [b'1', 3]);
+    one_fault(&rt, &second_format(8), "permission at 18");
 }

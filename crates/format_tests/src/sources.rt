@@ -172,6 +172,25 @@ fn names_faults_of_places_and_labels(rt: HostRuntime) {
     one_source(&rt, ".entry nowhere", "line 1: label");
 }
 
+#[test]
+fn assembles_permissions_as_written(rt: HostRuntime) {
+    one_source(
+        &rt,
+        ".dti2\n.dti2\n.segment 0x1000 5\n.byte 1",
+        "445449310010000000000000010000100000010100000001",
+    );
+    one_source(
+        &rt,
+        ".dti2 # as written\n.segment 0x1000 4\n.byte 1",
+        "445449320010000000000000010000100000040100000001",
+    );
+    one_source(&rt, ".segment 0x1000 1\n.dti2", "line 2: place");
+    one_source(&rt, ".dti2\n.segment 0x1000 8", "line 2: place");
+    one_source(&rt, ".segment 0x1000 4", "line 1: place");
+    one_source(&rt, ".dti2 1", "line 1: operand");
+    one_source(&rt, ".dti3", "line 1: word");
+}
+
 fn segments(alloc: Global, count: usize) -> Result<String, AllocError> {
     let mut source = String::new(alloc);
     for _ in 0..count {

@@ -45,11 +45,18 @@ fn numbers_and_options(rt: HostRuntime) -> Result<(), Fail> {
     first_failing(&rt, [0, 0, 0, 2, 0, 2, 0, 23], [1, 1, 1]);
     first_failing(&rt, [0, 0, 0, 2, 0, 2, 0, 29], [1, 1, 1]);
     // options that are not known
-    first_failing(&rt, [512, 0, 0, 0, 0, 0, 0, 2], [2, 2, 2]);
     first_failing(&rt, [0x8000_0000, 0, 0, 0, 0, 0, 0, 1], [2, 2, 2]);
-    first_failing(&rt, [0x4010, 0, 0, 0, 0, 0, 0, 1], [2, 2, 2]);
+    first_failing(&rt, [1024, 0, 0, 0, 0, 0, 0, 2], [2, 2, 2]);
+    first_failing(&rt, [0x8010, 0, 0, 0, 0, 0, 0, 1], [2, 2, 2]);
+    first_failing(&rt, [0x7010, 0, 0, 0, 0, 0, 0, 1], [0, 0, 8]);
     // options that do not stand together
     first_failing(&rt, [0x1000, 0, 0, 0, 0, 0, 0, 1], [2, 2, 2]);
+    first_failing(&rt, [0x4000, 0, 0, 0, 0, 0, 0, 2], [2, 2, 2]);
+    first_failing(&rt, [512, 0, 0, 0, 0, 0, 0, 2], [2, 2, 2]);
+    first_failing(&rt, [520, 0, 0, 0, 0, 0, 0, 2], [0, 0, 0]);
+    first_failing(&rt, [522, 0, 0, 0, 0, 0, 0, 2], [2, 2, 2]);
+    first_failing(&rt, [524, 0, 0, 0, 0, 0, 0, 2], [2, 2, 2]);
+    first_failing(&rt, [520, 0, 0, 0, 0, 0, 0, 1], [2, 2, 2]);
     first_failing(&rt, [6, 0, 0, 0, 0, 0, 0, 2], [2, 2, 2]);
     first_failing(&rt, [64, 0, 0, 0, 0, 0, 0, 2], [2, 2, 2]);
     first_failing(&rt, [128, 0, 0, 0, 0, 0, 0, 2], [2, 2, 2]);

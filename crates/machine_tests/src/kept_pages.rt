@@ -25,7 +25,7 @@ fn dirty_after_merge(
     write_each_in_child(&mut forked, child)?;
     write_each(&mut mem, parent)?;
     let _snapshot = take(&mut mem)?;
-    conflict(&mut mem, &forked, pages)?;
+    conflict(&mut mem, &forked, pages, false)?;
     Ok(dirty_pages(&mem))
 }
 

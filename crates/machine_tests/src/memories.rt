@@ -1,3 +1,6 @@
+ghost use Rattle.std.specs.Prelude.{◌≤◌};
+ghost use Rattle.memory_model.specs.Sizes.{greatest_permission};
+
 use memory_model::Width;
 use page_store::PageRef;
 use space_mem::{Mem, Pages};
@@ -98,13 +101,14 @@ fn try_both(mem: &mut Mem) -> Result<(bool, bool), AllocError> {
 
 fn assert_byte_stored(rt: &impl Abort, mem: &Mem) {
     let byte = mem.load(0x1_1ffd, Width::One);
-    assert_eq!(rt; [byte, mem.fetch(0x1_2000)], [Some(2), Some(0)]);
+    let beside = mem.load(0x1_2000, Width::Four);
+    assert_eq!(rt; [byte, beside], [Some(2), Some(0)]);
     assert_eq!(rt; mem.word(0x1_1ffc), 0x0403_0201);
 }
 
 fn assert_unreadable(rt: &impl Abort, mem: &Mem) {
     let byte = mem.load(0x1_2000, Width::One);
-    assert_eq!(rt; [byte, mem.fetch(0x1_2000)], [None, None]);
+    assert_eq!(rt; byte, None);
     let unreadable = mem.first_unreadable(0x1_1ff0, 64);
     let unwritable = mem.first_unwritable(0x1_1ff0, 64);
     assert_eq!(rt; [unreadable, unwritable], [Some(0x1_2000), None]);
@@ -123,6 +127,27 @@ fn loads_and_stores(rt: HostRuntime) -> Result<(), Fail> {
     };
     mem.set_perm(one, 2)?;
     assert_unreadable(&rt, &mem);
+    Ok(())
+}
+
+// Whether a page of a permission may be fetched from, loaded from and stored to.
+fn rights_of(alloc: Global, permission: u8) -> Result<[bool; 3], AllocError>
+    requires { permission ≤ greatest_permission }
+{
+    let mut mem = Mem::new(alloc);
+    mem.set_perm(Pages { first: 3, count: 1 }, permission)?;
+    let fetched = mem.fetch(0x3ffc).is_some();
+    let loaded = mem.load(0x3ffc, Width::Four).is_some();
+    Ok([fetched, loaded, mem.can_store(0x3ffc)])
+}
+
+#[test]
+fn rights(rt: HostRuntime) -> Result<(), Fail> {
+    let alloc = rt.alloc();
+    for permission in 0..8 {
+        let want = [permission >= 4, permission % 2 == 1, permission / 2 % 2 == 1];
+        assert_eq!(rt; rights_of(alloc, permission)?, want, "at {permission}");
+    }
     Ok(())
 }
 

@@ -37,19 +37,20 @@ fn page_with(at: u16, byte: u8) -> [u8; SIZE] {
     page
 }
 
-fn merged_at(at: u16, bytes: [u8; 3]) -> (Option<u16>, [u8; SIZE]) {
+fn merged_at(at: u16, bytes: [u8; 3], agree: bool) -> (Option<u16>, [u8; SIZE]) {
     let mut out = [9; SIZE];
     let result = merge_page(
         &page_with(at, bytes[0]),
         &page_with(at, bytes[1]),
         &page_with(at, bytes[2]),
         &mut out,
+        agree,
     );
     (result.err(), out)
 }
 
 fn assert_page(rt: &impl Abort, row: &PageRow) {
-    let (conflict, out) = merged_at(row.at, row.bytes);
+    let (conflict, out) = merged_at(row.at, row.bytes, false);
     assert_eq!(rt; conflict, row.conflict);
     assert_eq!(rt; out.get(row.at as usize), Some(&row.out));
     assert_eq!(rt; out[1000], if conflict.is_some() { 9 } else { 0 });
@@ -72,17 +73,55 @@ fn pages_of_one_change(rt: HostRuntime) -> Result<(), Fail> {
     Ok(())
 }
 
+// What a merge makes of one byte, told without lanes: none where it is in conflict.
+fn merged_byte(bytes: [u8; 3], agree: bool) -> Option<u8> {
+    let [snapshot, child, parent] = bytes;
+    if child == snapshot {
+        Some(parent)
+    } else if parent == snapshot || agree && child == parent {
+        Some(child)
+    } else {
+        None
+    }
+}
+
+fn assert_merged(rt: &impl Abort, at: u16, bytes: [u8; 3], agree: bool) {
+    let (conflict, out) = merged_at(at, bytes, agree);
+    let found = out.get(at as usize).copied();
+    match merged_byte(bytes, agree) {
+        Some(byte) => assert_eq!(rt; (conflict, found), (None, Some(byte)), "at {at}, {bytes:?}"),
+        None => assert_eq!(rt; (conflict, found), (Some(at), Some(9)), "at {at}, {bytes:?}"),
+    }
+}
+
+// Snapshot, child and parent each with one of three values, with agreement and without.
+fn assert_all(rt: &impl Abort, at: u16) {
+    for number in 0..27 {
+        let bytes = [number % 3, number / 3 % 3, number / 9];
+        assert_merged(rt, at, bytes, false);
+        assert_merged(rt, at, bytes, true);
+    }
+}
+
+#[test]
+fn pages_of_every_change(rt: HostRuntime) {
+    for at in [0, 63, 64, 4095] {
+        assert_all(&rt, at);
+    }
+}
+
 // Bytes that are written at addresses.
 type Writes = &'static [(u32, u8)];
 
-// A merge of pages: what is written before the snapshot, then by the child, and by the parent. What comes of it is the address in
-// conflict and the parent's bytes at four addresses.
+// A merge of pages: what is written before the snapshot, then by the child, and by the parent, and whether equal new values agree. What
+// comes of it is the address in conflict and the parent's bytes at four addresses.
 #[derive(Clone, Copy)]
 struct Row {
     before: Writes,
     child: Writes,
     parent: Writes,
     pages: [u32; 2],
+    agree: bool,
     conflict: Option<u32>,
     at: [u32; 4],
     bytes: [u8; 4],
@@ -140,11 +179,12 @@ pub(crate) fn conflict(
     parent: &mut Mem,
     forked: &Forked,
     pages: [u32; 2],
+    agree: bool,
 ) -> Result<Option<u32>, MergeError> {
     let Some(range) = range(pages) else {
         return Ok(None);
     };
-    match merge(parent, &forked.child, &forked.snapshot, range) {
+    match merge(parent, &forked.child, &forked.snapshot, range, agree) {
         Ok(()) => Ok(None),
         Err(MergeError::Conflict { addr }) => Ok(Some(addr)),
         Err(MergeError::Memory) => Err(MergeError::Memory),
@@ -157,7 +197,7 @@ fn merged(alloc: Global, row: &Row) -> Result<(Option<u32>, [u8; 4]), MergeError
     let mut forked = fork(&mut parent)?;
     write_each_in_child(&mut forked, row.child)?;
     write_each(&mut parent, row.parent)?;
-    let conflict = conflict(&mut parent, &forked, row.pages)?;
+    let conflict = conflict(&mut parent, &forked, row.pages, row.agree)?;
     Ok((conflict, row.at.map(|at| parent.byte(at))))
 }
 
@@ -175,6 +215,7 @@ const fn fresh(
         child,
         parent,
         pages,
+        agree: false,
         conflict,
         at,
         bytes,
@@ -188,6 +229,7 @@ const fn after_five(child: Writes, parent: Writes, conflict: Option<u32>, byte: 
         child,
         parent,
         pages: [2, 1],
+        agree: false,
         conflict,
         at: [0x2004, 0x2005, 0x2003, 0],
         bytes: [byte, 0, 0, 0],
@@ -261,6 +303,38 @@ fn ranges(rt: HostRuntime) -> Result<(), Fail> {
     Ok(())
 }
 
+// A row of two pages from 0x2000 on, in which equal new values agree.
+const fn agreeing(child: Writes, parent: Writes, conflict: Option<u32>, bytes: [u8; 4]) -> Row {
+    Row {
+        before: &[],
+        child,
+        parent,
+        pages: [2, 2],
+        agree: true,
+        conflict,
+        at: [0x2004, 0x2010, 0x2050, 0x3004],
+        bytes,
+    }
+}
+
+const FOURS: Writes = &[(0x2004, 4), (0x2010, 4), (0x2050, 4), (0x3004, 4)];
+
+// An agreed byte before a conflict in the same lane, in the next one and on the next page; and a page in which all agree.
+#[test]
+fn agreed_bytes(rt: HostRuntime) -> Result<(), Fail> {
+    assert_rows(
+        &rt,
+        &[
+            agreeing(FOURS, &[(0x2004, 4), (0x2010, 5)], Some(0x2010), [4, 5, 0, 0]),
+            agreeing(FOURS, &[(0x2004, 4), (0x2050, 5)], Some(0x2050), [4, 0, 5, 0]),
+            agreeing(FOURS, &[(0x2004, 4), (0x3004, 5)], Some(0x3004), [4, 0, 0, 5]),
+            agreeing(FOURS, &[(0x2004, 4), (0x3004, 4)], None, [4, 4, 4, 4]),
+            agreeing(FOURS, FOURS, None, [4, 4, 4, 4]),
+        ],
+    )?;
+    Ok(())
+}
+
 #[test]
 fn one_byte(rt: HostRuntime) -> Result<(), Fail> {
     assert_rows(
@@ -288,7 +362,7 @@ fn lost(alloc: Global) -> Result<[(u8, u8); 3], MergeError> {
     let mut forked = fork(&mut parent)?;
     zero_in_child(&mut forked, two)?;
     permit_in_child(&mut forked, two)?;
-    merge(&mut parent, &forked.child, &forked.snapshot, two)?;
+    merge(&mut parent, &forked.child, &forked.snapshot, two, false)?;
     Ok([
         shown(&forked.snapshot),
         shown(&forked.child),

@@ -31,13 +31,14 @@ pub const RETURNED: Status = Status::Stopped {
     value: 9,
 };
 
-// A memory with an ECALL at 0x100 that may be fetched, and two bytes at 0x2000.
+// A memory with an ECALL at 0x100 that may be executed, and two bytes at 0x2000.
 pub fn memory(alloc: Global, bytes: [u8; 2]) -> Result<Mem, AllocError> {
     let mut memory = Mem::new(alloc);
     memory.write(0x100, 0x73)?;
     memory.write(0x2000, bytes[0])?;
     memory.write(0x2001, bytes[1])?;
-    memory.set_perm(Pages { first: 0, count: 3 }, 3)?;
+    memory.set_perm(Pages { first: 0, count: 1 }, 5)?;
+    memory.set_perm(Pages { first: 1, count: 2 }, 3)?;
     Ok(memory)
 }
 

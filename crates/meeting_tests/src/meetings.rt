@@ -46,7 +46,7 @@ fn memory(
             first: *first % 1_048_576,
             count: 1,
         };
-        memory.set_perm(page, *permission % 4)?;
+        memory.set_perm(page, *permission % 8)?;
     }
     Ok(memory)
 }
@@ -215,6 +215,7 @@ fn options_of_put(rt: HostRuntime) -> Result<(), Fail> {
     one_of_puts(&rt, alloc, 2, RETURNED, [1, 1]);
     one_of_puts(&rt, alloc, 4, RETURNED, [0, 3]);
     one_of_puts(&rt, alloc, 0x2010, RETURNED, [2, 2]);
+    one_of_puts(&rt, alloc, 0x4010, RETURNED, [2, 4]);
     one_of_puts(&rt, alloc, 0x0012, RETURNED, [1, 0]);
     one_of_puts(&rt, alloc, 0x1014, RETURNED, [0, 1]);
     one_of_puts(&rt, alloc, 64, STARTED, [2, 3]);
@@ -290,7 +291,7 @@ fn options_of_get(rt: HostRuntime) -> Result<(), Fail> {
     one_of_gets(&rt, alloc, 0x2010, [2, 2], [0; 6]);
     one_of_gets(&rt, alloc, 0x0012, [1, 0], [0; 6]);
     one_of_gets(&rt, alloc, 0x1014, [0, 1], [0; 6]);
-    one_of_gets(&rt, alloc, 0x2013, [1, 2], block);
+    one_of_gets(&rt, alloc, 0x7013, [1, 7], block);
     Ok(())
 }
 
