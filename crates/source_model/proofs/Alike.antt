@@ -1,4 +1,4 @@
--- When a statement that is read along with the lines does what a statement of the definition does. A permission above 3 is read as 4, and
+-- When a statement that is read along with the lines does what a statement of the definition does. A permission above 7 is read as 8, and
 -- more than 2 ^ 32 zeros as 2 ^ 32 + 1: neither can stand anywhere.
 use Rattle.std.proofs.Common.{◌≡◌, ℕ, ◌+◌, ◌^◌, ◌<◌, ◌≤◌, Bool, true, false, List, [], ◌∷◌, ◌++◌, length, Option, Some, None, Ok, Err, refl, sym, ◌∙◌, ap, subst, arith, inl, inr}
 use Rattle.std.specs.Prelude.{min, nat_lt, nat_le, ◌&&◌, ◌||◌, ◌-◌, ◌%◌, ◌/◌, ◌*◌, replicate, option_map, is_none, unwrap_or, option_to_list}
@@ -11,7 +11,10 @@ use Rattle.instruction_model.specs.declared.Instruction.{Instruction}
 use Rattle.instruction_model.specs.declared.Instruction.TheVariants as instructions
 use Rattle.instruction_model.specs.declared.Operation.TheVariants.{Add}
 use Rattle.std.specs.Int.{w32, to_le_bytes}
-use Rattle.image_model.specs.Image.{Segment}
+use Rattle.memory_model.specs.Sizes.{page_size, greatest_permission}
+use Rattle.image_model.specs.declared.format.Format.{Format}
+use Rattle.image_model.specs.declared.format.Format.TheVariants as formats
+use Rattle.image_model.specs.Image.{Segment, greatest_byte, permission_of}
 use Rattle.source_model.specs.declared.statement.Layout.{Layout}
 use Rattle.source_model.specs.declared.statement.Statement as read
 use Rattle.source_model.specs.declared.statement.Statement.TheVariants as statements
@@ -22,9 +25,9 @@ use Rattle.source_model.specs.Reading as reading
 use Rattle.source_model.specs.Reading.{Draft, operand_of, draft_with}
 use Rattle.source_model.specs.Statement as old
 use Rattle.source_model.specs.Meaning as model
-use Rattle.source_model.specs.Meaning.{Value, number, label, distance, Effect, bytes, segment, entry, stack, Statement, Read, Labels, worth_of, effect_of, end_of, address_after, with_content, is_out_of_place, with_effect, is_out_of_reach, is_too_far}
+use Rattle.source_model.specs.Meaning.{Value, number, label, distance, Effect, bytes, segment, entry, stack, format, Statement, Read, Labels, worth_of, effect_of, end_of, address_after, with_content, is_out_of_place, with_effect, is_out_of_reach, is_too_far}
 use Rattle.source_model.specs.Operand.{instruction_bytes, instruction, upper_part, lower_part}
-use Rattle.source_model.proofs.Segments.{top_of, layout_of, address-same, room-same, more-layout, begun-layout}
+use Rattle.source_model.proofs.Segments.{top_of, layout_in, has_no_room, address-same, room-same, more-layout, begun-layout}
 use Rattle.source_model.proofs.Drafts.{file_size, view, size-grown, grows, begins}
 
 abbrev pub value_view : List ℕ → values.Value → Value
@@ -37,10 +40,10 @@ worth_at labels w x = worth_of labels 0 (value_view w (operand_of x))
 
 -- of the same places, as long, with the same outcome where its value has a worth, as far from its target, and as much in want of labels
 pub record Same (x : read.Statement) (w : List ℕ) (s : Statement) : Type 0 where
-  pub place : (labels : Labels) (d : model.Draft) → layouts.is_out_of_place (layout_of d.segments) x ≡ is_out_of_place d.segments (effect_of labels (address_after d) s)
-  pub layout : (labels : Labels) (d : model.Draft) → is_out_of_place d.segments (effect_of labels (address_after d) s) ≡ false → layouts.after (layout_of d.segments) x ≡ layout_of (with_effect d (effect_of labels (address_after d) s)).segments
-  pub size : (labels : Labels) (d : model.Draft) → is_out_of_place d.segments (effect_of labels (address_after d) s) ≡ false → reading.size_with (view d) (layouts.size_of x) ≡ file_size (with_effect d (effect_of labels (address_after d) s)).segments
-  pub draft : (labels : Labels) (d : model.Draft) (v : ℕ) → worth_at labels w x ≡ Some v → is_out_of_place d.segments (effect_of labels (address_after d) s) ≡ false → draft_with (view d) x v ≡ view (with_effect d (effect_of labels (address_after d) s))
+  pub place : (labels : Labels) (d : model.Draft) → layouts.is_out_of_place (layout_in d) x ≡ is_out_of_place d (effect_of labels (address_after d) s)
+  pub layout : (labels : Labels) (d : model.Draft) → is_out_of_place d (effect_of labels (address_after d) s) ≡ false → layouts.after (layout_in d) x ≡ layout_in (with_effect d (effect_of labels (address_after d) s))
+  pub size : (labels : Labels) (d : model.Draft) → is_out_of_place d (effect_of labels (address_after d) s) ≡ false → reading.size_with (view d) (layouts.size_of x) ≡ file_size (with_effect d (effect_of labels (address_after d) s)).segments
+  pub draft : (labels : Labels) (d : model.Draft) (v : ℕ) → worth_at labels w x ≡ Some v → is_out_of_place d (effect_of labels (address_after d) s) ≡ false → draft_with (view d) x v ≡ view (with_effect d (effect_of labels (address_after d) s))
   pub far : (labels : Labels) (here : ℕ) → reading.is_too_far here x (worth_at labels w x) ≡ list_any (is_too_far labels here) s.values
   pub lacks : (labels : Labels) (here : ℕ) → is_none (worth_at labels w x) ≡ list_any (λ v. is_none (worth_of labels here v)) s.values
 
@@ -65,33 +68,33 @@ record Content (x : read.Statement) (w : List ℕ) (s : Statement) : Type 0 wher
   long : (labels : Labels) (here : ℕ) → length (content labels here) ≡ layouts.size_of x
   same : (labels : Labels) (here v : ℕ) → worth_at labels w x ≡ Some v → content labels here ≡ reading.bytes_of here x v
 
-put-place : (x : read.Statement) (w : List ℕ) (s : Statement) → Puts x → Content x w s → (labels : Labels) (d : model.Draft) → layouts.is_out_of_place (layout_of d.segments) x ≡ is_out_of_place d.segments (effect_of labels (address_after d) s)
+put-place : (x : read.Statement) (w : List ℕ) (s : Statement) → Puts x → Content x w s → (labels : Labels) (d : model.Draft) → layouts.is_out_of_place (layout_in d) x ≡ is_out_of_place d (effect_of labels (address_after d) s)
 put-place x w s p c labels d =
-    p.place (layout_of d.segments) ∙ (ap (λ (n : ℕ). layouts.bytes_out_of_place (top_of d.segments) n) (sym (c.long labels (address_after d)))
-    ∙ (room-same d.segments (c.content labels (address_after d)) ∙ ap (is_out_of_place d.segments) (sym (c.is labels (address_after d)))))
+    p.place (layout_in d) ∙ (ap (λ (n : ℕ). layouts.bytes_out_of_place (top_of d.segments) n) (sym (c.long labels (address_after d)))
+    ∙ (room-same d.segments (c.content labels (address_after d)) ∙ ap (is_out_of_place d) (sym (c.is labels (address_after d)))))
 
-put-layout : (x : read.Statement) (w : List ℕ) (s : Statement) → Puts x → Content x w s → (labels : Labels) (d : model.Draft) → layouts.after (layout_of d.segments) x ≡ layout_of (with_effect d (effect_of labels (address_after d) s)).segments
+put-layout : (x : read.Statement) (w : List ℕ) (s : Statement) → Puts x → Content x w s → (labels : Labels) (d : model.Draft) → layouts.after (layout_in d) x ≡ layout_in (with_effect d (effect_of labels (address_after d) s))
 put-layout x w s p c labels d =
-    p.layout (layout_of d.segments) ∙ (more-layout d.segments (c.content labels (address_after d)) (layouts.size_of x) (c.long labels (address_after d))
-    ∙ ap (λ (e : Effect). layout_of (with_effect d e).segments) (sym (c.is labels (address_after d))))
+    p.layout (layout_in d) ∙ (more-layout d.format d.segments (c.content labels (address_after d)) (layouts.size_of x) (c.long labels (address_after d))
+    ∙ ap (λ (e : Effect). layout_in (with_effect d e)) (sym (c.is labels (address_after d))))
 
-room-for : (x : read.Statement) (w : List ℕ) (s : Statement) (c : Content x w s) (labels : Labels) (d : model.Draft) → is_out_of_place d.segments (effect_of labels (address_after d) s) ≡ false → is_out_of_place d.segments (bytes (c.content labels (address_after d))) ≡ false
-room-for x w s c labels d room = ap (is_out_of_place d.segments) (sym (c.is labels (address_after d))) ∙ room
+room-for : (x : read.Statement) (w : List ℕ) (s : Statement) (c : Content x w s) (labels : Labels) (d : model.Draft) → is_out_of_place d (effect_of labels (address_after d) s) ≡ false → is_out_of_place d (bytes (c.content labels (address_after d))) ≡ false
+room-for x w s c labels d room = ap (is_out_of_place d) (sym (c.is labels (address_after d))) ∙ room
 
-put-size : (x : read.Statement) (w : List ℕ) (s : Statement) → Content x w s → (labels : Labels) (d : model.Draft) → is_out_of_place d.segments (effect_of labels (address_after d) s) ≡ false
+put-size : (x : read.Statement) (w : List ℕ) (s : Statement) → Content x w s → (labels : Labels) (d : model.Draft) → is_out_of_place d (effect_of labels (address_after d) s) ≡ false
     → reading.size_with (view d) (layouts.size_of x) ≡ file_size (with_effect d (effect_of labels (address_after d) s)).segments
 put-size x w s c labels d room =
-    size-grown d.segments d.entry d.stack (c.content labels (address_after d)) (layouts.size_of x) (c.long labels (address_after d)) (room-for x w s c labels d room)
+    size-grown d.format d.segments d.entry d.stack (c.content labels (address_after d)) (layouts.size_of x) (c.long labels (address_after d)) (room-for x w s c labels d room)
     ∙ ap (λ (e : Effect). file_size (with_effect d e).segments) (sym (c.is labels (address_after d)))
 
-put-draft : (x : read.Statement) (w : List ℕ) (s : Statement) → Puts x → Content x w s → (labels : Labels) (d : model.Draft) (v : ℕ) → worth_at labels w x ≡ Some v → is_out_of_place d.segments (effect_of labels (address_after d) s) ≡ false
+put-draft : (x : read.Statement) (w : List ℕ) (s : Statement) → Puts x → Content x w s → (labels : Labels) (d : model.Draft) (v : ℕ) → worth_at labels w x ≡ Some v → is_out_of_place d (effect_of labels (address_after d) s) ≡ false
     → draft_with (view d) x v ≡ view (with_effect d (effect_of labels (address_after d) s))
 put-draft x w s p c labels d v worth room =
     let b : List ℕ = c.content labels (address_after d) in
     p.draft (view d) v
-    ∙ (ap (λ (l : List ℕ). record (view d) { layout = layouts.further (top_of d.segments) (layout_of d.segments) (layouts.size_of x); content = (view d).content ++ l; size = reading.size_with (view d) (layouts.size_of x) })
+    ∙ (ap (λ (l : List ℕ). record (view d) { layout = layouts.further (top_of d.segments) (layout_in d) (layouts.size_of x); content = (view d).content ++ l; size = reading.size_with (view d) (layouts.size_of x) })
     (ap (λ (n : ℕ). reading.bytes_of n x v) (address-same d) ∙ sym (c.same labels (address_after d) v worth))
-    ∙ (grows d.segments d.entry d.stack b (layouts.size_of x) (c.long labels (address_after d)) (room-for x w s c labels d room)
+    ∙ (grows d.format d.segments d.entry d.stack b (layouts.size_of x) (c.long labels (address_after d)) (room-for x w s c labels d room)
     ∙ ap (λ (e : Effect). view (with_effect d e)) (sym (c.is labels (address_after d)))))
 
 abbrev Far : read.Statement → List ℕ → Statement → Type 0
@@ -188,7 +191,7 @@ none-further (Some a) here = refl
 pub entry-same : (w : List ℕ) (v : values.Value) → Same (statements.Entry v) w (with_values (value_view w v ∷ []) (λ v. entry (v 0)))
 entry-same w v = record {
   place = λ labels d. none-out (top_of d.segments);
-  layout = λ labels d h. none-further (top_of d.segments) (layout_of d.segments);
+  layout = λ labels d h. none-further (top_of d.segments) (layout_in d);
   size = λ labels d h. refl;
   draft = λ labels d n e h. ap (λ (k : ℕ). view (with_effect d (entry k))) (sym (amount-is labels (address_after d) w v n e));
   far = λ labels here. far-entry here v (worth_of labels 0 (value_view w v)) ∙ near labels here w v;
@@ -198,7 +201,7 @@ entry-same w v = record {
 pub stack-same : (w : List ℕ) (v : values.Value) → Same (statements.Stack v) w (with_values (value_view w v ∷ []) (λ v. stack (v 0)))
 stack-same w v = record {
   place = λ labels d. none-out (top_of d.segments);
-  layout = λ labels d h. none-further (top_of d.segments) (layout_of d.segments);
+  layout = λ labels d h. none-further (top_of d.segments) (layout_in d);
   size = λ labels d h. refl;
   draft = λ labels d n e h. ap (λ (k : ℕ). view (with_effect d (stack k))) (sym (amount-is labels (address_after d) w v n e));
   far = λ labels here. far-stack here v (worth_of labels 0 (value_view w v)) ∙ near labels here w v;
@@ -247,31 +250,45 @@ jump-same r w t = put (statements.Jump r t) w (with_values (number r ∷ distanc
 
 -- ---- segments and zeros, with short numbers
 
-permission-same : (p : ℕ) → nat_lt 3 (min p 4) ≡ nat_lt 3 p
-permission-same p = elim (cases_lt 3 p) [
-  | inl lt ↦ lt-ltb 3 (min p 4) (omega (arith, lt)) ∙ sym (lt-ltb 3 p lt)
-  | inr le ↦ le-ltb 3 (min p 4) (omega (arith, le)) ∙ sym (le-ltb 3 p le)
+greatest : (f : Format) → greatest_byte f ≤ greatest_permission
+greatest formats.Dti1 = omega arith
+greatest formats.Dti2 = omega arith
+
+permission-same : (f : Format) (p : ℕ) → nat_lt (greatest_byte f) (min p (greatest_permission + 1)) ≡ nat_lt (greatest_byte f) p
+permission-same f p = elim (cases_lt (greatest_byte f) p) [
+  | inl lt ↦ lt-ltb (greatest_byte f) (min p (greatest_permission + 1)) (omega (arith, lt, greatest f)) ∙ sym (lt-ltb (greatest_byte f) p lt)
+  | inr le ↦ le-ltb (greatest_byte f) (min p (greatest_permission + 1)) (omega (arith, le)) ∙ sym (le-ltb (greatest_byte f) p le)
 ]
 
 or-none : (x y z : Bool) → (x || y || z) ≡ false → x ≡ false
 or-none true y z h = cc
 or-none false y z h = refl
 
-permission-stays : (p : ℕ) → nat_lt 3 p ≡ false → min p 4 ≡ p
-permission-stays p h = let le : p ≤ 3 = ltb-false 3 p h in omega (arith, le)
+permission-stays : (f : Format) (p : ℕ) → nat_lt (greatest_byte f) p ≡ false → min p (greatest_permission + 1) ≡ p
+permission-stays f p h = let le : p ≤ greatest_byte f = ltb-false (greatest_byte f) p h in omega (arith, le, greatest f)
 
 abbrev begun : ℕ → ℕ → Statement
 begun a p = with_values (number a ∷ number p ∷ []) (λ v. segment (v 0) (v 1))
 
-in-place : (d : model.Draft) (a p : ℕ) → is_out_of_place d.segments (segment a p) ≡ false → min p 4 ≡ p
-in-place d a p h = permission-stays p (or-none (nat_lt 3 p) (nat_lt (a / 4096 * 4096) (end_of (with_content d.segments))) (nat_le 64 (length d.segments)) h)
+in-place : (d : model.Draft) (a p : ℕ) → is_out_of_place d (segment a p) ≡ false → min p (greatest_permission + 1) ≡ p
+in-place d a p h = permission-stays d.format p (or-none (nat_lt (greatest_byte d.format) p) (nat_lt (a / page_size * page_size) (end_of (with_content d.segments))) (nat_le 64 (length d.segments)) h)
 
-pub segment-same : (a p : ℕ) → Same (statements.Segment a (min p 4)) [] (begun a p)
+pub segment-same : (a p : ℕ) → Same (statements.Segment a (min p (greatest_permission + 1))) [] (begun a p)
 segment-same a p = record {
-  place = λ labels d. ap (λ (t : Bool). t || nat_lt (a / 4096 * 4096) (end_of (with_content d.segments)) || nat_le 64 (length d.segments)) (permission-same p);
-  layout = λ labels d h. begun-layout d.segments a p;
+  place = λ labels d. ap (λ (t : Bool). t || nat_lt (a / page_size * page_size) (end_of (with_content d.segments)) || nat_le 64 (length d.segments)) (permission-same d.format p);
+  layout = λ labels d h. begun-layout d.format d.segments a (permission_of d.format p);
   size = λ labels d h. refl;
   draft = λ labels d v e h. ap (λ (n : ℕ). draft_with (view d) (statements.Segment a n) v) (in-place d a p h) ∙ begins d a p v;
+  far = λ labels here. refl;
+  lacks = λ labels here. refl;
+}
+
+pub dti2-same : Same statements.Dti2 [] (with_values [] (λ v. format formats.Dti2))
+dti2-same = record {
+  place = λ labels d. refl;
+  layout = λ labels d h. refl;
+  size = λ labels d h. refl;
+  draft = λ labels d v e h. refl;
   far = λ labels here. refl;
   lacks = λ labels here. refl;
 }
@@ -294,15 +311,15 @@ past (Some a) n lt = both-true (nat_lt 0 n) (nat_lt (2 ^ 32) (a + n)) (lt-ltb 0 
 apart : (x : Bool) → x ≡ true → x ≡ false → ⊥
 apart x e f = cc
 
-past-zeros : (ss : List Segment) (n : ℕ) → 2 ^ 32 < n → is_out_of_place ss (bytes (replicate n 0)) ≡ true
+past-zeros : (ss : List Segment) (n : ℕ) → 2 ^ 32 < n → has_no_room ss (replicate n 0) ≡ true
 past-zeros ss n lt = sym (room-same ss (replicate n 0)) ∙ (ap (λ (k : ℕ). layouts.bytes_out_of_place (top_of ss) k) (length-replicate n 0) ∙ past (top_of ss) n lt)
 
 many-same : (n : ℕ) → 2 ^ 32 < n → Same (statements.Zero (min n (2 ^ 32 + 1))) [] (zeros n)
 many-same n lt = record {
   place = λ labels d. past (top_of d.segments) (min n (2 ^ 32 + 1)) (omega (arith, lt)) ∙ sym (past-zeros d.segments n lt);
-  layout = λ labels d h. absurd (apart (is_out_of_place d.segments (bytes (replicate n 0))) (past-zeros d.segments n lt) h);
-  size = λ labels d h. absurd (apart (is_out_of_place d.segments (bytes (replicate n 0))) (past-zeros d.segments n lt) h);
-  draft = λ labels d v e h. absurd (apart (is_out_of_place d.segments (bytes (replicate n 0))) (past-zeros d.segments n lt) h);
+  layout = λ labels d h. absurd (apart (is_out_of_place d (bytes (replicate n 0))) (past-zeros d.segments n lt) h);
+  size = λ labels d h. absurd (apart (is_out_of_place d (bytes (replicate n 0))) (past-zeros d.segments n lt) h);
+  draft = λ labels d v e h. absurd (apart (is_out_of_place d (bytes (replicate n 0))) (past-zeros d.segments n lt) h);
   far = λ labels here. refl;
   lacks = λ labels here. refl;
 }

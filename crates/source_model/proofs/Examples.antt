@@ -13,7 +13,7 @@ use Rattle.source_model.specs.Number.{value_from, decimal, hexadecimal, number_o
 use Rattle.source_model.specs.Register.{index_of}
 use Rattle.source_model.specs.Field.{field, count, value_of, register_of}
 use Rattle.source_model.specs.Mnemonic.{operation_of, immediate_of, memory_of, branch_of, other_of, directive_of, mnemonic_of}
-use Rattle.source_model.specs.Statement.{operate, operate_immediate, shift_immediate, address_of, load, jump_to_register, store, branch, jump, upper, load_upper, add_upper, alone, load_immediate, segment, entry, stack, word, byte, zeros, operands, statement_of}
+use Rattle.source_model.specs.Statement.{operate, operate_immediate, shift_immediate, address_of, load, jump_to_register, store, branch, jump, upper, load_upper, add_upper, alone, load_immediate, segment, dti2, entry, stack, word, byte, zeros, operands, statement_of}
 use Rattle.source_model.specs.Line.{label_of, body_of, statement_in, defines}
 use Rattle.source_model.specs.Layout.{next, definition_in, definitions}
 use Rattle.source_model.specs.Reading.{check_line, with_line, with_lines, source_of}
@@ -27,9 +27,9 @@ text_of lines = flat_map (λ l. l ++ 10 ∷ []) lines
 abbrev fault : ℕ → AsmErrorKind → AsmError
 fault line kind = record { line = line; kind = kind }
 
--- an image of one segment at 0x1000 with permission 1, where the root begins
+-- an image of one segment at 0x1000 to read and execute, where the root begins
 abbrev one : List ℕ → Image
-one content = record { entry = 0x1000; stack = 0; segments = record { address = 0x1000; permission = 1; content = content } ∷ [] }
+one content = record { entry = 0x1000; stack = 0; segments = record { address = 0x1000; permission = 5; content = content } ∷ [] }
 
 abbrev answer : List (List ℕ) → Result Image AsmError
 answer lines = source_of (text_of lines)
@@ -53,7 +53,16 @@ abbrev none_defined : List (List ℕ)
 none_defined = codes ".segment 0x1000 1" ∷ codes ".word a0" ∷ []
 
 abbrev two_of_them : Image
-two_of_them = record { entry = 0x1000; stack = 0x2000; segments = record { address = 0x1000; permission = 1; content = 1 ∷ [] } ∷ record { address = 0x2000; permission = 3; content = 0x00 ∷ 0x20 ∷ 0x00 ∷ 0x00 ∷ [] } ∷ [] }
+two_of_them = record { entry = 0x1000; stack = 0x2000; segments = record { address = 0x1000; permission = 5; content = 1 ∷ [] } ∷ record { address = 0x2000; permission = 7; content = 0x00 ∷ 0x20 ∷ 0x00 ∷ 0x00 ∷ [] } ∷ [] }
+
+abbrev formatted : List (List ℕ)
+formatted = codes " .dti2 ; permissions of DTI2" ∷ codes ".segment 0x1000 4" ∷ codes ".byte 1" ∷ codes ".segment 0x2000 1" ∷ codes ".byte 2" ∷ []
+
+abbrev two_permissions : Image
+two_permissions = record { entry = 0x1000; stack = 0; segments = record { address = 0x1000; permission = 4; content = 1 ∷ [] } ∷ record { address = 0x2000; permission = 1; content = 2 ∷ [] } ∷ [] }
+
+abbrev late_format : List (List ℕ)
+late_format = codes ".segment 0x1000 1" ∷ codes ".dti2" ∷ []
 
 record Reads : Type 0 where
   instructions : answer three_instructions ≡ Ok three_words_of_it
@@ -66,7 +75,7 @@ record Reads : Type 0 where
   both_sides : answer (codes ".segment 0x1000 1" ∷ codes "jal x0, a" ∷ codes "a: jal x0, a" ∷ codes "jal x0, a" ∷ []) ≡ Ok (one (0x6f ∷ 0x00 ∷ 0x40 ∷ 0x00 ∷ 0x6f ∷ 0x00 ∷ 0x00 ∷ 0x00 ∷ 0x6f ∷ 0xf0 ∷ 0xdf ∷ 0xff ∷ []))
   segments : answer (codes ".segment 0x1000 1" ∷ codes ".byte 1" ∷ codes ".segment 0x2000 3" ∷ codes "end: .word end" ∷ codes ".stack end" ∷ []) ≡ Ok two_of_them
   -- the first segment gives the entry, and is left out without bytes
-  entry : answer (codes ".segment 0x5000 3" ∷ codes ".segment 0x1000 1" ∷ codes ".byte 1" ∷ []) ≡ Ok (record { entry = 0x5000; stack = 0; segments = record { address = 0x1000; permission = 1; content = 1 ∷ [] } ∷ [] })
+  entry : answer (codes ".segment 0x5000 3" ∷ codes ".segment 0x1000 1" ∷ codes ".byte 1" ∷ []) ≡ Ok (record { entry = 0x5000; stack = 0; segments = record { address = 0x1000; permission = 5; content = 1 ∷ [] } ∷ [] })
   last : answer without_segments ≡ Ok (record { entry = 0; stack = 8; segments = [] })
   empty : answer [] ≡ Ok (record { entry = 0; stack = 0; segments = [] })
   words : answer (codes "nop" ∷ []) ≡ Err (fault 1 kinds.Word)
@@ -77,12 +86,19 @@ record Reads : Type 0 where
   definitions : answer twice ≡ Err (fault 2 kinds.Twice)
   none_yet : answer (codes ".byte 1" ∷ []) ≡ Err (fault 1 kinds.Place)
   order : answer (codes ".segment 0x1000 1" ∷ codes ".byte 1" ∷ codes ".segment 0x1ffc 1" ∷ []) ≡ Err (fault 3 kinds.Place)
-  permissions : answer (codes ".segment 0 7" ∷ []) ≡ Err (fault 1 kinds.Place)
+  permissions : answer (codes ".segment 0 4" ∷ []) ≡ Err (fault 1 kinds.Place)
+  -- permissions of DTI2 are taken as they are written
+  formats : answer formatted ≡ Ok two_permissions
+  greatest : answer (codes ".dti2" ∷ codes ".segment 0 8" ∷ []) ≡ Err (fault 2 kinds.Place)
+  -- a format stands before any segment, once or more often
+  again : answer (codes ".dti2" ∷ codes ".dti2" ∷ codes ".segment 0 4" ∷ []) ≡ Ok (record { entry = 0; stack = 0; segments = [] })
+  late : answer late_format ≡ Err (fault 2 kinds.Place)
+  alone : answer (codes ".dti2 2" ∷ []) ≡ Err (fault 1 kinds.Operand)
   sizes : answer (codes ".segment 0 1" ∷ codes ".zero 0x1000000" ∷ []) ≡ Err (fault 2 kinds.TooBig)
   undefined : answer none_defined ≡ Err (fault 2 kinds.Label)
 
 reads : Reads
-unfolding source_of definitions definition_in with_lines with_line check_line next lines_of without_return code_of before from same_text label_of body_of statement_in defines label_at is_label word_at mark_at one_word two_apart two_words three_words in_parentheses word_and_address value_from decimal hexadecimal number_of index_of field count value_of register_of operation_of immediate_of memory_of branch_of other_of directive_of mnemonic_of operate operate_immediate shift_immediate address_of load jump_to_register store branch jump upper load_upper add_upper alone load_immediate segment entry stack word byte zeros operands statement_of word_of
+unfolding source_of definitions definition_in with_lines with_line check_line next lines_of without_return code_of before from same_text label_of body_of statement_in defines label_at is_label word_at mark_at one_word two_apart two_words three_words in_parentheses word_and_address value_from decimal hexadecimal number_of index_of field count value_of register_of operation_of immediate_of memory_of branch_of other_of directive_of mnemonic_of operate operate_immediate shift_immediate address_of load jump_to_register store branch jump upper load_upper add_upper alone load_immediate segment dti2 entry stack word byte zeros operands statement_of word_of
 reads = record {
   instructions = refl;
   labels = refl;
@@ -103,6 +119,11 @@ reads = record {
   none_yet = refl;
   order = refl;
   permissions = refl;
+  formats = refl;
+  greatest = refl;
+  again = refl;
+  late = refl;
+  alone = refl;
   sizes = refl;
   undefined = refl;
 }
@@ -120,3 +141,9 @@ defined-twice = (reads-faults (text_of twice) (fault 2 kinds.Twice)).0 reads.def
 
 pub not-defined : IsRefused (text_of none_defined) (fault 2 kinds.Label)
 not-defined = (reads-faults (text_of none_defined) (fault 2 kinds.Label)).0 reads.undefined
+
+pub formats : SourceOf (text_of formatted) two_permissions
+formats = (reads-sources (text_of formatted) two_permissions).0 reads.formats
+
+pub late-format : IsRefused (text_of late_format) (fault 2 kinds.Place)
+late-format = (reads-faults (text_of late_format) (fault 2 kinds.Place)).0 reads.late

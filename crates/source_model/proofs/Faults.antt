@@ -14,7 +14,7 @@ use Rattle.source_model.specs.Meaning as model
 use Rattle.source_model.specs.Meaning.{Statement, Read, Line, worth_of, address_after, effect_of, is_out_of_place, with_effect, with_read, draft_of, image_of, is_too_far, greatest_size, first_kind, fault_of, label_in}
 use Rattle.source_model.specs.Reading as reading
 use Rattle.source_model.specs.Reading.{Draft, Labels, operand_of, draft_with, check_line, with_value}
-use Rattle.source_model.proofs.Segments.{layout_of, address-same}
+use Rattle.source_model.proofs.Segments.{layout_in, address-same}
 use Rattle.source_model.proofs.Drafts.{file_size, view, image-size}
 use Rattle.source_model.proofs.Alike.{value_view, worth_at, Same}
 
@@ -65,16 +65,16 @@ pub draft-more : (all before : List Line) (line : Line) → draft_after all (bef
 unfolding draft_of
 draft-more all before line = ap view (fold-append (λ d l. with_read (label_in all) d l.statement) model.blank before (line ∷ []))
 
-in-place : (labels : model.Labels) (d : model.Draft) (s : Statement) → is_out_of_place d.segments (effect_of labels (address_after d) s) ≡ false → with_read labels d (Ok s) ≡ with_effect d (effect_of labels (address_after d) s)
+in-place : (labels : model.Labels) (d : model.Draft) (s : Statement) → is_out_of_place d (effect_of labels (address_after d) s) ≡ false → with_read labels d (Ok s) ≡ with_effect d (effect_of labels (address_after d) s)
 in-place labels d s h = rw h refl
 
-big-same : (labels : model.Labels) (d : model.Draft) (w : List ℕ) (x : read.Statement) (s : Statement) → Same x w s → is_out_of_place d.segments (effect_of labels (address_after d) s) ≡ false
+big-same : (labels : model.Labels) (d : model.Draft) (w : List ℕ) (x : read.Statement) (s : Statement) → Same x w s → is_out_of_place d (effect_of labels (address_after d) s) ≡ false
     → nat_lt reading.limit (reading.size_with (view d) (layouts.size_of x)) ≡ nat_lt greatest_size (length (image_bytes (image_of (with_read labels d (Ok s)))))
 big-same labels d w x s same h =
     let put : with_read labels d (Ok s) ≡ with_effect d (effect_of labels (address_after d) s) = in-place labels d s h in
     ap (nat_lt greatest_size) (same.size labels d h ∙ (ap (λ (e : model.Draft). file_size e.segments) (sym put) ∙ sym (image-size (with_read labels d (Ok s)))))
 
-rest-same : (labels : model.Labels) (d : model.Draft) (w : List ℕ) (x : read.Statement) (s : Statement) → Same x w s → is_out_of_place d.segments (effect_of labels (address_after d) s) ≡ false
+rest-same : (labels : model.Labels) (d : model.Draft) (w : List ℕ) (x : read.Statement) (s : Statement) → Same x w s → is_out_of_place d (effect_of labels (address_after d) s) ≡ false
     → with_value (view d) x (worth_at labels w x) ≡ cond (list_any (λ v. is_none (worth_of labels (address_after d) v)) s.values) (Err kinds.Label) (kind_or None (view (with_read labels d (Ok s))))
 rest-same labels d w x s same h =
     complete (view d) x (worth_at labels w x) (view (with_read labels d (Ok s))) (λ v e. same.draft labels d v e h ∙ ap view (sym (in-place labels d s h)))
@@ -86,9 +86,9 @@ unfolding check_line
 check-at labels before old at name w x s same defined =
     let d : model.Draft = draft_of labels before in
     let here : ℕ = address_after d in
-    chain-by (list_any (is_too_far labels here) s.values) (reading.is_too_far (layouts.address_in (layout_of d.segments).reached) x (worth_at labels w x))
+    chain-by (list_any (is_too_far labels here) s.values) (reading.is_too_far (layouts.address_in (layout_in d).reached) x (worth_at labels w x))
     (is_some (option_and_then (label_in before) name)) (reading.is_defined_before old at name)
-    (is_out_of_place d.segments (effect_of labels here s)) (layouts.is_out_of_place (layout_of d.segments) x)
+    (is_out_of_place d (effect_of labels here s)) (layouts.is_out_of_place (layout_in d) x)
     (nat_lt reading.limit (reading.size_with (view d) (layouts.size_of x))) (nat_lt greatest_size (length (image_bytes (image_of (with_read labels d (Ok s))))))
     (list_any (λ v. is_none (worth_of labels here v)) s.values) (with_value (view d) x (worth_at labels w x)) (view (with_read labels d (Ok s)))
     (ap (λ (n : ℕ). reading.is_too_far n x (worth_at labels w x)) (address-same d) ∙ same.far labels here) defined (same.place labels d)

@@ -15,21 +15,21 @@ use Rattle.source_model.specs.Statement as old
 use Rattle.source_model.specs.Bytes.{same_text, lines_of}
 use Rattle.source_model.specs.Meaning.{Statement, Read, Line, Labels, Draft, address_after, effect_of, is_out_of_place, with_effect, with_read, blank, draft_of, defines, label_in}
 use Rattle.source_model.specs.Reading.{is_earlier, is_defined_before}
-use Rattle.source_model.proofs.Segments.{layout_of, address-same}
+use Rattle.source_model.proofs.Segments.{layout_in, address-same}
 use Rattle.source_model.proofs.Alike.{Alike}
 use Rattle.source_model.proofs.Lines.{line_in, statement-same}
 
 -- ---- the layout after lines
 
-in-place : (labels : Labels) (d : Draft) (x : old.Read) (s : Statement) (t : Bool) (before : Layout) (after : Layout) → is_out_of_place d.segments (effect_of labels (address_after d) s) ≡ t
-    → before ≡ layout_of d.segments → (t ≡ false → after ≡ layout_of (with_effect d (effect_of labels (address_after d) s)).segments) → cond t before after ≡ layout_of (cond t d (with_effect d (effect_of labels (address_after d) s))).segments
+in-place : (labels : Labels) (d : Draft) (x : old.Read) (s : Statement) (t : Bool) (before : Layout) (after : Layout) → is_out_of_place d (effect_of labels (address_after d) s) ≡ t
+    → before ≡ layout_in d → (t ≡ false → after ≡ layout_in (with_effect d (effect_of labels (address_after d) s))) → cond t before after ≡ layout_in (cond t d (with_effect d (effect_of labels (address_after d) s)))
 in-place labels d x s true before after e f g = f
 in-place labels d x s false before after e f g = g refl
 
 -- the layout after a line, whatever labels are worth
-pub layout-with : (labels : Labels) (d : Draft) (r : old.Read) (q : Read) → Alike r q → layouts.with_read (layout_of d.segments) r ≡ layout_of (with_read labels d q).segments
+pub layout-with : (labels : Labels) (d : Draft) (r : old.Read) (q : Read) → Alike r q → layouts.with_read (layout_in d) r ≡ layout_in (with_read labels d q)
 layout-with labels d (Ok x) (Ok s) same =
-    rw (same.place labels d) (in-place labels d (Ok x) s (is_out_of_place d.segments (effect_of labels (address_after d) s)) (layout_of d.segments) (layouts.after (layout_of d.segments) x.0) refl refl (λ h. same.layout labels d h))
+    rw (same.place labels d) (in-place labels d (Ok x) s (is_out_of_place d (effect_of labels (address_after d) s)) (layout_in d) (layouts.after (layout_in d) x.0) refl refl (λ h. same.layout labels d h))
 layout-with labels d (Err k) (Err j) same = refl
 layout-with labels d (Ok x) (Err j) same = absurd same
 layout-with labels d (Err k) (Ok s) same = absurd same
@@ -40,7 +40,7 @@ no_labels n = None
 abbrev with_line : Draft → Line → Draft
 with_line d l = with_read no_labels d l.statement
 
-next-same : (d : Draft) (l : List ℕ) → layouts.next (layout_of d.segments) l ≡ layout_of (with_line d (line_in l)).segments
+next-same : (d : Draft) (l : List ℕ) → layouts.next (layout_in d) l ≡ layout_in (with_line d (line_in l))
 unfolding layouts.next
 next-same d l = layout-with no_labels d (statement_in l) (line_in l).statement (statement-same l)
 
@@ -77,12 +77,12 @@ value-step : (t : Bool) (f : Definition) (o : Option Definition) (d : Draft) (l 
 value-step true f o d l ls name e g h = ap (λ (n : ℕ). Some n) g ∙ sym (first-line d l ls name e)
 value-step false f o d l ls name e g h = h ∙ sym (later-line d l ls name e)
 
-value-same : (at : ℕ) (d : Draft) (texts : List (List ℕ)) (name : List ℕ) → option_map (λ d. d.value) (definition_in at (layout_of d.segments) texts name) ≡ worth_behind d (map line_in texts) name
+value-same : (at : ℕ) (d : Draft) (texts : List (List ℕ)) (name : List ℕ) → option_map (λ d. d.value) (definition_in at (layout_in d) texts name) ≡ worth_behind d (map line_in texts) name
 unfolding definition_in
 value-same at d [] name = refl
 value-same at d (l ∷ ls) name =
     rw (defines-same name l, next-same d l)
-    (value-step (defines name (line_in l)) (record { line = at; value = layouts.address_in (layout_of d.segments).reached }) (definition_in (at + 1) (layout_of (with_line d (line_in l)).segments) ls name)
+    (value-step (defines name (line_in l)) (record { line = at; value = layouts.address_in (layout_in d).reached }) (definition_in (at + 1) (layout_in (with_line d (line_in l))) ls name)
     d (line_in l) (map line_in ls) name refl (address-same d) (value-same (at + 1) (with_line d (line_in l)) ls name))
 
 pub worth-of : (text : List ℕ) (name : List ℕ) → option_map (λ d. d.value) (definitions text name) ≡ label_in (map line_in (lines_of text)) name

@@ -66,7 +66,7 @@ other_names =
 
 abbrev directive_names : Names
 directive_names =
-    (codes "li", words.LoadImmediate) ∷ (codes ".segment", words.Segment) ∷ (codes ".entry", words.Entry) ∷ (codes ".stack", words.Stack)
+    (codes "li", words.LoadImmediate) ∷ (codes ".segment", words.Segment) ∷ (codes ".dti2", words.Dti2) ∷ (codes ".entry", words.Entry) ∷ (codes ".stack", words.Stack)
     ∷ (codes ".word", words.Word) ∷ (codes ".byte", words.Byte) ∷ (codes ".zero", words.Zero) ∷ []
 
 abbrev mnemonic_in : Names → List ℕ → Option Mnemonic

@@ -3,6 +3,8 @@ use Rattle.std.proofs.Common.{◌≡◌, ℕ, ◌+◌, ◌^◌, ◌*◌, Bool, t
 use Rattle.std.specs.Prelude.{min, ◌||◌, ◌-◌, ◌==◌, option_map, option_and_then, replicate}
 use Rattle.std.specs.List.{list_all}
 use Rattle.std.specs.Int.{w32, to_le_bytes}
+use Rattle.memory_model.specs.Sizes.{greatest_permission}
+use Rattle.image_model.specs.declared.format.Format.TheVariants as formats
 use Rattle.instruction_model.specs.declared.Comparison.{Comparison}
 use Rattle.instruction_model.specs.declared.Instruction.{Instruction}
 use Rattle.instruction_model.specs.declared.Instruction.TheVariants as instructions
@@ -25,7 +27,7 @@ use Rattle.source_model.specs.Numeral.{number_in, natural_in}
 use Rattle.source_model.specs.Field.{or_fault, field, up_to, count, value_of, register_of}
 use Rattle.source_model.specs.Register as registers
 use Rattle.source_model.specs.RegisterNames.{register_in}
-use Rattle.source_model.specs.Statement.{Read, operate, operate_immediate, shift_immediate, address_of, load, jump_to_register, store, branch, jump, upper, load_upper, add_upper, alone, load_immediate, segment, entry, stack, word, byte, zeros, operands}
+use Rattle.source_model.specs.Statement.{Read, operate, operate_immediate, shift_immediate, address_of, load, jump_to_register, store, branch, jump, upper, load_upper, add_upper, alone, load_immediate, segment, dti2, entry, stack, word, byte, zeros, operands}
 use Rattle.source_model.specs.Statement as old
 use Rattle.source_model.specs.Meaning as model
 use Rattle.source_model.specs.Meaning.{Value, number, label, distance, Effect, bytes, Labels, effect_of, worth_of, is_too_far}
@@ -35,7 +37,7 @@ use Rattle.source_model.proofs.Numerals.{in-range-same, natural-same}
 use Rattle.source_model.proofs.Registers.{register-same}
 use Rattle.source_model.proofs.Words.{Word, words_of, AreSolid}
 use Rattle.source_model.proofs.Shapes.{Agree, one, two, three, one-agrees, two-agrees, three-agrees, apart-agrees, address-agrees}
-use Rattle.source_model.proofs.Alike.{value_view, Same, Alike, with_values, plain, byte-same, loading, load-same, word-same, entry-same, stack-same, branch-same, jump-same, segment-same, zeros-same}
+use Rattle.source_model.proofs.Alike.{value_view, Same, Alike, with_values, plain, byte-same, loading, load-same, word-same, entry-same, stack-same, branch-same, jump-same, segment-same, dti2-same, zeros-same}
 
 -- ---- forms, by what their first words ask for
 
@@ -53,6 +55,7 @@ shape words.Lui = register ∷ comma ∷ parts.field 0 (2 ^ 20 - 1) ∷ []
 shape words.Auipc = register ∷ comma ∷ parts.field 0 (2 ^ 20 - 1) ∷ []
 shape (words.Alone i) = []
 shape words.Segment = parts.field 0 (2 ^ 32 - 1) ∷ natural ∷ []
+shape words.Dti2 = []
 shape words.Entry = value ∷ []
 shape words.Stack = value ∷ []
 shape words.Word = value ∷ []
@@ -73,6 +76,7 @@ shape-solid words.Lui = (refl, tt)
 shape-solid words.Auipc = (refl, tt)
 shape-solid (words.Alone i) = tt
 shape-solid words.Segment = tt
+shape-solid words.Dti2 = tt
 shape-solid words.Entry = tt
 shape-solid words.Stack = tt
 shape-solid words.Word = tt
@@ -93,6 +97,7 @@ effect words.Lui v = instruction (instructions.Lui (v 0) (4096 * v 1))
 effect words.Auipc v = instruction (instructions.Auipc (v 0) (4096 * v 1))
 effect (words.Alone i) v = instruction i
 effect words.Segment v = model.segment (v 0) (v 1)
+effect words.Dti2 v = model.format formats.Dti2
 effect words.Entry v = model.entry (v 0)
 effect words.Stack v = model.stack (v 0)
 effect words.Word v = bytes (to_le_bytes w32 (v 0))
@@ -242,7 +247,7 @@ up-of bound (Some k) = up-same bound k
 count-same : (bound : ℕ) (w : List ℕ) → option_and_then (up_to bound) (numbers.number_of w) ≡ option_map (λ n. min n (bound + 1)) (natural_in w)
 count-same bound w = up-of bound (numbers.number_of w) ∙ ap (option_map (λ n. min n (bound + 1))) (natural-same w)
 
-segment-is : (a p : Option ℕ) → Alike (fit a >>= λ x. fit (option_map (λ n. min n (3 + 1)) p) >>= λ y. Ok (statements.Segment x y, [])) (statement_of (effect words.Segment) (n a ∷ n p ∷ []))
+segment-is : (a p : Option ℕ) → Alike (fit a >>= λ x. fit (option_map (λ n. min n (greatest_permission + 1)) p) >>= λ y. Ok (statements.Segment x y, [])) (statement_of (effect words.Segment) (n a ∷ n p ∷ []))
 segment-is None p = refl
 segment-is (Some x) None = refl
 segment-is (Some x) (Some y) = segment-same x y
@@ -266,6 +271,10 @@ zeros-is (Some x) = zeros-same x
 alone-is : (i : Instruction) (t : Bool) → Alike (cond t (old.plain i) (Err kinds.Operand)) (read_by (effect (words.Alone i)) (cond t (Some []) None))
 alone-is i true = plain i (with_values [] (λ v. instruction i)) (λ labels here. refl) (λ labels here. refl) (λ labels here. refl)
 alone-is i false = refl
+
+dti2-is : (t : Bool) → Alike (cond t (Ok (statements.Dti2, [])) (Err kinds.Operand)) (read_by (effect words.Dti2) (cond t (Some []) None))
+dti2-is true = dti2-same
+dti2-is false = refl
 
 -- ---- each mnemonic
 
@@ -313,7 +322,7 @@ upper-is make text o agrees =
     (λ w. rw (register-same w.0, in-range-same 0 (2 ^ 20 - 1) w.1) (register-number make (register_in w.0) (number_in 0 (2 ^ 20 - 1) w.1))))
 
 pub operands-same : (m : Mnemonic) (text : List ℕ) → Alike (operands m text) (read_by (effect m) (words_of (shape m) text))
-unfolding operands operate operate_immediate shift_immediate load jump_to_register store branch jump load_upper add_upper alone load_immediate segment entry stack word byte zeros register_of field count value_of
+unfolding operands operate operate_immediate shift_immediate load jump_to_register store branch jump load_upper add_upper alone load_immediate segment dti2 entry stack word byte zeros register_of field count value_of
 operands-same (words.Operate o) text = by (three a_register a_register a_register) (three_words text) (words_of (shape (words.Operate o)) text) _ (effect (words.Operate o)) (three-agrees a_register a_register a_register text)
     (λ w. rw (register-same w.0, register-same w.1, register-same w.2) (three-registers (λ x y z. instructions.Operate o x y z) (register_in w.0) (register_in w.1) (register_in w.2)))
 operands-same (words.OperateImmediate o) text = by (three a_register a_register (a_field 2048 2047)) (three_words text) (words_of (shape (words.OperateImmediate o)) text) _ (effect (words.OperateImmediate o)) (three-agrees a_register a_register (a_field 2048 2047) text)
@@ -333,7 +342,8 @@ operands-same words.Lui text = upper-is (λ x y. instructions.Lui x y) text (wor
 operands-same words.Auipc text = upper-is (λ x y. instructions.Auipc x y) text (words_of (shape words.Auipc) text) (two-agrees a_register (a_field 0 (2 ^ 20 - 1)) text)
 operands-same (words.Alone i) text = alone-is i (is_empty (from Solid text))
 operands-same words.Segment text = by (two (a_field 0 (2 ^ 32 - 1)) a_natural) (two_apart text) (words_of (shape words.Segment) text) _ (effect words.Segment) (apart-agrees (a_field 0 (2 ^ 32 - 1)) a_natural text)
-    (λ w. rw (in-range-same 0 (2 ^ 32 - 1) w.0, count-same 3 w.1) (segment-is (number_in 0 (2 ^ 32 - 1) w.0) (natural_in w.1)))
+    (λ w. rw (in-range-same 0 (2 ^ 32 - 1) w.0, count-same greatest_permission w.1) (segment-is (number_in 0 (2 ^ 32 - 1) w.0) (natural_in w.1)))
+operands-same words.Dti2 text = dti2-is (is_empty (from Solid text))
 operands-same words.Entry text = by (one a_value) (one_word text) (words_of (shape words.Entry) text) _ (effect words.Entry) (one-agrees a_value text)
     (λ w. rw (label-same w, in-range-same (2 ^ 31) (2 ^ 32 - 1) w) (value-is (λ z. statements.Entry z) (effect words.Entry) w (is_label w) (word_value w) (entry-same w)))
 operands-same words.Stack text = by (one a_value) (one_word text) (words_of (shape words.Stack) text) _ (effect words.Stack) (one-agrees a_value text)

@@ -9,7 +9,7 @@ use Rattle.instruction_model.specs.declared.Instruction.TheVariants as instructi
 use Rattle.source_model.specs.declared.error.AsmErrorKind.{AsmErrorKind}
 use Rattle.source_model.specs.declared.error.AsmErrorKind.TheVariants as kinds
 use Rattle.source_model.specs.declared.mnemonic.Mnemonic.{Mnemonic}
-use Rattle.source_model.specs.declared.mnemonic.Mnemonic.TheVariants.{Operate, OperateImmediate, ShiftImmediate, Load, Store, Branch, Jalr, Jal, Lui, Auipc, Alone, LoadImmediate, Segment, Entry, Stack, Word, Byte, Zero}
+use Rattle.source_model.specs.declared.mnemonic.Mnemonic.TheVariants.{Operate, OperateImmediate, ShiftImmediate, Load, Store, Branch, Jalr, Jal, Lui, Auipc, Alone, LoadImmediate, Segment, Dti2, Entry, Stack, Word, Byte, Zero}
 use Rattle.source_model.specs.Bytes.{same_text}
 use Rattle.source_model.specs.Field.{or_fault}
 
@@ -83,6 +83,7 @@ unfoldable pub directive_of : List ℕ → Option Mnemonic
 directive_of word =
     if same_text word (codes "li") then Some LoadImmediate
     else if same_text word (codes ".segment") then Some Segment
+    else if same_text word (codes ".dti2") then Some Dti2
     else if same_text word (codes ".entry") then Some Entry
     else if same_text word (codes ".stack") then Some Stack
     else if same_text word (codes ".word") then Some Word

@@ -10,6 +10,7 @@ use Rattle.instruction_model.specs.declared.LoadKind.TheVariants.{Lb, Lh, Lw, Lb
 use Rattle.instruction_model.specs.declared.Operation.TheVariants.{Add, Sub, Sll, Slt, Sltu, Xor, Srl, Sra, Or, And}
 use Rattle.instruction_model.specs.declared.Instruction.{Instruction}
 use Rattle.instruction_model.specs.declared.Instruction.TheVariants.{Lui, Auipc, Jal, Jalr, Branch, Load, Store, OperateImmediate, Operate, Fence, Ecall, Ebreak}
+use Rattle.image_model.specs.declared.format.Format.TheVariants.{Dti2}
 use Rattle.instruction_model.specs.Encoding.{word_of}
 use Rattle.instruction_model.specs.Word.{sign_extended}
 use Rattle.source_model.specs.declared.error.AsmErrorKind.TheVariants as kinds

@@ -12,7 +12,7 @@ use Rattle.source_model.specs.declared.error.AsmError.{AsmError}
 use Rattle.source_model.specs.declared.error.AsmErrorKind.{AsmErrorKind}
 use Rattle.source_model.specs.declared.error.AsmErrorKind.TheVariants as kinds
 use Rattle.source_model.specs.declared.statement.Statement.{Statement}
-use Rattle.source_model.specs.declared.statement.Statement.TheVariants.{Nothing, Plain, Branch, Jump, LoadImmediate, Segment, Entry, Stack, Word, Byte, Zero}
+use Rattle.source_model.specs.declared.statement.Statement.TheVariants.{Nothing, Plain, Branch, Jump, LoadImmediate, Segment, Dti2, Entry, Stack, Word, Byte, Zero}
 use Rattle.source_model.specs.declared.statement.Value.{Value}
 use Rattle.source_model.specs.declared.statement.Value.TheVariants as values
 use Rattle.source_model.specs.declared.statement.Layout.{Layout}
@@ -37,6 +37,7 @@ operand_of (Branch c a b t) = t
 operand_of (Jump r t) = t
 operand_of (LoadImmediate r v) = v
 operand_of (Segment a p) = values.Number 0
+operand_of Dti2 = values.Number 0
 operand_of (Entry v) = v
 operand_of (Stack v) = v
 operand_of (Word v) = v
@@ -85,6 +86,7 @@ bytes_of here (Branch c a b t) v = instruction_bytes (instructions.Branch c a b 
 bytes_of here (Jump r t) v = instruction_bytes (instructions.Jal r (distance here v))
 bytes_of here (LoadImmediate r t) v = instruction_bytes (instructions.Lui r (upper_part v)) ++ instruction_bytes (instructions.OperateImmediate Add r r (lower_part v))
 bytes_of here (Segment a p) v = []
+bytes_of here Dti2 v = []
 bytes_of here (Entry t) v = []
 bytes_of here (Stack t) v = []
 bytes_of here (Word t) v = to_le_bytes w32 v
@@ -126,7 +128,8 @@ abbrev pub with_bytes : Draft → Statement → ℕ → Draft
 with_bytes d s v = record d { layout = after d.layout s; content = d.content ++ bytes_of (address_in d.layout.reached) s v; size = size_with d (size_of s) }
 
 abbrev pub draft_with : Draft → Statement → ℕ → Draft
-draft_with d (Segment a p) v = record d { layout = after d.layout (Segment a p); base = a; permission = p; content = []; segments = all_segments d.base d.permission d.content d.segments; first = or_first d.first a }
+draft_with d (Segment a p) v = record d { layout = after d.layout (Segment a p); base = a; permission = model.permission_of d.layout.format p; content = []; segments = all_segments d.base d.permission d.content d.segments; first = or_first d.first a }
+draft_with d Dti2 v = record d { layout = after d.layout Dti2 }
 draft_with d (Entry t) v = record d { entry = Some v }
 draft_with d (Stack t) v = record d { stack = v }
 draft_with d s v = with_bytes d s v

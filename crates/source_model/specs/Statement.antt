@@ -2,6 +2,7 @@
 -- that may name its label.
 -- Our choice: a restatement for proofs: operands as they are read.
 use Rattle.std.specs.Prelude.{ℕ, ◌*◌, ◌-◌, ◌^◌, List, [], Result, Ok, Err, if◌then◌else◌}
+use Rattle.memory_model.specs.Sizes.{greatest_permission}
 use Rattle.memory_model.specs.declared.Width.{Width}
 use Rattle.instruction_model.specs.declared.Comparison.{Comparison}
 use Rattle.instruction_model.specs.declared.LoadKind.{LoadKind}
@@ -127,8 +128,11 @@ unfoldable pub segment : List ℕ → Read
 segment text = do
   w ← two_apart text
   a ← field 0 (2 ^ 32 - 1) w.0
-  p ← count 3 w.1
+  p ← count greatest_permission w.1
   Ok (statements.Segment a p, [])
+
+unfoldable pub dti2 : List ℕ → Read
+dti2 text = if is_empty (from Solid text) then Ok (statements.Dti2, []) else Err kinds.Operand
 
 unfoldable pub entry : List ℕ → Read
 entry text = do
@@ -174,6 +178,7 @@ operands words.Auipc text = add_upper text
 operands (words.Alone i) text = alone i text
 operands words.LoadImmediate text = load_immediate text
 operands words.Segment text = segment text
+operands words.Dti2 text = dti2 text
 operands words.Entry text = entry text
 operands words.Stack text = stack text
 operands words.Word text = word text

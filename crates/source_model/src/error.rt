@@ -15,7 +15,7 @@ pub enum AsmErrorKind {
     Number,
     /// The label is defined in an earlier line.
     Twice,
-    /// Bytes stand where none can, or a segment begins where none can.
+    /// Bytes stand where none can, a segment begins where none can or with a permission that it cannot have, or `.dti2` follows a segment.
     Place,
     /// The image's file is above 16,777,216 bytes.
     TooBig,

@@ -8,6 +8,7 @@ mod sources;
 mod statement;
 
 pub use error::{AsmError, AsmErrorKind};
+pub use image_model::Format;
 pub use instruction_model::{Comparison, Instruction, LoadKind, Operation, Width};
 pub use laws::labels_are_addresses;
 pub use mnemonic::{Base, Mnemonic, Number};

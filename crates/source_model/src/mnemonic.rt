@@ -20,6 +20,7 @@ pub enum Mnemonic {
     Alone(Instruction),
     LoadImmediate,
     Segment,
+    Dti2,
     Entry,
     Stack,
     Word,

@@ -1,3 +1,4 @@
+use image_model::Format;
 use instruction_model::{Comparison, Instruction};
 
 /// A class of bytes, at the first of which a text is cut.
@@ -52,11 +53,13 @@ pub enum Statement {
         rd: u8,
         value: Value,
     },
-    /// A segment begins at the address. A permission above 3 stands as 4.
+    /// A segment begins at the address. A permission above `GREATEST_PERMISSION` stands as one more than it.
     Segment {
         address: u32,
         permission: u8,
     },
+    /// Permissions are those of the format DTI2.
+    Dti2,
     /// Where the root begins.
     Entry(Value),
     /// The root's stack pointer.
@@ -72,6 +75,8 @@ pub enum Statement {
 /// How far the lines of a source have come.
 #[derive(Clone, Copy, Debug, PartialEq, Eq)]
 pub struct Layout {
+    /// The format whose permissions segments have.
+    pub format: Format,
     /// The address of the next byte, 0 to 2^32. None where no segment has begun.
     pub reached: Option<u64>,
     /// The address after the last byte, 0 where there is none.
