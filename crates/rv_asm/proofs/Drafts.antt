@@ -6,14 +6,17 @@ use Rattle.std.proofs.lemmas.List.{append-nil, length-replicate}
 use Rattle.std.proofs.lemmas.List.Concat.{flat_map-cons}
 use Rattle.std.proofs.lemmas.Grind.{flat_map-append}
 use Rattle.std.specs.List.{flat_map}
+use Rattle.memory_model.specs.Sizes.{page_size, greatest_permission}
+use Rattle.image_model.specs.declared.format.Format.{Format}
+use Rattle.image_model.specs.declared.format.Format.TheVariants as formats
 use Rattle.image_model.specs.Image as model
-use Rattle.image_model.specs.Image.{AreSegments, IsSegment, last_page, segment_bytes, image_bytes}
+use Rattle.image_model.specs.Image.{AreSegments, IsSegment, last_page, greatest_byte, permission_of, image_bytes}
 use Rattle.image_file.proofs.Loop.{page_after, AreSegments-push, page_after-push}
 use Rattle.source_model.specs.declared.error.AsmError.{AsmError}
 use Rattle.source_model.specs.declared.error.AsmErrorKind.{AsmErrorKind}
 use Rattle.source_model.specs.declared.error.AsmErrorKind.TheVariants as kinds
 use Rattle.source_model.specs.declared.statement.Statement.{Statement}
-use Rattle.source_model.specs.declared.statement.Statement.TheVariants.{Nothing, Plain, Branch, Jump, LoadImmediate, Segment, Entry, Stack, Word, Byte, Zero}
+use Rattle.source_model.specs.declared.statement.Statement.TheVariants.{Nothing, Plain, Branch, Jump, LoadImmediate, Segment, Dti2, Entry, Stack, Word, Byte, Zero}
 use Rattle.source_model.specs.declared.statement.Layout.{Layout}
 use Rattle.source_model.specs.Layout.{size_of, bytes_out_of_place, segment_out_of_place, is_out_of_place, further, address_in}
 use Rattle.source_model.specs.Reading.{Draft, Labels, limit, bytes_of, blank, all_segments, size_with, draft_with, check_line, with_value, is_too_far, is_defined_before, in_line, with_line, with_lines, worth_of, operand_of, draft_image}
@@ -30,9 +33,9 @@ Reaches (Some a) base len closed_count begun = (a ≡ base + len) × (closed_cou
 
 pub record IsSoundAt (here : Layout) (base permission len size : ℕ) (ss : List model.Segment) : Type 0 where
   pub segments : AreSegments 0 ss
-  pub order : page_after 0 ss ≤ base / 4096
-  pub permitted : permission ≤ 3
-  pub pages : page_after 0 ss * 4096 ≤ here.used + 4095
+  pub order : page_after 0 ss ≤ base / page_size
+  pub permitted : permission ≤ greatest_permission
+  pub pages : page_after 0 ss * page_size ≤ here.used + 4095
   pub filled : 0 < len → (base + len ≡ here.used) × (here.used ≤ 2 ^ 32)
   pub reached : Reaches here.reached base len (length ss) here.begun
   pub few : here.begun ≤ 64
@@ -49,7 +52,7 @@ blank-sound = record { segments = tt; order = omega arith; permitted = omega ari
 
 pub record IsClosed (used begun : ℕ) (ss : List model.Segment) : Type 0 where
   pub segments : AreSegments 0 ss
-  pub pages : page_after 0 ss * 4096 ≤ used + 4095
+  pub pages : page_after 0 ss * page_size ≤ used + 4095
   pub count : length ss ≤ begun
 
 count-of : (r : Option ℕ) (base len count begun : ℕ) → Reaches r base len count begun → (count ≤ begun) × (0 < len → count + 1 ≤ begun)
@@ -84,19 +87,19 @@ and-second : (x y : Bool) → (x && y) ≡ false → x ≡ true → y ≡ false
 and-second true y h t = h
 and-second false y h t = cc
 
-some-step : (a used begun base permission len size size2 n : ℕ) (ss : List model.Segment) (t : Bool) → (n == 0) ≡ t → IsSoundAt (record { reached = Some a; used = used; begun = begun }) base permission len size ss
-    → bytes_out_of_place (Some a) n ≡ false → len + n ≤ size2 → size2 ≤ 16777216 → IsSoundAt (further (Some a) (record { reached = Some a; used = used; begun = begun }) n) base permission (len + n) size2 ss
-some-step a used begun base permission len size size2 n ss true e h fits short room =
+some-step : (f : Format) (a used begun base permission len size size2 n : ℕ) (ss : List model.Segment) (t : Bool) → (n == 0) ≡ t → IsSoundAt (record { format = f; reached = Some a; used = used; begun = begun }) base permission len size ss
+    → bytes_out_of_place (Some a) n ≡ false → len + n ≤ size2 → size2 ≤ 16777216 → IsSoundAt (further (Some a) (record { format = f; reached = Some a; used = used; begun = begun }) n) base permission (len + n) size2 ss
+some-step f a used begun base permission len size size2 n ss true e h fits short room =
     let none : n ≡ 0 = eqb-true n 0 e in
     let same : len + n ≡ len = omega arith in
     let short2 : len ≤ size2 = omega arith in
     rw (e, same) record { segments = h.segments; order = h.order; permitted = h.permitted; pages = h.pages; filled = h.filled; reached = h.reached; few = h.few; short = short2; room = room }
-some-step a used begun base permission len size size2 n ss false e h fits short room =
+some-step f a used begun base permission len size size2 n ss false e h fits short room =
     let some : n ≡ 0 → ⊥ = eqb-false n 0 e in
     let more : 0 < n = omega (arith, some) in
     let end : a + n ≤ 2 ^ 32 = ltb-false (2 ^ 32) (a + n) (and-second (nat_lt 0 n) (nat_lt (2 ^ 32) (a + n)) fits (lt-ltb 0 n more)) in
     let at_end : a ≡ base + len = h.reached.0 in
-    let order : page_after 0 ss ≤ base / 4096 = h.order in
+    let order : page_after 0 ss ≤ base / page_size = h.order in
     rw e record {
       segments = h.segments;
       order = h.order;
@@ -109,14 +112,14 @@ some-step a used begun base permission len size size2 n ss false e h fits short 
       room = room;
     }
 
-extend-at : (r : Option ℕ) (used begun base permission len size size2 n : ℕ) (ss : List model.Segment) → IsSoundAt (record { reached = r; used = used; begun = begun }) base permission len size ss
-    → bytes_out_of_place r n ≡ false → len + n ≤ size2 → size2 ≤ 16777216 → IsSoundAt (further r (record { reached = r; used = used; begun = begun }) n) base permission (len + n) size2 ss
-extend-at None used begun base permission len size size2 n ss h fits short room =
+extend-at : (f : Format) (r : Option ℕ) (used begun base permission len size size2 n : ℕ) (ss : List model.Segment) → IsSoundAt (record { format = f; reached = r; used = used; begun = begun }) base permission len size ss
+    → bytes_out_of_place r n ≡ false → len + n ≤ size2 → size2 ≤ 16777216 → IsSoundAt (further r (record { format = f; reached = r; used = used; begun = begun }) n) base permission (len + n) size2 ss
+extend-at f None used begun base permission len size size2 n ss h fits short room =
     let none : n ≤ 0 = ltb-false 0 n fits in
     let same : len + n ≡ len = omega arith in
     let short2 : len ≤ size2 = omega arith in
     rw same record { segments = h.segments; order = h.order; permitted = h.permitted; pages = h.pages; filled = h.filled; reached = h.reached; few = h.few; short = short2; room = room }
-extend-at (Some a) used begun base permission len size size2 n ss h fits short room = some-step a used begun base permission len size size2 n ss (n == 0) refl h fits short room
+extend-at f (Some a) used begun base permission len size size2 n ss h fits short room = some-step f a used begun base permission len size size2 n ss (n == 0) refl h fits short room
 
 grows : (size len n extra : ℕ) (t : Bool) → (n == 0) ≡ t → len ≤ size → len + n ≤ cond t size (size + n + extra)
 grows size len n extra true e h =
@@ -129,7 +132,7 @@ extend : (d : Draft) (bytes : List ℕ) (n : ℕ) → IsSound d → length bytes
 extend d bytes n h counted fits room =
     let len : length (d.content ++ bytes) ≡ length d.content + n = length-append d.content bytes ∙ ap (λ (k : ℕ). length d.content + k) counted in
     let short : length d.content + n ≤ size_with d n = grows d.size (length d.content) n (cond (is_empty d.content) 9 0) (n == 0) refl h.short in
-    rw len (extend-at d.layout.reached d.layout.used d.layout.begun d.base d.permission (length d.content) d.size (size_with d n) n d.segments h fits short (ltb-false limit (size_with d n) room))
+    rw len (extend-at d.layout.format d.layout.reached d.layout.used d.layout.begun d.base d.permission (length d.content) d.size (size_with d n) n d.segments h fits short (ltb-false limit (size_with d n) room))
 
 -- ---- a segment that begins
 
@@ -139,14 +142,18 @@ or-three false true z h = cc
 or-three false false true h = cc
 or-three false false false h = (refl, refl, refl)
 
+permission-allowed : (f : Format) (p : ℕ) → p ≤ greatest_byte f → permission_of f p ≤ greatest_permission
+permission-allowed formats.Dti1 p h = omega (arith, h)
+permission-allowed formats.Dti2 p h = h
+
 begin : (d : Draft) (a p v : ℕ) → IsSound d → segment_out_of_place d.layout a p ≡ false → IsSound (draft_with d (Segment a p) v)
 begin d a p v h fits =
-    let parts = or-three (nat_lt 3 p) (nat_lt (a / 4096 * 4096) d.layout.used) (nat_le 64 d.layout.begun) fits in
-    let permitted : p ≤ 3 = ltb-false 3 p parts.0 in
-    let above : d.layout.used ≤ a / 4096 * 4096 = ltb-false (a / 4096 * 4096) d.layout.used parts.1 in
+    let parts = or-three (nat_lt (greatest_byte d.layout.format) p) (nat_lt (a / page_size * page_size) d.layout.used) (nat_le 64 d.layout.begun) fits in
+    let permitted : permission_of d.layout.format p ≤ greatest_permission = permission-allowed d.layout.format p (ltb-false (greatest_byte d.layout.format) p parts.0) in
+    let above : d.layout.used ≤ a / page_size * page_size = ltb-false (a / page_size * page_size) d.layout.used parts.1 in
     let few : d.layout.begun < 64 = leb-false 64 d.layout.begun parts.2 in
     let old = is-closed d h in
-    let pages : page_after 0 (all_segments d.base d.permission d.content d.segments) * 4096 ≤ d.layout.used + 4095 = old.pages in
+    let pages : page_after 0 (all_segments d.base d.permission d.content d.segments) * page_size ≤ d.layout.used + 4095 = old.pages in
     let count : length (all_segments d.base d.permission d.content d.segments) ≤ d.layout.begun = old.count in
     let room : d.size ≤ 16777216 = h.room in
     record {
@@ -168,6 +175,7 @@ apply d (Branch c a b t) v h fits room = extend d (bytes_of (address_in d.layout
 apply d (Jump r t) v h fits room = extend d (bytes_of (address_in d.layout.reached) (Jump r t) v) 4 h (size-bytes (address_in d.layout.reached) (Jump r t) v) fits room
 apply d (LoadImmediate r t) v h fits room = extend d (bytes_of (address_in d.layout.reached) (LoadImmediate r t) v) 8 h (size-bytes (address_in d.layout.reached) (LoadImmediate r t) v) fits room
 apply d (Segment a p) v h fits room = begin d a p v h fits
+apply d Dti2 v h fits room = record { segments = h.segments; order = h.order; permitted = h.permitted; pages = h.pages; filled = h.filled; reached = h.reached; few = h.few; short = h.short; room = h.room }
 apply d (Entry t) v h fits room = h
 apply d (Stack t) v h fits room = h
 apply d (Word t) v h fits room = extend d (bytes_of (address_in d.layout.reached) (Word t) v) 4 h (size-bytes (address_in d.layout.reached) (Word t) v) fits room

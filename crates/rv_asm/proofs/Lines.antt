@@ -4,9 +4,9 @@ use Rattle.source_model.specs.declared.error.AsmError.{AsmError}
 use Rattle.source_model.specs.declared.error.AsmErrorKind.{AsmErrorKind}
 use Rattle.source_model.specs.Reading.{Draft, Labels, in_line, with_line, with_lines}
 use Rattle.source_model.specs.Bytes.{lines_of}
-use Rattle.rv_asm.specs.declared.fault.AsmFault.{AsmFault}
-use Rattle.rv_asm.specs.declared.fault.AsmFault.TheVariants as faults
-use Rattle.rv_asm.specs.View.{Fails}
+use Rattle.fault_model.specs.declared.fault.Fault.{Fault}
+use Rattle.fault_model.specs.declared.fault.Fault.TheVariants as faults
+use Rattle.fault_model.specs.Gives.{Fails}
 
 abbrev line_result : ℕ → Result Draft AsmErrorKind → Result Draft AsmError
 line_result number r = in_line number r (λ d. Ok d)
@@ -28,11 +28,11 @@ goes-on labels number d e text line after total first h so_far =
     let one : with_lines labels number d (lines_of text) ≡ with_lines labels (number + 1) e (lines_of after) = rw first (took number (with_line labels number d line) e (λ x. with_lines labels (number + 1) x (lines_of after)) h) in
     sym one ∙ so_far
 
-pub ends : (f : AsmFault) (labels : Labels) (number : ℕ) (d : Draft) (text line after : List ℕ) (total : Result Draft AsmError) → lines_of text ≡ line ∷ lines_of after → Fails f (line_result number (with_line labels number d line))
+pub ends : (f : Fault AsmError) (labels : Labels) (number : ℕ) (d : Draft) (text line after : List ℕ) (total : Result Draft AsmError) → lines_of text ≡ line ∷ lines_of after → Fails f (line_result number (with_line labels number d line))
     → with_lines labels number d (lines_of text) ≡ total → Fails f total
 unfolding with_lines
 ends faults.Memory labels number d text line after total first h so_far = tt
-ends (faults.Source e) labels number d text line after total first h so_far =
+ends (faults.Bad e) labels number d text line after total first h so_far =
     let one : with_lines labels number d (lines_of text) ≡ Err e = rw first (failed number (with_line labels number d line) e (λ x. with_lines labels (number + 1) x (lines_of after)) h) in
     sym so_far ∙ one
 

@@ -8,7 +8,7 @@ use Rattle.source_model.specs.declared.statement.Layout.{Layout}
 use Rattle.source_model.specs.declared.mnemonic.Mnemonic.{Mnemonic}
 use Rattle.source_model.specs.declared.mnemonic.Mnemonic.TheVariants as words
 use Rattle.source_model.specs.declared.statement.Statement.{Statement}
-use Rattle.source_model.specs.declared.statement.Statement.TheVariants.{Nothing, Plain, Branch, Jump, LoadImmediate, Segment, Entry, Stack, Word, Byte, Zero}
+use Rattle.source_model.specs.declared.statement.Statement.TheVariants.{Nothing, Plain, Branch, Jump, LoadImmediate, Segment, Dti2, Entry, Stack, Word, Byte, Zero}
 
 -- an operation whose second number is one of twelve bits
 abbrev pub HasNumber : Operation → Type 0
@@ -49,6 +49,7 @@ IsStatement (Branch c a b t) = IsRegister a × IsRegister b
 IsStatement (Jump r t) = IsRegister r
 IsStatement (LoadImmediate r v) = IsRegister r
 IsStatement (Segment a p) = Unit {0}
+IsStatement Dti2 = Unit {0}
 IsStatement (Entry v) = Unit {0}
 IsStatement (Stack v) = Unit {0}
 IsStatement (Word v) = Unit {0}

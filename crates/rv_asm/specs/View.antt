@@ -1,11 +1,13 @@
 -- What the code's values stand for.
 -- Our choice: a restatement for proofs.
-use Rattle.std.specs.Prelude.{◌≡◌, ℕ, List, Result, Ok, Err}
+use Rattle.std.specs.Prelude.{ℕ, List}
 use Rattle.std.specs.BTreeMap as tree
 use Rattle.std.specs.BTreeMap.{BTreeMap}
 use Rattle.std.specs.Cmp.Lexicographic.{slice_cmp}
 use Rattle.std.specs.Ordering.{nat_cmp}
 use denote.Ref.{Bor}
+use Rattle.fault_model.specs.declared.fault.Fault.{Fault}
+use Rattle.fault_model.specs.declared.fault.Fault.TheVariants as faults
 use Rattle.image_file.specs.View.{segment_views}
 use Rattle.source_model.specs.declared.error.AsmError.{AsmError}
 use Rattle.source_model.specs.declared.statement.Definition.{Definition}
@@ -13,8 +15,6 @@ use Rattle.source_model.specs.Source.{IsRefused}
 use Rattle.source_model.specs.Reading as model
 use Rattle.source_model.specs.Reading.{Labels}
 use Rattle.rv_asm.specs.declared.draft.Draft.{Draft}
-use Rattle.rv_asm.specs.declared.fault.AsmFault.{AsmFault}
-use Rattle.rv_asm.specs.declared.fault.AsmFault.TheVariants as faults
 
 -- where a map of names has labels defined
 unfoldable pub labels_in : BTreeMap (Bor (List ℕ)) Definition → Labels
@@ -23,16 +23,7 @@ labels_in m name = tree.get_by (λ k. slice_cmp nat_cmp name k.now) m
 abbrev pub draft_view : Draft → model.Draft
 draft_view d = record { layout = d.layout; base = d.base; permission = d.permission; content = d.content.items; segments = segment_views d.segments.items; first = d.first; entry = d.entry; stack = d.stack; size = d.size }
 
-abbrev pub Fails : {Y : Type 0} → AsmFault → Result Y AsmError → Type 0
-Fails faults.Memory read = Unit {0}
-Fails (faults.Source e) read = read ≡ Err e
-
--- what the assembler returned is what the grammar gives, unless memory ran out
-abbrev pub Assembles : {X Y : Type 0} → (X → Y) → Result X AsmFault → Result Y AsmError → Type 0
-Assembles view (Ok x) read = read ≡ Ok (view x)
-Assembles view (Err e) read = Fails e read
-
 -- the text is refused with this fault, or memory ran out
-abbrev pub Refuses : AsmFault → List ℕ → Type 0
+abbrev pub Refuses : Fault AsmError → List ℕ → Type 0
 Refuses faults.Memory text = Unit {0}
-Refuses (faults.Source e) text = IsRefused text e
+Refuses (faults.Bad e) text = IsRefused text e

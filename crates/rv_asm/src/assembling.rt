@@ -1,8 +1,9 @@
 ghost use Rattle.std.specs.Prelude.{◌≡◌, ◌≤◌, ◌^◌, Some, Ok, Err, false, IfOk, IfErr, option_map, length};
+ghost use Rattle.fault_model.specs.Gives.{Gives};
 ghost use Rattle.image_model.specs.Image as model;
 ghost use Rattle.image_model.specs.Image.{image_bytes};
 ghost use Rattle.rv_asm.specs.Sound.{IsStatement, IsNear};
-ghost use Rattle.rv_asm.specs.View.{Assembles, Refuses, draft_view, labels_in};
+ghost use Rattle.rv_asm.specs.View.{Refuses, draft_view, labels_in};
 ghost use Rattle.source_model.specs.Layout.{is_out_of_place as cannot_stand, address_in as address, size_of as statement_size};
 ghost use Rattle.source_model.specs.Reading as sources;
 ghost use Rattle.source_model.specs.Reading.{source_of};
@@ -11,7 +12,7 @@ ghost use Rattle.source_model.specs.declared.error.AsmError.{AsmError as ErrorDa
 ghost use Rattle.source_model.specs.Bytes.{lines_of};
 
 use crate::draft::{Draft, blank, draft_image, draft_with, is_too_far, operand_of, size_with};
-use crate::fault::AsmFault;
+use crate::fault::{AsmFault, bad};
 use crate::labels::{Labels, is_defined_before, labels_of, worth_of};
 use crate::layout::{address_in, is_out_of_place, size_of};
 use crate::line::{label_of, statement_in};
@@ -68,24 +69,24 @@ fn with_line(
 ) -> Result<Draft, AsmFault>
     requires near { IsNear draft.layout }
     requires room { draft.size ≤ 16777216 }
-    ensures value { Assembles draft_view result (sources.in_line number (sources.with_line (labels_in labels.now) number (draft_view draft) line.now) (λ d. Ok d)) }
+    ensures value { Gives draft_view result (sources.in_line number (sources.with_line (labels_in labels.now) number (draft_view draft) line.now) (λ d. Ok d)) }
     ensures near { IfOk result (λ d. IsNear d.layout) }
     ensures room { IfOk result (λ d. d.size ≤ 16777216) }
 {
     let (statement, name) = match statement_in(line) {
         Ok(found) => found,
-        Err(kind) => return Err(AsmFault::source(number, kind)),
+        Err(kind) => return Err(bad(number, kind)),
     };
     let value = worth_of(labels, name, operand_of(statement));
     match check_line(labels, number, &draft, label_of(line), statement, value) {
         Ok(value) => Ok(draft_with(alloc, draft, statement, value)?),
-        Err(kind) => Err(AsmFault::source(number, kind)),
+        Err(kind) => Err(bad(number, kind)),
     }
 }
 
 // The draft with every line.
 fn with_lines(alloc: Global, labels: &Labels<'_>, source: &[u8]) -> Result<Draft, AsmFault>
-    ensures { Assembles draft_view result (sources.with_lines (labels_in labels.now) 1 sources.blank (lines_of source.now)) }
+    ensures { Gives draft_view result (sources.with_lines (labels_in labels.now) 1 sources.blank (lines_of source.now)) }
 {
     let mut draft = blank(alloc);
     let mut number = 1;
@@ -101,7 +102,7 @@ fn with_lines(alloc: Global, labels: &Labels<'_>, source: &[u8]) -> Result<Draft
 
 #[tactic(auto, unfolding(source_model::specs::Reading::source_of))]
 fn whole(alloc: Global, source: &[u8]) -> Result<Image, AsmFault>
-    ensures exact { Assembles (λ i. i) result (source_of source.now) }
+    ensures exact { Gives (λ i. i) result (source_of source.now) }
     ensures small { IfOk result (λ i. length (image_bytes i) ≤ 16777216) }
 {
     let labels = labels_of(alloc, source)?;
@@ -111,21 +112,21 @@ fn whole(alloc: Global, source: &[u8]) -> Result<Image, AsmFault>
 
 /// The image that a source stands for: ASCII text in lines, each an optional label with a colon, an optional statement
 /// and an optional comment from `;` or `#` on. Statements are the instructions of RV32I, `li`, and the directives
-/// `.segment`, `.entry`, `.stack`, `.word`, `.byte` and `.zero`. An error is the first fault of the least line that has
+/// `.segment`, `.dti2`, `.entry`, `.stack`, `.word`, `.byte` and `.zero`. An error is the first fault of the least line that has
 /// one, or want of memory.
 pub fn assemble(alloc: Global, source: &[u8]) -> Result<Image, AsmFault>
     // What is assembled is a source of that image.
     ensures found { IfOk result (λ i. SourceOf source.now i) }
     // A source of an image is assembled, unless memory runs out.
-    ensures only { (i : model.Image) → SourceOf source.now i → Assembles (λ x. x) result (Ok i) }
+    ensures only { (i : model.Image) → SourceOf source.now i → Gives (λ x. x) result (Ok i) }
     // Its file is no larger than the limit.
     ensures small { IfOk result (λ i. length (image_bytes i) ≤ 16777216) }
     // What is refused is refused with that fault.
     ensures fault { IfErr result (λ f. Refuses f source.now) }
     // A text that is refused with a fault is refused, unless memory runs out.
-    ensures rest { (e : ErrorData) → IsRefused source.now e → Assembles (λ x. x) result (Err e) }
+    ensures rest { (e : ErrorData) → IsRefused source.now e → Gives (λ x. x) result (Err e) }
     // What reading from left to right gives.
-    ensures exact { Assembles (λ i. i) result (source_of source.now) }
+    ensures exact { Gives (λ i. i) result (source_of source.now) }
 {
     whole(alloc, source)
 }

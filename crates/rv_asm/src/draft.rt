@@ -9,7 +9,7 @@ ghost use Rattle.source_model.specs.Reading as sources;
 
 use crate::labels::START;
 use crate::layout::{address_in, after, size_of};
-use image_file::{Image, Segment};
+use image_file::{Image, Segment, permission_of};
 use rv_decode::{Instr, encode};
 use source_model::{Instruction, Layout, Operation, Statement, Value};
 use std::alloc::{AllocError, Global};
@@ -227,6 +227,7 @@ fn begin(alloc: Global, draft: Draft, address: u32, permission: u8) -> Result<Dr
     ensures value { IfOk result (λ d. draft_view d ≡ sources.draft_with (draft_view draft) (Statement.Segment address permission) 0) }
     ensures near { IfOk result (λ d. IsNear d.layout) }
 {
+    let given = permission_of(draft.layout.format, permission);
     let layout = after(
         draft.layout,
         Statement::Segment {
@@ -251,7 +252,7 @@ fn begin(alloc: Global, draft: Draft, address: u32, permission: u8) -> Result<Dr
     Ok(Draft {
         layout,
         base: address,
-        permission,
+        permission: given,
         content: Vec::new(alloc),
         segments: all_segments(base, before, content, segments)?,
         first: Some(first),
@@ -282,6 +283,10 @@ pub(crate) fn draft_with(
             address,
             permission,
         } => begin(alloc, draft, address, permission),
+        Statement::Dti2 => {
+            draft.layout = after(draft.layout, statement);
+            Ok(draft)
+        }
         Statement::Entry(_) => {
             draft.entry = Some(value);
             Ok(draft)

@@ -10,6 +10,7 @@ use crate::program::{
 };
 use image_file::{Image, Segment};
 use instruction_model::Instruction;
+use memory_model::GREATEST_PERMISSION;
 use std::alloc::{AllocError, Global};
 
 /// What a number is multiplied by to get the next one (a linear congruential generator of Numerical Recipes).
@@ -24,11 +25,11 @@ const MOST_TURNS: u32 = 4096;
 /// Where the code begins.
 const CODE: u32 = 0x1000;
 
-/// The permission of the code.
-const READ: u8 = 1;
+/// The permission of the code: to read and to execute.
+const READ_AND_EXECUTE: u8 = 5;
 
-/// The permission of the data.
-const READ_AND_WRITE: u8 = 3;
+/// The permission of the data: everything is allowed, as for all that a file of DTI1 lets read and write.
+const EVERYTHING: u8 = GREATEST_PERMISSION;
 
 /// Where the turns of the threads begin in the data, in words.
 const TURNS: usize = MOST_THREADS as usize;
@@ -109,7 +110,7 @@ fn code_segment(alloc: Global) -> Result<Segment, AllocError>
     put_instructions(&mut bytes, &stores())?;
     Ok(Segment {
         addr: CODE,
-        perm: READ,
+        perm: READ_AND_EXECUTE,
         bytes,
     })
 }
@@ -121,7 +122,7 @@ fn data_segment(alloc: Global, seed: u32) -> Result<Segment, AllocError>
     put_words(&mut bytes, &data_words(seed))?;
     Ok(Segment {
         addr: DATA,
-        perm: READ_AND_WRITE,
+        perm: EVERYTHING,
         bytes,
     })
 }
@@ -137,7 +138,7 @@ fn both_segments(alloc: Global, seed: u32) -> Result<Vec<Segment>, AllocError>
 
 /// The image that is made from a number: a program of 1 + `seed` mod 16 threads, each of which computes numbers of its own
 /// (G. Marsaglia, "Xorshift RNGs", 2003) and stores the last one. It begins at 0x1000 with its stack pointer 0. There are 152
-/// bytes of code at 0x1000, with permission 1, and 256 bytes of data at 0x10000, with permission 3: the number of threads, and
+/// bytes of code at 0x1000, with permission 5, and 256 bytes of data at 0x10000, with permission 7: the number of threads, and
 /// for each how many numbers it computes, at most 4,096, and from which one on; these come from the seed (the linear
 /// congruential generator of Numerical Recipes). The one error is want of memory.
 #[tactic(auto, using(bench_model::proofs::Generated::are_segments), unfolding(bench_model::specs::Generated::generated))]

@@ -9,7 +9,7 @@ ghost use Rattle.source_model.specs.Reading as sources;
 use crate::layout::{address_in, next};
 use crate::line::label_of;
 use crate::text::first_line;
-use source_model::{Definition, Layout, Value};
+use source_model::{Definition, Format, Layout, Value};
 use std::alloc::{AllocError, Global};
 use std::collections::BTreeMap;
 
@@ -18,6 +18,7 @@ pub(crate) type Labels<'a> = BTreeMap<&'a [u8], Definition>;
 
 /// The layout before the first line.
 pub(crate) const START: Layout = Layout {
+    format: Format::Dti1,
     reached: None,
     used: 0,
     begun: 0,

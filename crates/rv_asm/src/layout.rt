@@ -3,8 +3,9 @@ ghost use Rattle.rv_asm.specs.Sound.{IsStatement, IsNear};
 ghost use Rattle.source_model.specs.Layout as layouts;
 
 use crate::line::statement_in;
-use memory_model::{GREATEST_PERMISSION, PAGE_SIZE};
-use source_model::{Layout, Statement};
+use image_file::greatest_byte;
+use memory_model::PAGE_SIZE;
+use source_model::{Format, Layout, Statement};
 
 /// How many bytes a statement has.
 pub(crate) fn size_of(statement: Statement) -> u64
@@ -19,6 +20,7 @@ pub(crate) fn size_of(statement: Statement) -> u64
         Statement::Jump { .. } => 4,
         Statement::LoadImmediate { .. } => 8,
         Statement::Segment { .. } => 0,
+        Statement::Dti2 => 0,
         Statement::Entry(_) => 0,
         Statement::Stack(_) => 0,
         Statement::Word(_) => 4,
@@ -51,12 +53,12 @@ fn bytes_out_of_place(here: Layout, count: u64) -> bool
 fn segment_out_of_place(here: Layout, address: u32, permission: u8) -> bool
     ensures { result ≡ layouts.segment_out_of_place here address permission }
 {
-    permission > GREATEST_PERMISSION
+    permission > greatest_byte(here.format)
         || u64::from(address / PAGE_SIZE * PAGE_SIZE) < here.used
         || here.begun >= 64
 }
 
-/// Whether a statement's bytes or its segment cannot stand here.
+/// Whether a statement's bytes, its segment or its format cannot stand here.
 pub(crate) fn is_out_of_place(here: Layout, statement: Statement) -> bool
     requires near { IsNear here }
     requires sound { IsStatement statement }
@@ -67,6 +69,7 @@ pub(crate) fn is_out_of_place(here: Layout, statement: Statement) -> bool
             address,
             permission,
         } => segment_out_of_place(here, address, permission),
+        Statement::Dti2 => here.begun > 0,
         _ => bytes_out_of_place(here, size_of(statement)),
     }
 }
@@ -82,7 +85,7 @@ fn further(here: Layout, count: u64) -> Layout
         Some(address) => Layout {
             reached: Some(address + count),
             used: address + count,
-            begun: here.begun,
+            ..here
         },
     }
 }
@@ -98,8 +101,12 @@ pub(crate) fn after(here: Layout, statement: Statement) -> Layout
     match statement {
         Statement::Segment { address, .. } => Layout {
             reached: Some(u64::from(address)),
-            used: here.used,
             begun: here.begun + 1,
+            ..here
+        },
+        Statement::Dti2 => Layout {
+            format: Format::Dti2,
+            ..here
         },
         _ => further(here, size_of(statement)),
     }

@@ -1,5 +1,5 @@
 ghost use Rattle.std.specs.Prelude.{◌≡◌, option_map, IfOk};
-ghost use Rattle.rv_asm.specs.Gives.{Gives};
+ghost use Rattle.rv_asm.specs.Gives.{GivesExactly};
 ghost use Rattle.rv_asm.specs.Sound.{IsStatement};
 ghost use Rattle.source_model.specs.Line as lines;
 
@@ -32,7 +32,7 @@ fn body_of(line: &[u8]) -> &[u8]
 /// A line's statement, or the first kind of fault that the line has by itself.
 #[tactic(auto, unfolding(source_model::specs::Line::statement_in))]
 pub(crate) fn statement_in(line: &[u8]) -> Read<'_>
-    ensures value { Gives (λ x. (x.0, x.1.now)) result (lines.statement_in line.now) }
+    ensures value { GivesExactly (λ x. (x.0, x.1.now)) result (lines.statement_in line.now) }
     ensures sound { IfOk result (λ x. IsStatement x.0) }
 {
     if !cut(Class::Foreign, line).1.is_empty() {

@@ -1,5 +1,5 @@
 ghost use Rattle.std.specs.Prelude.{◌≡◌, IfOk, IfSome};
-ghost use Rattle.rv_asm.specs.Gives.{Gives};
+ghost use Rattle.rv_asm.specs.Gives.{GivesExactly};
 ghost use Rattle.rv_asm.specs.Sound.{IsMnemonic};
 ghost use Rattle.source_model.specs.Mnemonic as mnemonics;
 
@@ -145,6 +145,8 @@ fn directive_of(word: &[u8]) -> Option<Mnemonic>
         Some(Mnemonic::LoadImmediate)
     } else if is_text(word, ".segment") {
         Some(Mnemonic::Segment)
+    } else if is_text(word, ".dti2") {
+        Some(Mnemonic::Dti2)
     } else if is_text(word, ".entry") {
         Some(Mnemonic::Entry)
     } else if is_text(word, ".stack") {
@@ -163,7 +165,7 @@ fn directive_of(word: &[u8]) -> Option<Mnemonic>
 /// What the first word of a statement asks for.
 #[tactic(auto, unfolding(source_model::specs::Mnemonic::mnemonic_of))]
 pub(crate) fn mnemonic_of(word: &[u8]) -> Result<Mnemonic, AsmErrorKind>
-    ensures value { Gives (λ m. m) result (mnemonics.mnemonic_of word.now) }
+    ensures value { GivesExactly (λ m. m) result (mnemonics.mnemonic_of word.now) }
     ensures sound { IfOk result (λ m. IsMnemonic m) }
 {
     operation_of(word)

@@ -1,6 +1,6 @@
 ghost use Rattle.std.specs.Prelude.{◌≡◌, ◌<◌, ◌+◌, ◌≤◌, ◌^◌, ◌⊎◌, option_map, IfOk, IfSome};
 ghost use Rattle.instruction_model.specs.Form.{IsSigned};
-ghost use Rattle.rv_asm.specs.Gives.{Gives, clamp, clamp_number};
+ghost use Rattle.rv_asm.specs.Gives.{GivesExactly, clamp, clamp_number};
 ghost use Rattle.source_model.specs.Field as fields;
 ghost use Rattle.source_model.specs.Number as numbers;
 
@@ -84,7 +84,7 @@ fn number_of(word: &[u8]) -> Option<Number>
 pub(crate) fn field(below: u64, above: u64, word: &[u8]) -> Result<u32, AsmErrorKind>
     requires below { below < 2 ^ 32 }
     requires above { above < 2 ^ 32 }
-    ensures value { Gives (λ n. n) result (fields.field below above word.now) }
+    ensures value { GivesExactly (λ n. n) result (fields.field below above word.now) }
     ensures range { IfOk result (λ n. (n ≤ above) ⊎ (2 ^ 32 ≤ n + below)) }
 {
     match number_of(word) {
@@ -98,7 +98,7 @@ pub(crate) fn field(below: u64, above: u64, word: &[u8]) -> Result<u32, AsmError
 #[tactic(auto, unfolding(source_model::specs::Field::count))]
 pub(crate) fn count(bound: u64, word: &[u8]) -> Result<u64, AsmErrorKind>
     requires { bound ≤ 2 ^ 32 }
-    ensures value { Gives (λ n. n) result (fields.count bound word.now) }
+    ensures value { GivesExactly (λ n. n) result (fields.count bound word.now) }
     ensures bound { IfOk result (λ n. n ≤ bound + 1) }
 {
     match number_of(word) {
@@ -111,7 +111,7 @@ pub(crate) fn count(bound: u64, word: &[u8]) -> Result<u64, AsmErrorKind>
 /// A label, or a number from -2^31 to 2^32 - 1.
 #[tactic(auto, unfolding(source_model::specs::Field::value_of))]
 pub(crate) fn value_of(word: &[u8]) -> Result<Value, AsmErrorKind>
-    ensures { Gives (λ v. v) result (fields.value_of word.now) }
+    ensures { GivesExactly (λ v. v) result (fields.value_of word.now) }
 {
     if is_label(word) {
         return Ok(Value::Label);
@@ -121,7 +121,7 @@ pub(crate) fn value_of(word: &[u8]) -> Result<Value, AsmErrorKind>
 
 /// A number from -2,048 to 2,047, as the immediates of most instructions are.
 pub(crate) fn immediate(word: &[u8]) -> Result<u32, AsmErrorKind>
-    ensures value { Gives (λ n. n) result (fields.field 2048 2047 word.now) }
+    ensures value { GivesExactly (λ n. n) result (fields.field 2048 2047 word.now) }
     ensures signed { IfOk result (λ n. IsSigned 12 n) }
 {
     field(2048, 2047, word)
@@ -129,7 +129,7 @@ pub(crate) fn immediate(word: &[u8]) -> Result<u32, AsmErrorKind>
 
 /// A number from 0 on, no more than `most`.
 pub(crate) fn unsigned(most: u32, word: &[u8]) -> Result<u32, AsmErrorKind>
-    ensures value { Gives (λ n. n) result (fields.field 0 most word.now) }
+    ensures value { GivesExactly (λ n. n) result (fields.field 0 most word.now) }
     ensures small { IfOk result (λ n. n ≤ most) }
 {
     field(0, u64::from(most), word)

@@ -1,5 +1,5 @@
 ghost use Rattle.std.specs.Prelude.{◌≡◌, ◌<◌, IfOk, IfSome};
-ghost use Rattle.rv_asm.specs.Gives.{Gives};
+ghost use Rattle.rv_asm.specs.Gives.{GivesExactly};
 ghost use Rattle.source_model.specs.Field as fields;
 ghost use Rattle.source_model.specs.Register as registers;
 
@@ -62,7 +62,7 @@ fn register_in(word: &[u8]) -> Option<u8>
 /// The number of a register.
 #[tactic(auto, unfolding(source_model::specs::Field::register_of))]
 pub(crate) fn register_of(word: &[u8]) -> Result<u8, AsmErrorKind>
-    ensures value { Gives (λ r. r) result (fields.register_of word.now) }
+    ensures value { GivesExactly (λ r. r) result (fields.register_of word.now) }
     ensures small { IfOk result (λ r. r < 32) }
 {
     register_in(word).ok_or(AsmErrorKind::Register)

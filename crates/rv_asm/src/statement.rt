@@ -1,6 +1,6 @@
 ghost use Rattle.std.specs.Prelude.{◌≡◌, ◌<◌, ◌≤◌, ◌%◌, ◌^◌, IfOk, Ok};
 ghost use Rattle.instruction_model.specs.Form.{HasFields, IsSigned};
-ghost use Rattle.rv_asm.specs.Gives.{Gives};
+ghost use Rattle.rv_asm.specs.Gives.{GivesExactly};
 ghost use Rattle.rv_asm.specs.Sound.{IsStatement, HasNumber, IsShift, IsMnemonic};
 ghost use Rattle.source_model.specs.Statement as statements;
 
@@ -8,6 +8,7 @@ use crate::mnemonic::mnemonic_of;
 use crate::number::{count, immediate, unsigned, value_of};
 use crate::register::register_of;
 use crate::text::{cut, one_word, three_words, trim, two_apart, two_words, word_and_address};
+use memory_model::GREATEST_PERMISSION;
 use source_model::{
     AsmErrorKind, Class, Comparison, Instruction, LoadKind, Mnemonic, Operation, Statement, Width,
 };
@@ -17,7 +18,7 @@ pub(crate) type Read<'a> = Result<(Statement, &'a [u8]), AsmErrorKind>;
 
 fn plain<'a>(instruction: Instruction) -> Read<'a>
     requires { HasFields instruction }
-    ensures value { Gives (λ x. (x.0, x.1.now)) result (statements.plain instruction) }
+    ensures value { GivesExactly (λ x. (x.0, x.1.now)) result (statements.plain instruction) }
     ensures sound { IfOk result (λ x. IsStatement x.0) }
 {
     Ok((Statement::Plain(instruction), &[]))
@@ -25,7 +26,7 @@ fn plain<'a>(instruction: Instruction) -> Read<'a>
 
 #[tactic(auto, unfolding(source_model::specs::Statement::operate))]
 fn operate<'a>(operation: Operation, text: &'a [u8]) -> Read<'a>
-    ensures value { Gives (λ x. (x.0, x.1.now)) result (statements.operate operation text.now) }
+    ensures value { GivesExactly (λ x. (x.0, x.1.now)) result (statements.operate operation text.now) }
     ensures sound { IfOk result (λ x. IsStatement x.0) }
 {
     let (rd, rs1, rs2) = three_words(text)?;
@@ -43,7 +44,7 @@ fn operate<'a>(operation: Operation, text: &'a [u8]) -> Read<'a>
 #[tactic(auto, unfolding(source_model::specs::Statement::operate_immediate))]
 fn operate_immediate<'a>(operation: Operation, text: &'a [u8]) -> Read<'a>
     requires { HasNumber operation }
-    ensures value { Gives (λ x. (x.0, x.1.now)) result (statements.operate_immediate operation text.now) }
+    ensures value { GivesExactly (λ x. (x.0, x.1.now)) result (statements.operate_immediate operation text.now) }
     ensures sound { IfOk result (λ x. IsStatement x.0) }
 {
     let (rd, rs1, number) = three_words(text)?;
@@ -61,7 +62,7 @@ fn operate_immediate<'a>(operation: Operation, text: &'a [u8]) -> Read<'a>
 #[tactic(auto, unfolding(source_model::specs::Statement::shift_immediate))]
 fn shift_immediate<'a>(operation: Operation, text: &'a [u8]) -> Read<'a>
     requires { IsShift operation }
-    ensures value { Gives (λ x. (x.0, x.1.now)) result (statements.shift_immediate operation text.now) }
+    ensures value { GivesExactly (λ x. (x.0, x.1.now)) result (statements.shift_immediate operation text.now) }
     ensures sound { IfOk result (λ x. IsStatement x.0) }
 {
     let (rd, rs1, number) = three_words(text)?;
@@ -79,7 +80,7 @@ fn shift_immediate<'a>(operation: Operation, text: &'a [u8]) -> Read<'a>
 // A register, and a register in parentheses with a number before it.
 #[tactic(auto, unfolding(source_model::specs::Statement::address_of))]
 fn address_of(text: &[u8]) -> Result<(u8, u8, u32), AsmErrorKind>
-    ensures value { Gives (λ x. x) result (statements.address_of text.now) }
+    ensures value { GivesExactly (λ x. x) result (statements.address_of text.now) }
     ensures register { IfOk result (λ x. x.0 < 32) }
     ensures base { IfOk result (λ x. x.1 < 32) }
     ensures offset { IfOk result (λ x. IsSigned 12 x.2) }
@@ -93,7 +94,7 @@ fn address_of(text: &[u8]) -> Result<(u8, u8, u32), AsmErrorKind>
 
 #[tactic(auto, unfolding(source_model::specs::Statement::load))]
 fn load<'a>(kind: LoadKind, text: &'a [u8]) -> Read<'a>
-    ensures value { Gives (λ x. (x.0, x.1.now)) result (statements.load kind text.now) }
+    ensures value { GivesExactly (λ x. (x.0, x.1.now)) result (statements.load kind text.now) }
     ensures sound { IfOk result (λ x. IsStatement x.0) }
 {
     let (rd, rs1, immediate) = address_of(text)?;
@@ -107,7 +108,7 @@ fn load<'a>(kind: LoadKind, text: &'a [u8]) -> Read<'a>
 
 #[tactic(auto, unfolding(source_model::specs::Statement::jump_to_register))]
 fn jump_to_register(text: &[u8]) -> Read<'_>
-    ensures value { Gives (λ x. (x.0, x.1.now)) result (statements.jump_to_register text.now) }
+    ensures value { GivesExactly (λ x. (x.0, x.1.now)) result (statements.jump_to_register text.now) }
     ensures sound { IfOk result (λ x. IsStatement x.0) }
 {
     let (rd, rs1, immediate) = address_of(text)?;
@@ -116,7 +117,7 @@ fn jump_to_register(text: &[u8]) -> Read<'_>
 
 #[tactic(auto, unfolding(source_model::specs::Statement::store))]
 fn store<'a>(width: Width, text: &'a [u8]) -> Read<'a>
-    ensures value { Gives (λ x. (x.0, x.1.now)) result (statements.store width text.now) }
+    ensures value { GivesExactly (λ x. (x.0, x.1.now)) result (statements.store width text.now) }
     ensures sound { IfOk result (λ x. IsStatement x.0) }
 {
     let (rs2, rs1, immediate) = address_of(text)?;
@@ -130,7 +131,7 @@ fn store<'a>(width: Width, text: &'a [u8]) -> Read<'a>
 
 #[tactic(auto, unfolding(source_model::specs::Statement::branch))]
 fn branch<'a>(comparison: Comparison, text: &'a [u8]) -> Read<'a>
-    ensures value { Gives (λ x. (x.0, x.1.now)) result (statements.branch comparison text.now) }
+    ensures value { GivesExactly (λ x. (x.0, x.1.now)) result (statements.branch comparison text.now) }
     ensures sound { IfOk result (λ x. IsStatement x.0) }
 {
     let (rs1, rs2, name) = three_words(text)?;
@@ -150,7 +151,7 @@ fn branch<'a>(comparison: Comparison, text: &'a [u8]) -> Read<'a>
 
 #[tactic(auto, unfolding(source_model::specs::Statement::jump))]
 fn jump(text: &[u8]) -> Read<'_>
-    ensures value { Gives (λ x. (x.0, x.1.now)) result (statements.jump text.now) }
+    ensures value { GivesExactly (λ x. (x.0, x.1.now)) result (statements.jump text.now) }
     ensures sound { IfOk result (λ x. IsStatement x.0) }
 {
     let (rd, name) = two_words(text)?;
@@ -162,7 +163,7 @@ fn jump(text: &[u8]) -> Read<'_>
 // A register, and a number for bits 31 to 12.
 #[tactic(auto, unfolding(source_model::specs::Statement::upper))]
 fn upper(text: &[u8]) -> Result<(u8, u32), AsmErrorKind>
-    ensures value { Gives (λ x. x) result (statements.upper text.now) }
+    ensures value { GivesExactly (λ x. x) result (statements.upper text.now) }
     ensures register { IfOk result (λ x. x.0 < 32) }
     ensures low { IfOk result (λ x. x.1 % 2 ^ 12 ≡ 0) }
 {
@@ -174,7 +175,7 @@ fn upper(text: &[u8]) -> Result<(u8, u32), AsmErrorKind>
 
 #[tactic(auto, unfolding(source_model::specs::Statement::load_upper))]
 fn load_upper(text: &[u8]) -> Read<'_>
-    ensures value { Gives (λ x. (x.0, x.1.now)) result (statements.load_upper text.now) }
+    ensures value { GivesExactly (λ x. (x.0, x.1.now)) result (statements.load_upper text.now) }
     ensures sound { IfOk result (λ x. IsStatement x.0) }
 {
     let (rd, immediate) = upper(text)?;
@@ -183,7 +184,7 @@ fn load_upper(text: &[u8]) -> Read<'_>
 
 #[tactic(auto, unfolding(source_model::specs::Statement::add_upper))]
 fn add_upper(text: &[u8]) -> Read<'_>
-    ensures value { Gives (λ x. (x.0, x.1.now)) result (statements.add_upper text.now) }
+    ensures value { GivesExactly (λ x. (x.0, x.1.now)) result (statements.add_upper text.now) }
     ensures sound { IfOk result (λ x. IsStatement x.0) }
 {
     let (rd, immediate) = upper(text)?;
@@ -193,7 +194,7 @@ fn add_upper(text: &[u8]) -> Read<'_>
 #[tactic(auto, unfolding(source_model::specs::Statement::alone))]
 fn alone<'a>(instruction: Instruction, text: &'a [u8]) -> Read<'a>
     requires { HasFields instruction }
-    ensures value { Gives (λ x. (x.0, x.1.now)) result (statements.alone instruction text.now) }
+    ensures value { GivesExactly (λ x. (x.0, x.1.now)) result (statements.alone instruction text.now) }
     ensures sound { IfOk result (λ x. IsStatement x.0) }
 {
     if !trim(text).is_empty() {
@@ -204,7 +205,7 @@ fn alone<'a>(instruction: Instruction, text: &'a [u8]) -> Read<'a>
 
 #[tactic(auto, unfolding(source_model::specs::Statement::load_immediate))]
 fn load_immediate(text: &[u8]) -> Read<'_>
-    ensures value { Gives (λ x. (x.0, x.1.now)) result (statements.load_immediate text.now) }
+    ensures value { GivesExactly (λ x. (x.0, x.1.now)) result (statements.load_immediate text.now) }
     ensures sound { IfOk result (λ x. IsStatement x.0) }
 {
     let (rd, name) = two_words(text)?;
@@ -215,12 +216,12 @@ fn load_immediate(text: &[u8]) -> Read<'_>
 
 #[tactic(auto, unfolding(source_model::specs::Statement::segment))]
 fn segment(text: &[u8]) -> Read<'_>
-    ensures value { Gives (λ x. (x.0, x.1.now)) result (statements.segment text.now) }
+    ensures value { GivesExactly (λ x. (x.0, x.1.now)) result (statements.segment text.now) }
     ensures sound { IfOk result (λ x. IsStatement x.0) }
 {
     let (address, permission) = two_apart(text)?;
     let address = unsigned(0xffff_ffff, address)?;
-    let permission = count(3, permission)? as u8;
+    let permission = count(u64::from(GREATEST_PERMISSION), permission)? as u8;
     Ok((
         Statement::Segment {
             address,
@@ -230,9 +231,20 @@ fn segment(text: &[u8]) -> Read<'_>
     ))
 }
 
+#[tactic(auto, unfolding(source_model::specs::Statement::dti2))]
+fn dti2(text: &[u8]) -> Read<'_>
+    ensures value { GivesExactly (λ x. (x.0, x.1.now)) result (statements.dti2 text.now) }
+    ensures sound { IfOk result (λ x. IsStatement x.0) }
+{
+    if !trim(text).is_empty() {
+        return Err(AsmErrorKind::Operand);
+    }
+    Ok((Statement::Dti2, &[]))
+}
+
 #[tactic(auto, unfolding(source_model::specs::Statement::entry))]
 fn entry(text: &[u8]) -> Read<'_>
-    ensures value { Gives (λ x. (x.0, x.1.now)) result (statements.entry text.now) }
+    ensures value { GivesExactly (λ x. (x.0, x.1.now)) result (statements.entry text.now) }
     ensures sound { IfOk result (λ x. IsStatement x.0) }
 {
     let name = one_word(text)?;
@@ -241,7 +253,7 @@ fn entry(text: &[u8]) -> Read<'_>
 
 #[tactic(auto, unfolding(source_model::specs::Statement::stack))]
 fn stack(text: &[u8]) -> Read<'_>
-    ensures value { Gives (λ x. (x.0, x.1.now)) result (statements.stack text.now) }
+    ensures value { GivesExactly (λ x. (x.0, x.1.now)) result (statements.stack text.now) }
     ensures sound { IfOk result (λ x. IsStatement x.0) }
 {
     let name = one_word(text)?;
@@ -250,7 +262,7 @@ fn stack(text: &[u8]) -> Read<'_>
 
 #[tactic(auto, unfolding(source_model::specs::Statement::word))]
 fn word(text: &[u8]) -> Read<'_>
-    ensures value { Gives (λ x. (x.0, x.1.now)) result (statements.word text.now) }
+    ensures value { GivesExactly (λ x. (x.0, x.1.now)) result (statements.word text.now) }
     ensures sound { IfOk result (λ x. IsStatement x.0) }
 {
     let name = one_word(text)?;
@@ -259,7 +271,7 @@ fn word(text: &[u8]) -> Read<'_>
 
 #[tactic(auto, unfolding(source_model::specs::Statement::byte))]
 fn byte(text: &[u8]) -> Read<'_>
-    ensures value { Gives (λ x. (x.0, x.1.now)) result (statements.byte text.now) }
+    ensures value { GivesExactly (λ x. (x.0, x.1.now)) result (statements.byte text.now) }
     ensures sound { IfOk result (λ x. IsStatement x.0) }
 {
     let number = one_word(text)?;
@@ -268,7 +280,7 @@ fn byte(text: &[u8]) -> Read<'_>
 
 #[tactic(auto, unfolding(source_model::specs::Statement::zeros))]
 fn zeros(text: &[u8]) -> Read<'_>
-    ensures value { Gives (λ x. (x.0, x.1.now)) result (statements.zeros text.now) }
+    ensures value { GivesExactly (λ x. (x.0, x.1.now)) result (statements.zeros text.now) }
     ensures sound { IfOk result (λ x. IsStatement x.0) }
 {
     let number = one_word(text)?;
@@ -278,7 +290,7 @@ fn zeros(text: &[u8]) -> Read<'_>
 #[tactic(auto, unfolding(source_model::specs::Statement::operands))]
 fn operands<'a>(mnemonic: Mnemonic, text: &'a [u8]) -> Read<'a>
     requires { IsMnemonic mnemonic }
-    ensures value { Gives (λ x. (x.0, x.1.now)) result (statements.operands mnemonic text.now) }
+    ensures value { GivesExactly (λ x. (x.0, x.1.now)) result (statements.operands mnemonic text.now) }
     ensures sound { IfOk result (λ x. IsStatement x.0) }
 {
     match mnemonic {
@@ -295,6 +307,7 @@ fn operands<'a>(mnemonic: Mnemonic, text: &'a [u8]) -> Read<'a>
         Mnemonic::Alone(instruction) => alone(instruction, text),
         Mnemonic::LoadImmediate => load_immediate(text),
         Mnemonic::Segment => segment(text),
+        Mnemonic::Dti2 => dti2(text),
         Mnemonic::Entry => entry(text),
         Mnemonic::Stack => stack(text),
         Mnemonic::Word => word(text),
@@ -306,7 +319,7 @@ fn operands<'a>(mnemonic: Mnemonic, text: &'a [u8]) -> Read<'a>
 /// The statement that a text is.
 #[tactic(auto, unfolding(source_model::specs::Statement::statement_of))]
 pub(crate) fn statement_of(text: &[u8]) -> Read<'_>
-    ensures value { Gives (λ x. (x.0, x.1.now)) result (statements.statement_of text.now) }
+    ensures value { GivesExactly (λ x. (x.0, x.1.now)) result (statements.statement_of text.now) }
     ensures sound { IfOk result (λ x. IsStatement x.0) }
 {
     let start = trim(text);

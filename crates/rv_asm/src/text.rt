@@ -1,5 +1,5 @@
 ghost use Rattle.std.specs.Prelude.{◌≡◌, ◌<◌, ◌∷◌, length, option_map};
-ghost use Rattle.rv_asm.specs.Gives.{Gives};
+ghost use Rattle.rv_asm.specs.Gives.{GivesExactly};
 ghost use Rattle.source_model.specs.Bytes as bytes;
 ghost use Rattle.source_model.specs.Text as text_model;
 
@@ -131,7 +131,7 @@ pub(crate) fn label_at(text: &[u8]) -> Option<(&[u8], &[u8])>
 
 #[tactic(auto, unfolding(source_model::specs::Text::word_at))]
 fn word_at(text: &[u8]) -> Result<(&[u8], &[u8]), AsmErrorKind>
-    ensures { Gives (λ x. (x.0.now, x.1.now)) result (text_model.word_at text.now) }
+    ensures { GivesExactly (λ x. (x.0.now, x.1.now)) result (text_model.word_at text.now) }
 {
     let (word, rest) = cut(Class::WordEnd, trim(text));
     if word.is_empty() {
@@ -142,7 +142,7 @@ fn word_at(text: &[u8]) -> Result<(&[u8], &[u8]), AsmErrorKind>
 
 #[tactic(auto, unfolding(source_model::specs::Text::mark_at))]
 fn mark_at(mark: u8, text: &[u8]) -> Result<&[u8], AsmErrorKind>
-    ensures { Gives (λ x. x.now) result (text_model.mark_at mark text.now) }
+    ensures { GivesExactly (λ x. x.now) result (text_model.mark_at mark text.now) }
 {
     match text {
         [first, rest @ ..] if *first == mark => Ok(rest),
@@ -153,7 +153,7 @@ fn mark_at(mark: u8, text: &[u8]) -> Result<&[u8], AsmErrorKind>
 /// The only word of a text.
 #[tactic(auto, unfolding(source_model::specs::Text::one_word))]
 pub(crate) fn one_word(text: &[u8]) -> Result<&[u8], AsmErrorKind>
-    ensures { Gives (λ x. x.now) result (text_model.one_word text.now) }
+    ensures { GivesExactly (λ x. x.now) result (text_model.one_word text.now) }
 {
     let (word, rest) = word_at(text)?;
     if !rest.is_empty() {
@@ -165,7 +165,7 @@ pub(crate) fn one_word(text: &[u8]) -> Result<&[u8], AsmErrorKind>
 /// The two words of a text, with blanks between them.
 #[tactic(auto, unfolding(source_model::specs::Text::two_apart))]
 pub(crate) fn two_apart(text: &[u8]) -> Result<(&[u8], &[u8]), AsmErrorKind>
-    ensures { Gives (λ x. (x.0.now, x.1.now)) result (text_model.two_apart text.now) }
+    ensures { GivesExactly (λ x. (x.0.now, x.1.now)) result (text_model.two_apart text.now) }
 {
     let (first, rest) = word_at(text)?;
     let second = one_word(rest)?;
@@ -175,7 +175,7 @@ pub(crate) fn two_apart(text: &[u8]) -> Result<(&[u8], &[u8]), AsmErrorKind>
 /// The two words of a text, with a comma between them.
 #[tactic(auto, unfolding(source_model::specs::Text::two_words))]
 pub(crate) fn two_words(text: &[u8]) -> Result<(&[u8], &[u8]), AsmErrorKind>
-    ensures { Gives (λ x. (x.0.now, x.1.now)) result (text_model.two_words text.now) }
+    ensures { GivesExactly (λ x. (x.0.now, x.1.now)) result (text_model.two_words text.now) }
 {
     let (first, rest) = word_at(text)?;
     let rest = mark_at(b',', rest)?;
@@ -186,7 +186,7 @@ pub(crate) fn two_words(text: &[u8]) -> Result<(&[u8], &[u8]), AsmErrorKind>
 /// The three words of a text, with commas between them.
 #[tactic(auto, unfolding(source_model::specs::Text::three_words))]
 pub(crate) fn three_words(text: &[u8]) -> Result<(&[u8], &[u8], &[u8]), AsmErrorKind>
-    ensures { Gives (λ x. (x.0.now, x.1.now, x.2.now)) result (text_model.three_words text.now) }
+    ensures { GivesExactly (λ x. (x.0.now, x.1.now, x.2.now)) result (text_model.three_words text.now) }
 {
     let (first, rest) = word_at(text)?;
     let rest = mark_at(b',', rest)?;
@@ -196,7 +196,7 @@ pub(crate) fn three_words(text: &[u8]) -> Result<(&[u8], &[u8], &[u8]), AsmError
 
 #[tactic(auto, unfolding(source_model::specs::Text::in_parentheses))]
 fn in_parentheses(text: &[u8]) -> Result<&[u8], AsmErrorKind>
-    ensures { Gives (λ x. x.now) result (text_model.in_parentheses text.now) }
+    ensures { GivesExactly (λ x. x.now) result (text_model.in_parentheses text.now) }
 {
     let rest = mark_at(b'(', text)?;
     let (word, rest) = word_at(rest)?;
@@ -210,7 +210,7 @@ fn in_parentheses(text: &[u8]) -> Result<&[u8], AsmErrorKind>
 /// A word, and after a comma a word and one in parentheses.
 #[tactic(auto, unfolding(source_model::specs::Text::word_and_address))]
 pub(crate) fn word_and_address(text: &[u8]) -> Result<(&[u8], &[u8], &[u8]), AsmErrorKind>
-    ensures { Gives (λ x. (x.0.now, x.1.now, x.2.now)) result (text_model.word_and_address text.now) }
+    ensures { GivesExactly (λ x. (x.0.now, x.1.now, x.2.now)) result (text_model.word_and_address text.now) }
 {
     let (first, rest) = word_at(text)?;
     let rest = mark_at(b',', rest)?;
