@@ -4,16 +4,15 @@ use Rattle.std.proofs.lemmas.Bool.Decides.{nat_tests}
 use Rattle.call_model.specs.declared.Kind.{Kind}
 use Rattle.call_model.specs.declared.Kind.TheVariants.{Put, Get}
 use Rattle.call_model.specs.declared.Call.{Call}
-use Rattle.call_model.specs.declared.row.Row.{Row}
-use Rattle.call_model.specs.declared.row.Children.{Children}
-use Rattle.call_model.specs.declared.row.Children.TheVariants as children
-use Rattle.call_model.specs.declared.row.Ranges.{Ranges}
-use Rattle.call_model.specs.declared.row.Ranges.TheVariants as ranges
-use Rattle.call_model.specs.Calls.{row}
+use Rattle.call_model.specs.declared.Row.{Row}
+use Rattle.call_model.specs.declared.Children.{Children}
+use Rattle.call_model.specs.declared.Children.TheVariants as children
+use Rattle.call_model.specs.declared.Ranges.{Ranges}
+use Rattle.call_model.specs.declared.Ranges.TheVariants as ranges
+use Rattle.call_model.specs.Calls.{row, wrong_options, wrong_child, wrong_children, wrong_ranges, wrong_place, wrong_lengths, wrong_depth, wrong_block, argument, new_levels, first_of, tests, first_failing, call_of, kind_in, children_in, levels_in}
 use Rattle.call_model.specs.Options.{has, tree, has_two_changes, has_clash, wrong_put_options, wrong_get_options, passes_end}
-use Rattle.call_model.specs.Tests.{wrong_options, wrong_child, wrong_children, wrong_ranges, wrong_place, wrong_lengths, wrong_depth, wrong_block, argument, new_levels, first_of, tests, first_failing}
 use Rattle.call_model.specs.Limits.{greatest_length, greatest_depth, IsChild, AreChildren}
-use Rattle.call_model.specs.Reading.{call_of, kind_in, children_in, levels_in, IsAccepted, IsSpan}
+use Rattle.call_model.specs.Accepted.{IsAccepted, IsSpan}
 
 -- a call of this row fails no test
 pub record Passes (r : Row) (x : List ℕ) (root : Bool) (depth : ℕ) : Type 0 where

@@ -3,7 +3,7 @@ use Rattle.std.proofs.Common.{◌≡◌, ℕ, Bool, true, false, not, ◌&&◌, 
 use Rattle.std.proofs.lemmas.Bool.Decides.{nat_tests}
 use Rattle.call_model.specs.declared.Transfer.{Transfer}
 use Rattle.call_model.specs.Options.{regs, copy, has, has_range, wrong_range, IsRange, wrong_pages, wrong_block_address}
-use Rattle.call_model.specs.Reading.{IsTransfer}
+use Rattle.call_model.specs.Accepted.{IsTransfer}
 
 both : (a b : Bool) → (a || b) ≡ false → (a ≡ false) × (b ≡ false)
 both true b h = cc

@@ -4,7 +4,7 @@ use Rattle.std.proofs.lemmas.Bool.Decides.{nat_tests}
 use Rattle.std.specs.List.{find}
 use Rattle.call_model.specs.declared.Kind.{Kind}
 use Rattle.call_model.specs.declared.Kind.TheVariants.{Put}
-use Rattle.call_model.specs.Calls.{number_of, kinds, kind_of}
+use Rattle.call_model.specs.Calls.{number_of, all_kinds, kind_of}
 
 -- each kind is that of its number
 pub kind_of-number_of : (k : Kind) → kind_of (number_of k) ≡ Some k
@@ -24,4 +24,4 @@ found (j ∷ ks) n k e = first (n == number_of j) n j k _ refl e (found ks n k)
 
 -- each number of a call is that of its kind
 pub number_of-kind_of : (n : ℕ) (k : Kind) → kind_of n ≡ Some k → number_of k ≡ n
-number_of-kind_of n k e = found kinds n k e
+number_of-kind_of n k e = found all_kinds n k e

@@ -1,6 +1,5 @@
 pub mod Limits
 pub mod Options
 pub mod Calls
-pub mod Tests
-pub mod Reading
+pub mod Accepted
 pub mod Block

@@ -1,12 +1,8 @@
 //! Definitions of calls and of the register block, for contracts: `specs/` has them, over the numbers that stand here.
 #![tactic(auto)]
 
-pub mod call_numbers;
 pub mod limits;
 pub mod option_bits;
-mod row;
-
-pub use row::{Children, Options, Ranges, Row};
 
 /// What Put and Get are asked for (OSDI 2010, "Efficient System-Enforced Deterministic Parallelism", the section on the
 /// kernel interface), in registers a0 to a6. Options are bits: 1 Regs, 2 Copy, 4 Zero, 8 Merge, 16 Perm, 32 Snap, 64 Start,
@@ -41,6 +37,94 @@ pub enum Kind {
     FileGet,
     FileLength,
     FileDelete,
+}
+
+/// The numbers of the kinds of calls, in register a7.
+pub const PUT: u32 = 1;
+
+pub const GET: u32 = 2;
+
+pub const RET: u32 = 3;
+
+pub const CONSOLE_OUT: u32 = 4;
+
+pub const CONSOLE_IN: u32 = 5;
+
+pub const CLOCK: u32 = 6;
+
+pub const RANDOM: u32 = 7;
+
+pub const FORK: u32 = 16;
+
+pub const WAIT: u32 = 17;
+
+pub const TFORK: u32 = 18;
+
+pub const TJOIN: u32 = 19;
+
+pub const FILE_NEW: u32 = 24;
+
+pub const FILE_PUT: u32 = 25;
+
+pub const FILE_GET: u32 = 26;
+
+pub const FILE_LENGTH: u32 = 27;
+
+pub const FILE_DELETE: u32 = 28;
+
+/// What a call may be asked for, beside what it names.
+#[derive(Clone, Copy, Debug, PartialEq, Eq)]
+pub enum Options {
+    /// Nothing.
+    Nothing,
+    /// The options of Put, in a0.
+    Put,
+    /// The options of Get, in a0.
+    Get,
+    /// Yes or no, by 1 or 0 in a3.
+    ChoiceInA3,
+    /// Yes or no, by 1 or 0 in a5.
+    ChoiceInA5,
+}
+
+/// The children that a call names by their numbers.
+#[derive(Clone, Copy, Debug, PartialEq, Eq)]
+pub enum Children {
+    /// None.
+    Nobody,
+    /// The one in a1.
+    One,
+    /// The one in a1; with Tree among the options in a0, those in a3 and a4 too.
+    Tree,
+}
+
+/// The ranges of memory that a call names. Addresses and lengths are in bytes.
+#[derive(Clone, Copy, Debug, PartialEq, Eq)]
+pub enum Ranges {
+    /// None.
+    Nowhere,
+    /// a2 bytes from a1 on.
+    One,
+    /// a2 bytes from a1 on, and a4 bytes from a3 on.
+    Two,
+    /// a5 bytes from a3 on and from a4 on, whole pages, as the options in a0 ask.
+    Pages,
+}
+
+/// A row of the table of calls: what the tests on registers are told of a kind. Levels are counted from the caller, whose children are at 1.
+#[derive(Clone, Copy, Debug, PartialEq, Eq)]
+pub struct Row {
+    /// Register a7.
+    pub number: u32,
+    pub options: Options,
+    pub children: Children,
+    pub ranges: Ranges,
+    /// Whether it is for the root alone, which has the devices.
+    pub device: bool,
+    /// The deepest level at which it makes a space; 0 where it makes none.
+    pub levels: u8,
+    /// The same with Tree among the options in a0.
+    pub tree_levels: u8,
 }
 
 /// A call on a file of the caller's own file system (OSDI 2010, "Efficient System-Enforced Deterministic Parallelism", the section on file

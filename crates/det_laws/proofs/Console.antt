@@ -8,7 +8,7 @@ use Rattle.call_model.specs.declared.Call.{Call}
 use Rattle.call_model.specs.declared.Call.TheVariants.{Ret, ConsoleOut, ConsoleIn, Clock, Random, File}
 use Rattle.call_model.specs.declared.Badcall as refusal
 use Rattle.call_model.specs.Limits.{greatest_depth}
-use Rattle.call_model.specs.Reading.{read}
+use Rattle.call_model.specs.Calls.{read}
 use Rattle.space_model.specs.declared.Status.{Status}
 use Rattle.space_model.specs.declared.Status.TheVariants.{Running, Stopped}
 use Rattle.device_model.specs.Devices.{Devices}

@@ -1,5 +1,5 @@
 ghost use Rattle.std.specs.Prelude.{◌≡◌, ℕ, IfOk, IsOk, OnErr, OnOk};
-ghost use Rattle.call_model.specs.Reading.{IsFileCall, IsSpan};
+ghost use Rattle.call_model.specs.Accepted.{IsFileCall, IsSpan};
 ghost use Rattle.call_model.specs.declared.FileCall.TheVariants as calls;
 ghost use Rattle.space_mem.specs.Held.{KeepsMarks, Marks};
 ghost use Rattle.space_model.specs.Files as files;

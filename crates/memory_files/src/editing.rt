@@ -2,7 +2,7 @@ ghost use Rattle.std.specs.Prelude.{◌≡◌, ℕ, ◌<◌, Bool, List, true, I
 ghost use Rattle.memory_model.specs.Memory.{bytes_from};
 ghost use Rattle.file_model.specs.Sizes.{slot_count};
 ghost use Rattle.file_model.specs.Operations as operations;
-ghost use Rattle.call_model.specs.Reading.{IsSpan};
+ghost use Rattle.call_model.specs.Accepted.{IsSpan};
 ghost use Rattle.file_image.specs.Lookup.{slot_answer};
 ghost use Rattle.space_model.specs.Files.{files_in, change_result};
 ghost use Rattle.memory_files.specs.Slots.{OwnsSlots, has_slot};

@@ -1,7 +1,7 @@
 ghost use Rattle.std.specs.Prelude.{◌≡◌, ◌+◌, ◌-◌, ◌≤◌, ◌^◌, min, Ok, IfOk, OnErr};
 ghost use Rattle.memory_model.specs.Memory.{bytes_from};
 ghost use Rattle.file_model.specs.Operations as operations;
-ghost use Rattle.call_model.specs.Reading.{IsSpan};
+ghost use Rattle.call_model.specs.Accepted.{IsSpan};
 ghost use Rattle.space_model.specs.Files.{files_in, part_result, length_result};
 ghost use Rattle.memory_files.specs.Answers.{HasResult, HasLength, IsBesidePart, IsFound, IsPart};
 

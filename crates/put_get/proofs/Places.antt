@@ -2,7 +2,7 @@
 use Rattle.std.proofs.Common.{◌≡◌, ℕ, ◌+◌, ◌/◌, ◌%◌, ◌≤◌, Bool, true, false, ◌||◌, refl, arith}
 use Rattle.call_model.specs.declared.Transfer.{Transfer}
 use Rattle.call_model.specs.Options.{regs, copy, zeroing, merging, perm, has, IsRange}
-use Rattle.call_model.specs.Reading.{IsTransfer}
+use Rattle.call_model.specs.Accepted.{IsTransfer}
 use Rattle.call_model.proofs.Kept.{destination_range, source_range, block_place}
 
 first_of : (a b : Bool) → a ≡ true → (a || b) ≡ true

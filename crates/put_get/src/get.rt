@@ -1,7 +1,7 @@
 ghost use Rattle.std.specs.Prelude.{◌≡◌, ◌+◌, OnOk, OnErr, IfErr, None, true, option_map};
 ghost use Rattle.call_model.specs.Options as options_of;
 ghost use Rattle.call_model.specs.declared.Call.TheVariants.{Get};
-ghost use Rattle.call_model.specs.Reading.{IsTransfer};
+ghost use Rattle.call_model.specs.Accepted.{IsTransfer};
 ghost use Rattle.space_model.specs.Event.{MayPay};
 ghost use Rattle.space_model.specs.Beginning.{fresh_top};
 ghost use Rattle.space_model.specs.Meeting.{or_fresh};

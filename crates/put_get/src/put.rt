@@ -1,7 +1,7 @@
 ghost use Rattle.std.specs.Prelude.{◌≡◌, ◌+◌, IfOk, OnOk, OnErr, option_map, true};
 ghost use Rattle.call_model.specs.Options as options_of;
 ghost use Rattle.call_model.specs.declared.Call.TheVariants.{Put};
-ghost use Rattle.call_model.specs.Reading.{IsTransfer};
+ghost use Rattle.call_model.specs.Accepted.{IsTransfer};
 ghost use Rattle.space_model.specs.Block.{registers_at};
 ghost use Rattle.space_model.specs.Call.{edit, change};
 ghost use Rattle.space_model.specs.Event.{MayPay};

@@ -1,7 +1,7 @@
 ghost use Rattle.std.specs.Prelude.{◌≡◌, ◌+◌, ◌/◌, ◌≤◌, OnOk, OnErr, true, ◌||◌, [], ◌∷◌};
 ghost use Rattle.memory_model.specs.Sizes.{pages};
 ghost use Rattle.call_model.specs.Options as options_of;
-ghost use Rattle.call_model.specs.Reading.{IsTransfer};
+ghost use Rattle.call_model.specs.Accepted.{IsTransfer};
 ghost use Rattle.space_model.specs.Part.{part_if, with_parts, zero_part, copy_part, permission_part, source_page, destination_page, page_count};
 ghost use Rattle.put_get.specs.Ranges.{fill_parts, at_most_one};
 

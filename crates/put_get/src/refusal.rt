@@ -1,7 +1,7 @@
 ghost use Rattle.std.specs.Prelude.{◌≡◌, ◌-◌, ◌≤◌, is_none};
 ghost use Rattle.call_model.specs.Limits.{greatest_depth, levels_below};
 ghost use Rattle.memory_model.specs.Memory.{may_read, may_write};
-ghost use Rattle.call_model.specs.Reading.{IsTransfer};
+ghost use Rattle.call_model.specs.Accepted.{IsTransfer};
 ghost use Rattle.space_model.specs.Meeting.{block_refusal, height_refusal};
 ghost use Rattle.space_model.specs.Space.{children_from, find};
 ghost use Rattle.space_model.specs.declared.Cause.TheVariants.{LoadFault, StoreFault};

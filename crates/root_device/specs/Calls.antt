@@ -3,7 +3,7 @@
 use Rattle.std.specs.Prelude.{ℕ, Option, Some, None}
 use Rattle.call_model.specs.declared.Call.{Call}
 use Rattle.call_model.specs.declared.Call.TheVariants.{ConsoleOut, ConsoleIn, Clock, Random}
-use Rattle.call_model.specs.Reading.{IsSpan}
+use Rattle.call_model.specs.Accepted.{IsSpan}
 use Rattle.space_model.specs.Space.{Top}
 use Rattle.space_model.specs.Change.{after_success, after_error, with_count}
 

@@ -8,10 +8,9 @@ use Rattle.call_model.specs.declared.Call.TheVariants as named
 use Rattle.call_model.specs.declared.Badcall as refusal
 use Rattle.call_model.specs.declared.Kind.{Kind}
 use Rattle.call_model.specs.Limits.{greatest_depth}
-use Rattle.call_model.specs.Calls.{row, kind_of, meets_children}
-use Rattle.call_model.specs.Tests.{argument, first_failing}
-use Rattle.call_model.specs.Reading as reading
-use Rattle.call_model.specs.Reading.{kind_in, unless_failed, read_as, read, IsAccepted}
+use Rattle.call_model.specs.Calls.{row, kind_of, meets_children, argument, first_failing, kind_in, unless_failed, read_as, read}
+use Rattle.call_model.specs.Calls as reading
+use Rattle.call_model.specs.Accepted.{IsAccepted}
 use Rattle.call_model.proofs.Accepted.{Passes, passes, named_accepted, levels_accepted, children_accepted}
 use Rattle.space_model.specs.declared.Status.{Status}
 use Rattle.space_model.specs.declared.Status.TheVariants.{Running, Stopped}

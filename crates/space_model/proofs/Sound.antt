@@ -9,8 +9,7 @@ use Rattle.call_model.specs.declared.Call.{Call}
 use Rattle.call_model.specs.declared.Call.TheVariants.{Put, PutTree, Get, GetTree, Fork, Wait, Tfork, Tjoin, File}
 use Rattle.call_model.specs.declared.FileCall.{FileCall}
 use Rattle.call_model.specs.declared.FileCall.TheVariants.{New}
-use Rattle.call_model.specs.Calls.{meets_children}
-use Rattle.call_model.specs.Reading.{kind_in}
+use Rattle.call_model.specs.Calls.{meets_children, kind_in}
 use Rattle.call_model.specs.Limits.{IsChild}
 use Rattle.space_model.specs.declared.Refusal.{Refusal}
 use Rattle.space_model.specs.Space.{Space, space, Children, none, child, Top, top_of, children_of, find, over, has, enter, put_child, remove_child, height, levels_of}

@@ -11,8 +11,7 @@ use Rattle.call_model.specs.declared.Transfer.{Transfer}
 use Rattle.call_model.specs.declared.Call.{Call}
 use Rattle.call_model.specs.declared.Call.TheVariants.{Put, PutTree, Get, GetTree, Fork, Wait, Tfork, Tjoin}
 use Rattle.call_model.specs.Limits.{AreChildren, block_size}
-use Rattle.call_model.specs.Calls.{meets_children}
-use Rattle.call_model.specs.Reading.{kind_in, children_in, levels_in}
+use Rattle.call_model.specs.Calls.{meets_children, kind_in, children_in, levels_in}
 use Rattle.call_model.specs.Options.{has, regs, merging, agreeing}
 use Rattle.space_model.specs.declared.Cause.{Cause}
 use Rattle.space_model.specs.declared.Cause.TheVariants.{LoadFault, StoreFault, Badcall, Conflict}

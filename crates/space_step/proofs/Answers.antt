@@ -4,7 +4,7 @@ use Rattle.instruction_model.specs.Outcome.{Outcome, goes, stores, calls, traps,
 use Rattle.memory_model.specs.Memory.{may_read, may_write, first_without}
 use Rattle.call_model.specs.declared.Call.{Call}
 use Rattle.call_model.specs.declared.Call.TheVariants as named
-use Rattle.call_model.specs.Reading.{read}
+use Rattle.call_model.specs.Calls.{read}
 use Rattle.space_model.specs.Sound.{has_devices}
 use Rattle.device_model.specs.Devices.{Devices}
 use Rattle.space_model.specs.Space.{Top}

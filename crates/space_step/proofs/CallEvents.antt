@@ -3,7 +3,7 @@ use Rattle.std.proofs.Common.{◌≡◌, ℕ, ◌-◌, ◌≤◌, Some, None, Ok
 use Rattle.std.specs.Prelude.{Result, Err}
 use Rattle.std.specs.declared.alloc.AllocError.{AllocError}
 use Rattle.instruction_model.specs.Outcome.{calls, view_of, outcome}
-use Rattle.call_model.specs.Reading.{read}
+use Rattle.call_model.specs.Calls.{read}
 use Rattle.space_model.specs.Sound.{has_devices}
 use Rattle.space_model.specs.Space.{Top}
 use Rattle.space_model.specs.Change.{after_spending, after_payment}

@@ -1,6 +1,6 @@
 ghost use Rattle.std.specs.Prelude.{◌≡◌, IfOk, OnOk, OnErr};
 ghost use Rattle.file_model.specs.Operations.{error_number};
-ghost use Rattle.call_model.specs.Reading.{IsFileCall};
+ghost use Rattle.call_model.specs.Accepted.{IsFileCall};
 ghost use Rattle.space_model.specs.Change.{after_payment};
 ghost use Rattle.space_model.specs.Event.{MayPay, after_answer, after_file_call};
 ghost use Rattle.space_model.specs.Files as files;

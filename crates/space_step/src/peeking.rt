@@ -3,7 +3,7 @@ ghost use Rattle.call_model.specs.Limits.{greatest_depth, levels_below};
 ghost use Rattle.instruction_model.specs.Outcome.{view_of, outcome};
 ghost use Rattle.space_model.specs.Sound.{has_devices};
 ghost use Rattle.space_model.specs.Space as model;
-ghost use Rattle.call_model.specs.Reading.{read};
+ghost use Rattle.call_model.specs.Calls.{read};
 ghost use Rattle.space_model.specs.Event.{effect_of, by_reading};
 ghost use Rattle.space_step.specs.Steps.{IsNext, IsAnswer};
 ghost use Rattle.space_step.specs.Stretch.{is_call};

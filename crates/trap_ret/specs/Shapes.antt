@@ -3,8 +3,8 @@
 use Rattle.std.specs.Prelude.{◌+◌, ◌≤◌, List, [], ◌∷◌}
 use Rattle.space_model.specs.declared.Await.{Await}
 use Rattle.space_model.specs.Meeting.{in_row}
-use Rattle.trap_ret.specs.declared.waiting.Shape.{Shape}
-use Rattle.trap_ret.specs.declared.waiting.Shape.TheVariants as shapes
+use Rattle.trap_ret.specs.declared.call.Shape.{Shape}
+use Rattle.trap_ret.specs.declared.call.Shape.TheVariants as shapes
 
 abbrev pub items_of : Shape → List Await
 items_of shapes.None = []

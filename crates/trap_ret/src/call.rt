@@ -1,19 +1,19 @@
-ghost use Rattle.std.specs.Prelude.{◌≡◌, ◌<◌, false};
+ghost use Rattle.std.specs.Prelude.{◌≡◌, ◌+◌, ◌<◌, ◌≤◌, false, length, slice_get, Some};
 ghost use Rattle.call_model.specs.declared.Call.TheVariants.{File};
 ghost use Rattle.call_model.specs.declared.Kind.TheVariants as kinds;
 ghost use Rattle.call_model.specs.Limits.{IsChild};
-ghost use Rattle.call_model.specs.Calls as calls;
-ghost use Rattle.call_model.specs.Tests as table;
-ghost use Rattle.call_model.specs.Reading as reading;
-ghost use Rattle.call_model.specs.Reading.{IsAccepted};
+ghost use Rattle.call_model.specs.Calls as table;
+ghost use Rattle.call_model.specs.Accepted.{IsAccepted};
+ghost use Rattle.space_model.specs.Meeting as meeting;
+ghost use Rattle.trap_ret.specs.Shapes.{items_of, Fits};
 
-use crate::checks::{
-    argument, wrong_block, wrong_children, wrong_depth, wrong_lengths, wrong_options, wrong_place,
-    wrong_ranges,
-};
 use crate::options::{TREE, has};
-use crate::rows::{kind_of, row};
+use crate::table::{
+    argument, kind_of, row, wrong_block, wrong_children, wrong_depth, wrong_lengths, wrong_options,
+    wrong_place, wrong_ranges,
+};
 use call_model::{Badcall, Call, FileCall, Kind, Row, Transfer};
+use space_model::{Await, Reach};
 use std::marker::Model;
 
 /// A call that passed the tests on registers. Options of Put and Get stand together; with Copy, Zero, Merge or Perm the
@@ -27,7 +27,7 @@ pub struct AcceptedCall {
 
 impl Model for AcceptedCall {
     ghost use Rattle.call_model.specs.declared.Call.{Call};
-    ghost use Rattle.call_model.specs.Reading.{IsAccepted};
+    ghost use Rattle.call_model.specs.Accepted.{IsAccepted};
 
     ghost Value = { Call };
 
@@ -52,7 +52,7 @@ impl AcceptedCall {
 // What registers a0 to a6 say to Put and Get.
 fn transfer(x: &[u32; 32]) -> Transfer
     requires { IsChild (table.argument x.now 1) }
-    ensures { result ≡ reading.transfer x.now }
+    ensures { result ≡ table.transfer x.now }
 {
     Transfer {
         options: argument(x, 0),
@@ -67,7 +67,7 @@ fn transfer(x: &[u32; 32]) -> Transfer
 
 // What registers a1 to a3 say of a file that is to be made.
 fn file_new(x: &[u32; 32]) -> FileCall
-    ensures { File result ≡ reading.call_of kinds.FileNew x.now }
+    ensures { File result ≡ table.call_of kinds.FileNew x.now }
 {
     FileCall::New {
         name: argument(x, 1),
@@ -78,7 +78,7 @@ fn file_new(x: &[u32; 32]) -> FileCall
 
 // What registers a1 to a5 say of a file that is to be written.
 fn file_put(x: &[u32; 32]) -> FileCall
-    ensures { File result ≡ reading.call_of kinds.FilePut x.now }
+    ensures { File result ≡ table.call_of kinds.FilePut x.now }
 {
     FileCall::Put {
         name: argument(x, 1),
@@ -91,7 +91,7 @@ fn file_put(x: &[u32; 32]) -> FileCall
 
 // What registers a1 to a5 say of a file that is to be read.
 fn file_get(x: &[u32; 32]) -> FileCall
-    ensures { File result ≡ reading.call_of kinds.FileGet x.now }
+    ensures { File result ≡ table.call_of kinds.FileGet x.now }
 {
     FileCall::Get {
         name: argument(x, 1),
@@ -126,10 +126,10 @@ fn first_failing(row: Row, x: &[u32; 32], is_root: bool, depth: u8) -> Option<u8
 }
 
 // The call of a kind, with registers that fail no test.
-#[tactic(auto, unfolding(call_model::specs::Tests::wrong_children))]
+#[tactic(auto, unfolding(call_model::specs::Calls::wrong_children))]
 fn call_of(kind: Kind, x: &[u32; 32]) -> Call
-    requires { table.wrong_children (calls.row kind).children x.now ≡ false }
-    ensures { result ≡ reading.call_of kind x.now }
+    requires { table.wrong_children (table.row kind).children x.now ≡ false }
+    ensures { result ≡ table.call_of kind x.now }
 {
     match kind {
         Kind::Put if has(argument(x, 0), TREE) => Call::PutTree {
@@ -199,7 +199,7 @@ fn call_of(kind: Kind, x: &[u32; 32]) -> Call
 /// 9. a register block at no multiple of 4, or above 0xFFFFFF78.
 #[tactic(auto, using(call_model::proofs::Accepted::named_accepted, call_model::proofs::Accepted::named_child))]
 pub fn read_call(x: &[u32; 32], is_root: bool, depth: u8) -> Result<AcceptedCall, Badcall>
-    ensures { result ≡ reading.read x.now is_root depth }
+    ensures { result ≡ table.read x.now is_root depth }
 {
     let Some(kind) = kind_of(argument(x, 7)) else {
         return Err(Badcall(1));
@@ -209,5 +209,124 @@ pub fn read_call(x: &[u32; 32], is_root: bool, depth: u8) -> Result<AcceptedCall
         None => Ok(AcceptedCall {
             call: call_of(kind, x),
         }),
+    }
+}
+
+// How the children stand that a call waits for.
+#[derive(Clone, Copy)]
+enum Shape {
+    None,
+    One(Await),
+    Two(Await, Await),
+    // So many from a first number on, each itself.
+    Row { first: u16, count: u8 },
+}
+
+/// The children that a call waits for, in the order in which it does: none, one, two, or at most 64 in a row. It is a few bytes.
+#[derive(Drop)]
+pub struct Awaited {
+    shape: Shape,
+}
+
+impl Model for Awaited {
+    ghost use Rattle.std.specs.Prelude.{List};
+    ghost use Rattle.space_model.specs.declared.Await.{Await};
+    ghost use Rattle.trap_ret.specs.Shapes.{items_of, Fits};
+
+    ghost Value = { List Await };
+
+    ghost view = { λ a. items_of a.shape };
+
+    ghost invariant = { λ a. Fits a.shape };
+}
+
+impl Awaited {
+    /// How many there are.
+    #[inline(always)]
+    #[tactic(auto, using(crate::proofs::Shapes::row_length))]
+    pub fn len(&self) -> usize
+        ensures { result ≡ length self.now }
+    {
+        match self.shape {
+            Shape::None => 0,
+            Shape::One(_) => 1,
+            Shape::Two(..) => 2,
+            Shape::Row { count, .. } => usize::from(count),
+        }
+    }
+
+    /// The one at an index, from 0 on.
+    #[inline(always)]
+    #[tactic(auto, using(crate::proofs::Shapes::row_length, crate::proofs::Shapes::row_item))]
+    pub fn get(&self, index: usize) -> Await
+        requires { index < length self.now }
+        ensures { slice_get self.now index ≡ Some result }
+    {
+        match self.shape {
+            Shape::None => Await::default(),
+            Shape::One(only) => only,
+            Shape::Two(first, second) => { if index == 0 { first } else { second } }
+            Shape::Row { first, .. } => itself(first + index as u16),
+        }
+    }
+
+    /// At most 64 children in a row, each itself.
+    pub fn in_row(first: u16, count: u8) -> Awaited
+        requires few { count ≤ 64 }
+        requires numbers { first + count ≤ 65536 }
+        ensures { result ≡ meeting.in_row first count }
+    {
+        Awaited {
+            shape: Shape::Row { first, count },
+        }
+    }
+}
+
+fn itself(number: u16) -> Await
+    ensures { result ≡ meeting.itself number }
+{
+    Await {
+        number,
+        reach: Reach::Itself,
+    }
+}
+
+fn whole(number: u16) -> Await
+    ensures { result ≡ meeting.whole number }
+{
+    Await {
+        number,
+        reach: Reach::Whole,
+    }
+}
+
+// The children that a call waits for, as they stand.
+fn shape_of(call: Call) -> Shape
+    ensures value { items_of result ≡ meeting.awaits call }
+    ensures fits { Fits result }
+{
+    match call {
+        Call::Put(x) | Call::Get(x) => Shape::One(itself(x.child)),
+        Call::PutTree { child, from, .. } => Shape::Two(whole(child), whole(from)),
+        Call::GetTree { child, to, .. } => Shape::Two(whole(child), whole(to)),
+        Call::Fork { child } | Call::Tfork { child } | Call::Tjoin { child } => {
+            Shape::One(itself(child))
+        }
+        Call::Wait { child } => Shape::One(whole(child)),
+        Call::Ret { .. }
+        | Call::ConsoleOut { .. }
+        | Call::ConsoleIn { .. }
+        | Call::Clock
+        | Call::Random
+        | Call::File(_) => Shape::None,
+    }
+}
+
+/// The children that a call waits for, each itself or with all below it.
+pub fn awaits(call: Call) -> Awaited
+    ensures { result ≡ meeting.awaits call }
+{
+    Awaited {
+        shape: shape_of(call),
     }
 }

@@ -1,13 +1,130 @@
-ghost use Rattle.std.specs.Prelude.{◌≡◌, ◌+◌, ◌<◌};
+//! The table of calls, and the tests on registers that go by its columns.
+
+ghost use Rattle.std.specs.Prelude.{◌≡◌, ◌+◌, ◌<◌, true, false};
+ghost use Rattle.call_model.specs.Calls as table;
 ghost use Rattle.call_model.specs.Options as options_of;
-ghost use Rattle.call_model.specs.Tests as table;
+ghost use Rattle.call_model.specs.declared.Options.TheVariants as asked;
+ghost use Rattle.call_model.specs.declared.Children.TheVariants as children_of;
+ghost use Rattle.call_model.specs.declared.Ranges.TheVariants as ranges_of;
 
 use crate::options::{
     AGREE, COPY, KNOWN, LIMIT, MERGE, PERM, PERMISSION, REGS, SNAP, START, TREE, ZERO, has,
 };
 use call_model::limits::{GREATEST_CHILD, GREATEST_DEPTH, GREATEST_LENGTH, LAST_BLOCK};
-use call_model::{Children, Options, Ranges, Row};
+use call_model::{Children, Kind, Options, Ranges, Row};
 use memory_model::PAGE_SIZE;
+
+/// The kind of call that has this number, if there is one.
+pub(crate) fn kind_of(number: u32) -> Option<Kind>
+    ensures { result ≡ table.kind_of number }
+{
+    match number {
+        call_model::PUT => Some(Kind::Put),
+        call_model::GET => Some(Kind::Get),
+        call_model::RET => Some(Kind::Ret),
+        call_model::CONSOLE_OUT => Some(Kind::ConsoleOut),
+        call_model::CONSOLE_IN => Some(Kind::ConsoleIn),
+        call_model::CLOCK => Some(Kind::Clock),
+        call_model::RANDOM => Some(Kind::Random),
+        call_model::FORK => Some(Kind::Fork),
+        call_model::WAIT => Some(Kind::Wait),
+        call_model::TFORK => Some(Kind::Tfork),
+        call_model::TJOIN => Some(Kind::Tjoin),
+        call_model::FILE_NEW => Some(Kind::FileNew),
+        call_model::FILE_PUT => Some(Kind::FilePut),
+        call_model::FILE_GET => Some(Kind::FileGet),
+        call_model::FILE_LENGTH => Some(Kind::FileLength),
+        call_model::FILE_DELETE => Some(Kind::FileDelete),
+        _ => None,
+    }
+}
+
+// A call that takes nothing.
+fn plain(number: u32) -> Row
+    ensures { result ≡ table.columns number asked.Nothing children_of.Nobody ranges_of.Nowhere false 0 0 }
+{
+    Row {
+        number,
+        options: Options::Nothing,
+        children: Children::Nobody,
+        ranges: Ranges::Nowhere,
+        device: false,
+        levels: 0,
+        tree_levels: 0,
+    }
+}
+
+// A call of a device.
+fn device(number: u32, ranges: Ranges) -> Row
+    ensures { result ≡ table.columns number asked.Nothing children_of.Nobody ranges true 0 0 }
+{
+    Row {
+        ranges,
+        device: true,
+        ..plain(number)
+    }
+}
+
+// A call on a file.
+fn file(number: u32, options: Options, ranges: Ranges) -> Row
+    ensures { result ≡ table.columns number options children_of.Nobody ranges false 0 0 }
+{
+    Row {
+        options,
+        ranges,
+        ..plain(number)
+    }
+}
+
+// A call of a process or a thread, which names one child.
+fn child(number: u32, levels: u8) -> Row
+    ensures { result ≡ table.columns number asked.Nothing children_of.One ranges_of.Nowhere false levels levels }
+{
+    Row {
+        children: Children::One,
+        levels,
+        tree_levels: levels,
+        ..plain(number)
+    }
+}
+
+// Put or Get.
+fn transfer(number: u32, options: Options, levels: u8, tree_levels: u8) -> Row
+    ensures { result ≡ table.columns number options children_of.Tree ranges_of.Pages false levels tree_levels }
+{
+    Row {
+        options,
+        children: Children::Tree,
+        ranges: Ranges::Pages,
+        levels,
+        tree_levels,
+        ..plain(number)
+    }
+}
+
+/// What the tests on registers are told of a kind.
+pub(crate) fn row(kind: Kind) -> Row
+    ensures { result ≡ table.row kind }
+{
+    match kind {
+        Kind::Put => transfer(call_model::PUT, Options::Put, 1, 2),
+        Kind::Get => transfer(call_model::GET, Options::Get, 0, 0),
+        Kind::Ret => plain(call_model::RET),
+        Kind::ConsoleOut => device(call_model::CONSOLE_OUT, Ranges::One),
+        Kind::ConsoleIn => device(call_model::CONSOLE_IN, Ranges::One),
+        Kind::Clock => device(call_model::CLOCK, Ranges::Nowhere),
+        Kind::Random => device(call_model::RANDOM, Ranges::Nowhere),
+        Kind::Fork => child(call_model::FORK, 1),
+        Kind::Wait => child(call_model::WAIT, 0),
+        Kind::Tfork => child(call_model::TFORK, 1),
+        Kind::Tjoin => child(call_model::TJOIN, 0),
+        Kind::FileNew => file(call_model::FILE_NEW, Options::ChoiceInA3, Ranges::One),
+        Kind::FilePut => file(call_model::FILE_PUT, Options::ChoiceInA5, Ranges::Two),
+        Kind::FileGet => file(call_model::FILE_GET, Options::Nothing, Ranges::Two),
+        Kind::FileLength => file(call_model::FILE_LENGTH, Options::Nothing, Ranges::One),
+        Kind::FileDelete => file(call_model::FILE_DELETE, Options::Nothing, Ranges::One),
+    }
+}
 
 /// Argument `number` of a call, below 8: register a0 and those above it.
 #[inline(always)]
@@ -104,7 +221,7 @@ fn wrong_choice(number: u32) -> bool
 }
 
 /// Test 2: options that do not stand, or do not stand together; or a choice that is none.
-#[tactic(auto, unfolding(call_model::specs::Tests::wrong_options))]
+#[tactic(auto, unfolding(call_model::specs::Calls::wrong_options))]
 pub(crate) fn wrong_options(options: Options, x: &[u32; 32]) -> bool
     ensures { result ≡ table.wrong_options options x.now }
 {
@@ -124,7 +241,7 @@ fn wrong_child(number: u32) -> bool
 }
 
 /// Test 3: a child number above the greatest.
-#[tactic(auto, unfolding(call_model::specs::Tests::wrong_children))]
+#[tactic(auto, unfolding(call_model::specs::Calls::wrong_children))]
 pub(crate) fn wrong_children(children: Children, x: &[u32; 32]) -> bool
     ensures { result ≡ table.wrong_children children x.now }
 {
@@ -140,7 +257,7 @@ pub(crate) fn wrong_children(children: Children, x: &[u32; 32]) -> bool
 }
 
 /// Test 4: bytes that pass the end of memory, or ranges that do not suit the options.
-#[tactic(auto, unfolding(call_model::specs::Tests::wrong_ranges))]
+#[tactic(auto, unfolding(call_model::specs::Calls::wrong_ranges))]
 pub(crate) fn wrong_ranges(ranges: Ranges, x: &[u32; 32]) -> bool
     ensures { result ≡ table.wrong_ranges ranges x.now }
 {
@@ -160,7 +277,7 @@ pub(crate) fn wrong_ranges(ranges: Ranges, x: &[u32; 32]) -> bool
 }
 
 /// Test 6: a call of a device outside the root.
-#[tactic(auto, unfolding(call_model::specs::Tests::wrong_place))]
+#[tactic(auto, unfolding(call_model::specs::Calls::wrong_place))]
 pub(crate) fn wrong_place(device: bool, is_root: bool) -> bool
     ensures { result ≡ table.wrong_place device is_root }
 {
@@ -174,7 +291,7 @@ fn wrong_length(length: u32) -> bool
 }
 
 /// Test 7: a length above the greatest.
-#[tactic(auto, unfolding(call_model::specs::Tests::wrong_lengths))]
+#[tactic(auto, unfolding(call_model::specs::Calls::wrong_lengths))]
 pub(crate) fn wrong_lengths(ranges: Ranges, x: &[u32; 32]) -> bool
     ensures { result ≡ table.wrong_lengths ranges x.now }
 {
@@ -197,7 +314,7 @@ fn new_levels(row: Row, x: &[u32; 32]) -> u8
 }
 
 /// Test 8: a space that would be deeper than the deepest.
-#[tactic(auto, unfolding(call_model::specs::Tests::wrong_depth))]
+#[tactic(auto, unfolding(call_model::specs::Calls::wrong_depth))]
 pub(crate) fn wrong_depth(row: Row, x: &[u32; 32], depth: u8) -> bool
     ensures { result ≡ table.wrong_depth row x.now depth }
 {
@@ -205,7 +322,7 @@ pub(crate) fn wrong_depth(row: Row, x: &[u32; 32], depth: u8) -> bool
 }
 
 /// Test 9: a register block of Put or Get that does not stand in memory.
-#[tactic(auto, unfolding(call_model::specs::Tests::wrong_block))]
+#[tactic(auto, unfolding(call_model::specs::Calls::wrong_block))]
 pub(crate) fn wrong_block(options: Options, x: &[u32; 32]) -> bool
     ensures { result ≡ table.wrong_block options x.now }
 {
