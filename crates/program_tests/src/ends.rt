@@ -5,6 +5,7 @@ use crate::calls::{
     words_of,
 };
 use det_cli::{End, det_main};
+use det_core::ScheduleError;
 use det_host::OpenGate;
 use dev_script::ScriptError;
 use image_file::{ImageError, ImageErrorKind};
@@ -74,7 +75,7 @@ fn a_file_that_is_refused_is_the_last(rt: HostRuntime) -> Result<(), Fail> {
     let end = End::BadScript(ScriptError { line: 1 });
     let line = "det: script: line 1\n";
     one_of_files(&rt, [&WRITE_TWO, bad, bad], 3, end, line);
-    let end = End::BadSchedule { line: 1 };
+    let end = End::BadSchedule(ScheduleError { line: 1 });
     let line = "det: schedule: line 1\n";
     one_of_files(&rt, [&WRITE_TWO, b"", bad], 4, end, line);
     Ok(())
