@@ -1,5 +1,5 @@
 -- What the assembler returned, by the definition of sources.
-use Rattle.std.proofs.Common.{◌≡◌, ℕ, List, Result, Ok, Err, sym, ◌∙◌, subst}
+use Rattle.std.proofs.Common.{ℕ, List, Result, Ok, Err, subst}
 use Rattle.std.specs.Prelude.{IfOk, IfErr}
 use Rattle.image_model.specs.Image.{Image}
 use Rattle.source_model.specs.declared.error.AsmError.{AsmError}
