@@ -2,7 +2,7 @@
 use Rattle.std.proofs.Common.{◌≡◌, ℕ, Bool, true, false, ◌&&◌, ◌||◌, List, [], ◌∷◌, Option, refl, ◌∙◌, ap}
 use Rattle.instruction_model.specs.Outcome.{Registers}
 use Rattle.call_model.specs.declared.Transfer.{Transfer}
-use Rattle.call_model.specs.Options.{has, regs, copy, zeroing, merging, perm, start, permission, has_two_changes}
+use Rattle.call_model.specs.Options.{has, regs, copy, zeroing, merging, perm, start, agreeing, permission, has_two_changes}
 use Rattle.space_model.specs.declared.Refusal.{Refusal}
 use Rattle.space_model.specs.Space.{Top}
 use Rattle.space_model.specs.Block.{registers_at}
@@ -62,5 +62,5 @@ conflict_if false f t u same = refl
 -- where Merge is asked for, neither Zero nor Copy is, so the conflict is that of the caller before the call
 pub same_conflict : (x : Transfer) (c t u : Top) → has_two_changes x.options ≡ false → u ≡ with_parts x.options (fill_parts x c.memory) t → get_conflict x u c ≡ get_conflict x t c
 same_conflict x c t u changes filled =
-    conflict_if (has merging x.options) (λ v. conflict_refusal c.snapshot c.memory v.memory (destination_page x) (page_count x)) t u
+    conflict_if (has merging x.options) (λ v. conflict_refusal (has agreeing x.options) c.snapshot c.memory v.memory (destination_page x) (page_count x)) t u
     (λ e. filled ∙ unfilled (has zeroing x.options) (has copy x.options) (has merging x.options) (zero_part (destination_page x) (page_count x)) (copy_part c.memory (source_page x) (destination_page x) (page_count x)) t changes e)

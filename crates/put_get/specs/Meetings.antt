@@ -5,7 +5,7 @@ use Rattle.memory_model.specs.Memory.{Memory, may_write}
 use Rattle.call_model.specs.declared.Transfer.{Transfer}
 use Rattle.call_model.specs.declared.Call.{Call}
 use Rattle.call_model.specs.declared.Call.TheVariants.{Put, PutTree, Get, GetTree}
-use Rattle.call_model.specs.Options.{has, merging}
+use Rattle.call_model.specs.Options.{has, merging, agreeing}
 use Rattle.space_model.specs.declared.Cause.TheVariants.{StoreFault, Conflict}
 use Rattle.space_model.specs.declared.Refusal.{Refusal}
 use Rattle.space_model.specs.Space.{Space, space, Top, top_of, children_of, find}
@@ -20,7 +20,7 @@ use Rattle.snapshot.specs.declared.fault.MergeError.TheVariants as faults
 
 -- the conflict that stops a Get of a child
 abbrev pub get_conflict : Transfer → Top → Top → Option Refusal
-get_conflict x t c = refusal_if (has merging x.options) (conflict_refusal c.snapshot c.memory t.memory (destination_page x) (page_count x))
+get_conflict x t c = refusal_if (has merging x.options) (conflict_refusal (has agreeing x.options) c.snapshot c.memory t.memory (destination_page x) (page_count x))
 
 -- the snapshot of a child, where it is there and has one
 abbrev pub snapshot_in : Option Space → Option Memory

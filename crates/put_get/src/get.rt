@@ -11,7 +11,7 @@ ghost use Rattle.space_model.specs.Caller.{with_action};
 ghost use Rattle.put_get.specs.Meetings.{get_conflict, conflict_of, MayStop};
 ghost use Rattle.put_get.specs.Ranges.{at_most_one, get_changes};
 
-use crate::options::{has_copy, has_merge, has_perm, has_regs, has_zero};
+use crate::options::{has_agree, has_copy, has_merge, has_perm, has_regs, has_zero};
 use crate::ranges::{destination, fill, permit, share};
 use snapshot::{MergeError, merge};
 use space_tree::{Space, Top};
@@ -36,8 +36,8 @@ fn take_registers(x: &Transfer, child: &Top, caller: &mut Top) -> Result<(), All
         .write_bytes(x.block, &write_block(&child.block()))
 }
 
-// Merge: what the child has changed in the destination's range since its snapshot goes into it, where that is asked for. The error is
-// the least conflict, or want of memory.
+// Merge: what the child has changed in the destination's range since its snapshot goes into it, where that is asked for; with Agree
+// equal new values are in no conflict. The error is the least conflict, or want of memory.
 #[tactic(auto, using(crate::proofs::Places::merged_pages, space_mem::proofs::Dirty::covers_in_after))]
 fn merge_range(x: &Transfer, child: &Top, caller: &mut Top) -> Result<(), MergeError>
     requires { IsTransfer x.now }
@@ -54,7 +54,13 @@ fn merge_range(x: &Transfer, child: &Top, caller: &mut Top) -> Result<(), MergeE
     let Some(snapshot) = &child.snapshot else {
         return Ok(());
     };
-    merge(&mut caller.memory, &child.memory, snapshot, destination(x))
+    merge(
+        &mut caller.memory,
+        &child.memory,
+        snapshot,
+        destination(x),
+        has_agree(x),
+    )
 }
 
 // One of the changes of the caller's memory at most is asked for.

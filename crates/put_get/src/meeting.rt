@@ -54,7 +54,8 @@ fn act_or_stop(alloc: Global, call: AcceptedCall, space: &mut Space) -> Result<(
 /// - Merge of a child without a snapshot (`Badcall` 5);
 /// - Tree of a child so high that the copy would be deeper than 8 (`Badcall` 8);
 /// - a register block that Put may not read (`LoadFault`) or Get may not write (`StoreFault`), at the least such address;
-/// - Merge where both sides have changed a byte of the range since the child's snapshot (`Conflict`), at the least such address.
+/// - Merge where both sides have changed a byte of the range since the child's snapshot, with Agree to different values (`Conflict`), at
+///   the least such address.
 ///
 /// The one error is want of memory: nothing is changed then.
 pub fn apply(

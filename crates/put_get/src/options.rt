@@ -1,8 +1,9 @@
-ghost use Rattle.std.specs.Prelude.{◌≡◌, ◌<◌};
+ghost use Rattle.std.specs.Prelude.{◌≡◌, ◌≤◌};
+ghost use Rattle.memory_model.specs.Sizes.{greatest_permission};
 ghost use Rattle.call_model.specs.Options as options_of;
 
 use trap_ret::Transfer;
-use trap_ret::options::{COPY, LIMIT, MERGE, PERM, REGS, SNAP, START, ZERO, has};
+use trap_ret::options::{AGREE, COPY, LIMIT, MERGE, PERM, REGS, SNAP, START, ZERO, has};
 
 // The register block goes along: into the child with Put, out of it with Get.
 pub fn has_regs(x: &Transfer) -> bool
@@ -30,6 +31,13 @@ pub fn has_merge(x: &Transfer) -> bool
     ensures { result ≡ options_of.has options_of.merging x.now.options }
 {
     has(x.options, MERGE)
+}
+
+// Equal new values of a byte are in no conflict.
+pub fn has_agree(x: &Transfer) -> bool
+    ensures { result ≡ options_of.has options_of.agreeing x.now.options }
+{
+    has(x.options, AGREE)
 }
 
 // The destination's range gets the permission.
@@ -60,10 +68,10 @@ pub fn has_limit(x: &Transfer) -> bool
     has(x.options, LIMIT)
 }
 
-// Bits 12 and 13, 0 to 3.
+// Bits 12 to 14, 0 to 7.
 pub fn permission(x: &Transfer) -> u8
     ensures value { result ≡ options_of.permission x.now.options }
-    ensures small { result < 4 }
+    ensures small { result ≤ greatest_permission }
 {
-    (x.options / 4096 % 4) as u8
+    (x.options / 4096 % 8) as u8
 }
