@@ -14,8 +14,8 @@ use Rattle.rv_exec.specs.Access.{stored_byte}
 use Rattle.space_mem.specs.Stored.{byte_stored, may_fetch_stored}
 use Rattle.space_step.specs.declared.decode_cache.Entry.{Entry}
 use Rattle.space_step.specs.declared.decode_cache.TheConstants.{ENTRIES}
-use Rattle.space_step.specs.Source.{StandsAt}
-use Rattle.space_step.specs.Cache.{IsKnown, Agrees, Lacks}
+use Rattle.space_step.specs.Source.{IsKnown, StandsAt}
+use Rattle.space_step.specs.Cache.{Agrees, Lacks}
 
 -- a byte of another word than that of a store stays
 other_byte : (byte : ℕ → ℕ) (a : ℕ) (w : Width) (v q : ℕ) → a % width_bytes w ≡ 0 → (q / 4 ≡ a / 4 → ⊥) → stored_byte byte a w v q ≡ byte q

@@ -1,21 +1,14 @@
 -- A direct-mapped cache of decoded instructions: what it keeps of a memory.
 -- Our choice: how the code keeps decoded instructions.
-use Rattle.std.specs.Prelude.{◌≡◌, ℕ, ◌*◌, ◌/◌, ◌%◌, ◌<◌, true, List, length, slice_index_or, None, Some}
-use Rattle.memory_model.specs.Memory.{number_from}
-use Rattle.memory_model.specs.declared.Width.TheVariants.{Four}
-use Rattle.instruction_model.specs.Instruction.{instruction_of}
-use Rattle.instruction_model.specs.declared.Instruction.{Instruction}
+use Rattle.std.specs.Prelude.{◌≡◌, ℕ, ◌*◌, ◌/◌, ◌%◌, ◌<◌, List, length, slice_index_or}
 use Rattle.instruction_model.specs.Outcome.{View}
 use Rattle.space_step.specs.declared.decode_cache.Entry.{Entry}
 use Rattle.space_step.specs.declared.decode_cache.TheConstants.{ENTRIES}
+use Rattle.space_step.specs.Source.{IsKnown}
 
 -- the place of the entry for the word of an address
 abbrev pub place : ℕ → ℕ
 place a = a / 4 % ENTRIES
-
--- the word at an address may be fetched, and spells this instruction
-abbrev pub IsKnown : View → ℕ → Instruction → Type 0
-IsKnown v a i = (v.may_fetch a ≡ true) × (instruction_of (number_from v.byte Four a) ≡ Some i)
 
 -- an entry whose tag is a multiple of 4 stands at the place of its tag, and its instruction is that of its tag; another keeps nothing
 abbrev pub Holds : View → ℕ → Entry → Type 0
@@ -31,7 +24,3 @@ Hits es a = (a % 4 ≡ 0) × ((d : Entry) → (slice_index_or es (place a) d).ta
 -- the word of an address is not kept
 abbrev pub Lacks : List Entry → ℕ → Type 0
 Lacks es a = (k : ℕ) (d : Entry) → k < ENTRIES → (slice_index_or es k d).tag ≡ 4 * (a / 4) → ⊥
-
--- no instruction stands at an address
-abbrev pub HasNone : View → ℕ → Type 0
-HasNone v a = a % 4 ≡ 0 → v.may_fetch a ≡ true → instruction_of (number_from v.byte Four a) ≡ None

@@ -1,11 +1,17 @@
 -- What stands at an address: an instruction or a trap, whatever the other registers hold.
 -- Our choice: a restatement for proofs.
-use Rattle.std.specs.Prelude.{◌≡◌, ℕ, ◌%◌}
-use Rattle.memory_model.specs.Memory.{Memory, width_bytes, with_number}
+use Rattle.std.specs.Prelude.{◌≡◌, ℕ, ◌%◌, true, Some}
+use Rattle.memory_model.specs.Memory.{Memory, number_from, width_bytes, with_number}
 use Rattle.memory_model.specs.declared.Width.{Width}
+use Rattle.memory_model.specs.declared.Width.TheVariants.{Four}
+use Rattle.instruction_model.specs.Instruction.{instruction_of}
 use Rattle.instruction_model.specs.declared.Instruction.{Instruction}
 use Rattle.instruction_model.specs.declared.Instruction.TheVariants.{Store}
 use Rattle.instruction_model.specs.Outcome.{View, Registers, traps, view_of, outcome, perform, register, offset}
+
+-- the word at an address may be fetched, and spells this instruction
+abbrev pub IsKnown : View → ℕ → Instruction → Type 0
+IsKnown v a i = (v.may_fetch a ≡ true) × (instruction_of (number_from v.byte Four a) ≡ Some i)
 
 -- where pc is this address, the outcome is that of the instruction
 abbrev pub StandsAt : View → ℕ → Instruction → Type 0

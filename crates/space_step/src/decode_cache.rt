@@ -1,11 +1,11 @@
-ghost use Rattle.std.specs.Prelude.{◌≡◌, ℕ, ◌+◌, ◌*◌, ◌/◌, ◌%◌, ◌^◌, ◌<◌, length, IsTrue, IsFalse};
+ghost use Rattle.std.specs.Prelude.{◌≡◌, ℕ, ◌+◌, ◌*◌, ◌/◌, ◌%◌, ◌^◌, ◌<◌, length, IfErr, IsOk, IsTrue};
 ghost use Rattle.instruction_model.specs.Form.{HasFields};
 ghost use Rattle.instruction_model.specs.Outcome.{View, view_of};
-ghost use Rattle.space_step.specs.Source.{TrapsAt};
-ghost use Rattle.space_step.specs.Cache.{Agrees, Hits, HasNone, IsKnown, Lacks, place};
+ghost use Rattle.space_step.specs.Source.{IsKnown, TrapsAt};
+ghost use Rattle.space_step.specs.Cache.{Agrees, Hits, Lacks, place};
 
-use crate::source::{Source, Trap};
-use rv_decode::{Instr, Instruction, decode};
+use crate::source::{Source, Trap, decoded_at};
+use rv_decode::{Instr, Instruction};
 use space_mem::Mem;
 
 /// How many entries a cache has. Words whose addresses are a multiple of four times as many apart share an entry.
@@ -66,25 +66,35 @@ impl DecodeCache {
         self.entries[place_of(at)].instr.instruction()
     }
 
-    // Keeps the instruction at an address: false where none stands there.
+    // Keeps the instruction at an address, unless a trap stands there.
     #[inline(never)]
-    fn learn(&mut self, memory: &Mem, at: u32) -> bool
+    fn learn(&mut self, memory: &Mem, at: u32) -> Result<(), Trap>
         requires { Agrees (view_of memory.now.memory) self.old.entries }
         ensures agrees { Agrees (view_of memory.now.memory) self.new.entries }
-        ensures learnt { IsTrue result → Hits self.new.entries at }
-        ensures none { IsFalse result → HasNone (view_of memory.now.memory) at }
+        ensures learnt { IsOk result → Hits self.new.entries at }
+        ensures trap { IfErr result (λ t. TrapsAt (view_of memory.now.memory) at t.number t.value) }
     {
-        if at % 4 != 0 {
-            return false;
+        match decoded_at(memory, at) {
+            Ok(instr) => {
+                self.entries[place_of(at)] = Entry { tag: at, instr };
+                Ok(())
+            }
+            Err(trap) => Err(trap),
         }
-        let Some(word) = memory.fetch(at) else {
-            return false;
-        };
-        let Some(instr) = decode(word) else {
-            return false;
-        };
-        self.entries[place_of(at)] = Entry { tag: at, instr };
-        true
+    }
+
+    // Has the instruction at an address kept, unless a trap stands there.
+    #[inline(always)]
+    fn find(&mut self, memory: &Mem, at: u32) -> Result<(), Trap>
+        requires { Agrees (view_of memory.now.memory) self.old.entries }
+        ensures agrees { Agrees (view_of memory.now.memory) self.new.entries }
+        ensures found { IsOk result → Hits self.new.entries at }
+        ensures trap { IfErr result (λ t. TrapsAt (view_of memory.now.memory) at t.number t.value) }
+    {
+        if self.hits(at) {
+            return Ok(());
+        }
+        self.learn(memory, at)
     }
 
     // Keeps the word of an address no longer.
@@ -100,42 +110,18 @@ impl DecodeCache {
     }
 }
 
-// The trap at an address where no instruction stands.
-#[inline(never)]
-#[tactic(auto, unfolding(instruction_model::specs::Outcome::outcome))]
-fn trap_at(memory: &Mem, at: u32) -> Trap
-    requires { HasNone (view_of memory.now.memory) at }
-    ensures { TrapsAt (view_of memory.now.memory) at result.number result.value }
-{
-    if at % 4 != 0 {
-        return Trap {
-            number: 0,
-            value: at,
-        };
-    }
-    match memory.fetch(at) {
-        Some(word) => Trap {
-            number: 2,
-            value: word,
-        },
-        None => Trap {
-            number: 1,
-            value: at,
-        },
-    }
-}
-
 impl Source for DecodeCache {
     ghost use Rattle.space_step.specs.Cache.{Agrees};
 
     ghost agrees = { λ s v. Agrees v s.entries };
 
     #[inline(always)]
+    #[tactic(auto, using(crate::proofs::Caching::known_stands))]
     fn instruction_at(&mut self, memory: &Mem, at: u32) -> Result<Instruction, Trap> {
-        if !self.hits(at) && !self.learn(memory, at) {
-            return Err(trap_at(memory, at));
+        match self.find(memory, at) {
+            Ok(()) => Ok(self.kept(at)),
+            Err(trap) => Err(trap),
         }
-        Ok(self.kept(at))
     }
 
     #[inline(always)]

@@ -10,7 +10,8 @@ ghost use Rattle.space_step.specs.Stretch.{is_call};
 
 use crate::event::Next;
 use crate::paying::budget;
-use rv_decode::{Instruction, decode};
+use crate::source::decoded_at;
+use rv_decode::Instruction;
 use rv_exec::Regs;
 use space_mem::Mem;
 use space_model::Status;
@@ -22,15 +23,9 @@ use trap_ret::{AcceptedCall, Call, read_call};
 fn is_at_call(registers: &Regs, memory: &Mem) -> bool
     ensures { result ≡ is_call (outcome (view_of memory.now.memory) registers.now) }
 {
-    if registers.pc % 4 != 0 {
-        return false;
-    }
-    match memory.fetch(registers.pc) {
-        Some(word) => match decode(word) {
-            Some(instr) => instr.instruction() == Instruction::Ecall,
-            None => false,
-        },
-        None => false,
+    match decoded_at(memory, registers.pc) {
+        Ok(instr) => instr.instruction() == Instruction::Ecall,
+        Err(_) => false,
     }
 }
 

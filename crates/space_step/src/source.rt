@@ -1,11 +1,11 @@
-ghost use Rattle.std.specs.Prelude.{◌≡◌, ℕ, ◌%◌, IfOk, IfErr};
+ghost use Rattle.std.specs.Prelude.{◌≡◌, ℕ, ◌%◌, IfOk, IfErr, IsOk};
 ghost use Rattle.memory_model.specs.Memory.{Memory, width_bytes, with_number};
 ghost use Rattle.memory_model.specs.declared.Width.{Width};
 ghost use Rattle.instruction_model.specs.Form.{HasFields};
 ghost use Rattle.instruction_model.specs.Outcome.{View, view_of};
-ghost use Rattle.space_step.specs.Source.{StandsAt, TrapsAt};
+ghost use Rattle.space_step.specs.Source.{IsKnown, StandsAt, TrapsAt};
 
-use rv_decode::{Instruction, decode};
+use rv_decode::{Instr, Instruction, decode};
 use space_mem::Mem;
 
 /// A trap: its number and its value (RISC-V Privileged ISA, "Machine Cause").
@@ -13,6 +13,35 @@ use space_mem::Mem;
 pub(crate) struct Trap {
     pub(crate) number: u8,
     pub(crate) value: u32,
+}
+
+/// The instruction whose word stands at an address, or the trap that stands there: this is the one place that fetches and decodes.
+#[inline(always)]
+#[tactic(auto, unfolding(instruction_model::specs::Outcome::outcome))]
+pub(crate) fn decoded_at(memory: &Mem, at: u32) -> Result<Instr, Trap>
+    ensures aligned { IsOk result → at % 4 ≡ 0 }
+    ensures known { IfOk result (λ i. IsKnown (view_of memory.now.memory) at i) }
+    ensures trap { IfErr result (λ t. TrapsAt (view_of memory.now.memory) at t.number t.value) }
+{
+    if at % 4 != 0 {
+        return Err(Trap {
+            number: 0,
+            value: at,
+        });
+    }
+    match memory.fetch(at) {
+        Some(word) => match decode(word) {
+            Some(instr) => Ok(instr),
+            None => Err(Trap {
+                number: 2,
+                value: word,
+            }),
+        },
+        None => Err(Trap {
+            number: 1,
+            value: at,
+        }),
+    }
 }
 
 /// Where a stretch takes its instructions from.
@@ -44,26 +73,11 @@ impl Source for Uncached {
     ghost agrees = { λ s v. ⊤ };
 
     #[inline(always)]
-    #[tactic(auto, unfolding(instruction_model::specs::Outcome::outcome))]
+    #[tactic(auto, using(crate::proofs::Caching::known_stands))]
     fn instruction_at(&mut self, memory: &Mem, at: u32) -> Result<Instruction, Trap> {
-        if at % 4 != 0 {
-            return Err(Trap {
-                number: 0,
-                value: at,
-            });
-        }
-        match memory.fetch(at) {
-            Some(word) => match decode(word) {
-                Some(instr) => Ok(instr.instruction()),
-                None => Err(Trap {
-                    number: 2,
-                    value: word,
-                }),
-            },
-            None => Err(Trap {
-                number: 1,
-                value: at,
-            }),
+        match decoded_at(memory, at) {
+            Ok(instr) => Ok(instr.instruction()),
+            Err(trap) => Err(trap),
         }
     }
 
