@@ -4,7 +4,7 @@ use Rattle.memory_model.specs.Memory.{Memory}
 use Rattle.merge_model.specs.Merge.{first_conflict, with_merge}
 use Rattle.space_model.specs.declared.Cause.TheVariants.{Conflict}
 use Rattle.space_model.specs.declared.Refusal.{Refusal}
-use Rattle.std.specs.Prelude.{option_map, Result, OnOk, OnErr}
+use Rattle.std.specs.Prelude.{false, option_map, Result, OnOk, OnErr}
 use Rattle.call_model.specs.declared.Call.{Call}
 use Rattle.call_model.specs.declared.Call.TheVariants.{Tjoin}
 use Rattle.space_model.specs.Space.{Space, space, Children, Top, top_of, find}
@@ -20,14 +20,14 @@ use Rattle.space_model.specs.Part.{with_changes}
 use Rattle.space_model.specs.Runtime.{shared_pages, with_stop, after_join}
 use Rattle.user_runtime.specs.Joins.{IsShared, conflict_at, shared_conflict, shared_merge, join_refusal, join_memory, with_join_unless, with_join, after_call}
 
-shared_is : (s c p : Memory) (first count : ℕ) → IsShared first count → conflict_at (first_conflict s c p first count) ≡ shared_conflict s c p
+shared_is : (s c p : Memory) (first count : ℕ) → IsShared first count → conflict_at (first_conflict false s c p first count) ≡ shared_conflict s c p
 unfolding IsShared shared_conflict
-shared_is s c p first count h = ap (λ j. conflict_at (first_conflict s c p j count)) h.0 ∙ ap (λ j. conflict_at (first_conflict s c p 0 j)) h.1
+shared_is s c p first count h = ap (λ j. conflict_at (first_conflict false s c p j count)) h.0 ∙ ap (λ j. conflict_at (first_conflict false s c p 0 j)) h.1
 
-pub no_conflict : (s c p : Memory) (first count : ℕ) → IsShared first count → first_conflict s c p first count ≡ None → None ≡ shared_conflict s c p
+pub no_conflict : (s c p : Memory) (first count : ℕ) → IsShared first count → first_conflict false s c p first count ≡ None → None ≡ shared_conflict s c p
 no_conflict s c p first count h is = sym (ap conflict_at is) ∙ shared_is s c p first count h
 
-pub one_conflict : (s c p : Memory) (first count a : ℕ) → IsShared first count → first_conflict s c p first count ≡ Some a → Some (record { cause = Conflict; value = a }) ≡ shared_conflict s c p
+pub one_conflict : (s c p : Memory) (first count a : ℕ) → IsShared first count → first_conflict false s c p first count ≡ Some a → Some (record { cause = Conflict; value = a }) ≡ shared_conflict s c p
 one_conflict s c p first count a h is = sym (ap conflict_at is) ∙ shared_is s c p first count h
 
 pub shared_merged : (s c p m : Memory) (first count : ℕ) → IsShared first count → m ≡ with_merge s c p first count → m ≡ shared_merge s c p
@@ -38,10 +38,10 @@ first_is : (o : Option Refusal) → first_refusal (None ∷ o ∷ []) ≡ o
 first_is None = refl
 first_is (Some r) = refl
 
-pub join_tests : (o : Option Memory) (c p : Memory) → first_refusal (snapshot_refusal o ∷ conflict_refusal o c p 0 shared_pages ∷ []) ≡ join_refusal o c p
+pub join_tests : (o : Option Memory) (c p : Memory) → first_refusal (snapshot_refusal o ∷ conflict_refusal false o c p 0 shared_pages ∷ []) ≡ join_refusal o c p
 unfolding shared_conflict
 join_tests None c p = refl
-join_tests (Some s) c p = first_is (conflict_at (first_conflict s c p 0 shared_pages))
+join_tests (Some s) c p = first_is (conflict_at (first_conflict false s c p 0 shared_pages))
 
 pub join_merges : (o : Option Memory) (c p : Memory) → with_changes o c p 0 shared_pages ≡ join_memory o c p
 unfolding shared_merge
@@ -62,7 +62,7 @@ join_is levels n c t cs is =
     let p = after_payment t t in
     join_acts (join_refusal c.snapshot c.memory t.memory) c t cs
     ∙ ap (λ r. apply_meeting (unless_refused r p (record { caller = after_success (after_join c p); edits = [] })) cs) (sym (join_tests c.snapshot c.memory t.memory))
-    ∙ ap (λ d. apply_meeting (unless_refused (first_refusal (snapshot_refusal d.snapshot ∷ conflict_refusal d.snapshot d.memory t.memory 0 shared_pages ∷ [])) p (record { caller = after_success (after_join d p); edits = [] })) cs) (sym is)
+    ∙ ap (λ d. apply_meeting (unless_refused (first_refusal (snapshot_refusal d.snapshot ∷ conflict_refusal false d.snapshot d.memory t.memory 0 shared_pages ∷ [])) p (record { caller = after_success (after_join d p); edits = [] })) cs) (sym is)
 
 -- a child that was never forked as a thread
 pub join_missing : (fuel : ℕ) (r : Refusal) (t u : Top) → Some r ≡ test_refusal 5 → u ≡ stop (after_payment t t) r.cause r.value → u ≡ with_join (fresh_top fuel) t

@@ -1,7 +1,7 @@
 -- What a join of a thread does, with the conflict in the shared pages and their merge as definitions that do not unfold by themselves: they
 -- would be computed address by address.
 -- Our choice: a restatement for proofs.
-use Rattle.std.specs.Prelude.{◌≡◌, ℕ, Option, Some, None, option_map}
+use Rattle.std.specs.Prelude.{◌≡◌, ℕ, false, Option, Some, None, option_map}
 use Rattle.memory_model.specs.Memory.{Memory}
 use Rattle.merge_model.specs.Merge.{first_conflict, with_merge}
 use Rattle.call_model.specs.declared.Call.{Call}
@@ -23,7 +23,7 @@ conflict_at o = option_map (λ a. record { cause = Conflict; value = a }) o
 
 -- the least conflict in the shared pages
 unfoldable pub shared_conflict : Memory → Memory → Memory → Option Refusal
-shared_conflict snapshot child parent = conflict_at (first_conflict snapshot child parent 0 shared_pages)
+shared_conflict snapshot child parent = conflict_at (first_conflict false snapshot child parent 0 shared_pages)
 
 -- a parent with what the child changed in the shared pages
 unfoldable pub shared_merge : Memory → Memory → Memory → Memory

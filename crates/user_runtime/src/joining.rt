@@ -40,7 +40,7 @@ fn merge_shared(
     ensures err { OnErr result (parent.new.memory ≡ parent.old.memory) }
     ensures marks { Marks parent.old parent.new }
 {
-    match merge(parent, child, snapshot, thread_pages()) {
+    match merge(parent, child, snapshot, thread_pages(), false) {
         Ok(()) => Ok(None),
         Err(MergeError::Conflict { addr }) => Ok(Some(conflict(addr))),
         Err(MergeError::Memory) => Err(AllocError),
@@ -108,7 +108,7 @@ fn join_space(child: u16, space: &mut Space) -> Result<(), AllocError>
 /// with nothing else changed, at the first of these:
 ///
 /// - the child is missing or has no snapshot (`Badcall` 5);
-/// - both sides have changed one of these bytes since the snapshot (`Conflict`), at the least such address.
+/// - both sides have changed one of these bytes since the snapshot, to equal values or not (`Conflict`), at the least such address.
 ///
 /// The one error is want of memory: nothing is changed then.
 pub fn tjoin(_alloc: Global, child: u16, depth: u8, space: &mut Space) -> Result<(), AllocError>

@@ -1,5 +1,8 @@
 ghost use Rattle.std.specs.Prelude.{◌≡◌, OnOk, OnErr};
 ghost use Rattle.space_model.specs.Caller.{MayCall, met_by, StaysSound};
+ghost use Rattle.space_model.specs.Change.{after_payment};
+ghost use Rattle.space_model.specs.Event.{MayPay};
+ghost use Rattle.space_model.specs.Space as model;
 
 use crate::forking::{fork, tfork};
 use crate::joining::tjoin;
@@ -8,6 +11,14 @@ use put_get::apply;
 use space_tree::Space;
 use std::alloc::{AllocError, Global};
 use trap_ret::{AcceptedCall, Call};
+
+// The meeting of a call that meets no child: it pays, and nothing else changes.
+fn meet_nobody(space: &mut Space)
+    requires { MayPay (model.top_of space.old) }
+    ensures { let paid = after_payment (model.top_of space.old) (model.top_of space.old) in space.new ≡ model.space paid (model.children_of space.old) }
+{
+    space.top.pay(1);
+}
 
 /// What a call that meets children does, of a caller at this depth, at most 8, that has not paid yet, once the children that it waits for are
 /// ready: `apply` for Put and Get, else `fork`, `wait`, `tfork` or `tjoin`. The one error is want of memory: nothing is changed then.
@@ -30,6 +41,14 @@ pub fn meet(
         Call::Wait { child } => wait(alloc, child, depth, space),
         Call::Tfork { child } => tfork(alloc, child, depth, space),
         Call::Tjoin { child } => tjoin(alloc, child, depth, space),
-        _ => unreachable!(),
+        Call::Ret { .. }
+        | Call::ConsoleOut { .. }
+        | Call::ConsoleIn { .. }
+        | Call::Clock
+        | Call::Random
+        | Call::File(_) => {
+            meet_nobody(space);
+            Ok(())
+        }
     }
 }
