@@ -1,7 +1,7 @@
 -- The options of Put and Get (OSDI 2010, "Efficient System-Enforced Deterministic Parallelism", the section on the kernel
 -- interface), as bits of a0, and what they ask of one another and of ranges of memory.
 -- Source: OSDI 2010, "Efficient System-Enforced Deterministic Parallelism", the kernel interface: the options of Put and Get.
--- Our choice: their bits, and which do not stand together.
+-- Our choice: Agree, the bits, and which do not stand together.
 use Rattle.std.specs.Prelude.{◌≡◌, ◌≤◌, ℕ, ◌+◌, ◌/◌, ◌%◌, ◌^◌, ◌==◌, Bool, not, ◌&&◌, ◌||◌, nat_lt, bit_and}
 use Rattle.memory_model.specs.Sizes.{page_size}
 use Rattle.call_model.specs.declared.option_bits.TheConstants as bits

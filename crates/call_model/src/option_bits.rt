@@ -1,5 +1,5 @@
 //! The options of Put and Get, as bits of a0 (OSDI 2010, "Efficient System-Enforced Deterministic Parallelism", the section on
-//! the kernel interface).
+//! the kernel interface; Agree is this project's own).
 
 /// The register block goes along.
 pub const REGS: u32 = 1;
@@ -28,7 +28,7 @@ pub const LIMIT: u32 = 128;
 /// A child with all below it is copied. It stands alone.
 pub const TREE: u32 = 256;
 
-/// Equal new values of a byte are in no conflict. It stands with Merge alone.
+/// Equal new values of a byte are in no conflict. It stands with Merge, and not without.
 pub const AGREE: u32 = 512;
 
 /// The permission, in bits 12 to 14.
