@@ -1,7 +1,14 @@
-use crate::walks::WordAddress;
+ghost use Rattle.std.specs.Prelude.{◌<◌, ◌≤◌};
+
+use crate::memories::memory_of;
+use crate::timing::{Operation, Row, Timing, measure};
+use crate::walks::{Order, WALK, WordAddress, walk};
 use memory_model::Width;
 use space_mem::Mem;
-use std::alloc::AllocError;
+use std::alloc::{AllocError, Global};
+use std::io;
+use std::rt::Clock;
+use std::time::Instant;
 
 /// What a pass does at each address of its walk.
 #[derive(Clone, Copy)]
@@ -50,8 +57,8 @@ fn store_each(mem: &mut Mem, walk: &[WordAddress]) -> Result<(), AllocError> {
     Ok(())
 }
 
-/// Goes over a walk once. The number that it gives depends on each word that was read.
-pub fn pass(access: Access, mem: &mut Mem, walk: &[WordAddress]) -> Result<u32, AllocError> {
+// Goes over a walk once. The number that it gives depends on each word that was read.
+fn pass(access: Access, mem: &mut Mem, walk: &[WordAddress]) -> Result<u32, AllocError> {
     match access {
         Access::Walk => Ok(walk_over(walk)),
         Access::Load => Ok(load_each(mem, walk)),
@@ -61,4 +68,80 @@ pub fn pass(access: Access, mem: &mut Mem, walk: &[WordAddress]) -> Result<u32, 
             Ok(0)
         }
     }
+}
+
+// Passes over a memory of so many pages.
+#[derive(Drop)]
+struct Passes {
+    mem: Mem,
+    words: Vec<WordAddress>,
+    pages: u32,
+    order: Order,
+    access: Access,
+}
+
+impl Operation for Passes {
+    fn row(&self) -> Row {
+        let what = match (self.order, self.access) {
+            (Order::Sequential, Access::Walk) => "walk, sequential",
+            (Order::Sequential, Access::Load) => "load, sequential",
+            (Order::Sequential, Access::Fetch) => "fetch, sequential",
+            (Order::Sequential, Access::Store) => "store, sequential",
+            (Order::Wandering, Access::Walk) => "walk, wandering",
+            (Order::Wandering, Access::Load) => "load, wandering",
+            (Order::Wandering, Access::Fetch) => "fetch, wandering",
+            (Order::Wandering, Access::Store) => "store, wandering",
+        };
+        Row {
+            what,
+            pages: self.pages,
+            operations: WALK,
+        }
+    }
+
+    fn timing(&mut self, rt: &impl Clock) -> io::Result<Timing> {
+        let start = Instant::now(rt)?;
+        let read = pass(self.access, &mut self.mem, &self.words)?;
+        let time = start.elapsed(rt)?;
+        Ok(Timing { time, read })
+    }
+}
+
+// Passes that walk first.
+fn passes_of(alloc: Global, order: Order, pages: u32) -> Result<Passes, AllocError>
+    requires some { 0 < pages }
+    requires within { pages ≤ 1048576 }
+{
+    let words = walk(alloc, order, pages)?;
+    Ok(Passes {
+        mem: memory_of(alloc, pages)?,
+        words,
+        pages,
+        order,
+        access: Access::Walk,
+    })
+}
+
+// Measures passes of each access.
+fn each_access(rt: &(impl Clock + Print), rounds: u32, passes: &mut Passes) -> io::Result<()> {
+    for access in [Access::Walk, Access::Load, Access::Fetch, Access::Store] {
+        passes.access = access;
+        measure(rt, rounds, passes)?;
+    }
+    Ok(())
+}
+
+/// Measures each kind of access to a memory of so many pages.
+pub fn measure_accesses(
+    rt: &(impl Clock + Print),
+    alloc: Global,
+    rounds: u32,
+    order: Order,
+    pages: u32,
+) -> io::Result<()>
+    requires some { 0 < pages }
+    requires within { pages ≤ 1048576 }
+{
+    let mut passes = passes_of(alloc, order, pages)?;
+    each_access(rt, rounds, &mut passes)
 }

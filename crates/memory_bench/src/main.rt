@@ -1,15 +1,18 @@
-//! `memory_bench ROUNDS`: measures loads, stores and fetches of words, and calls over the whole memory, of memories of
-//! 9, 1,000 and 10,000 pages, then merges, digests, schedules, small and frozen memories, first writes and permissions. Each line
-//! has the best of so many rounds; the last two are measured once.
+//! `memory_bench ROUNDS`: measures loads, stores and fetches of words, calls over whole memories, merges, digests, schedules, small
+//! memories, first writes and permissions. Each line has the best of so many rounds; first writes and permissions are measured once.
 #![tactic(auto)]
 
 mod accesses;
 mod digests;
-mod frozen;
+mod freezes;
 mod measure;
+mod memories;
 mod merges;
 mod page_merges;
 mod schedules;
+mod smalls;
+mod threads;
+mod timing;
 mod touches;
 mod walks;
 mod whole;

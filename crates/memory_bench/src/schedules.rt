@@ -1,13 +1,15 @@
+use crate::timing::{Operation, Row, Timing, measure};
 use det_core::walk;
+use memory_model::GREATEST_PERMISSION;
 use space_mem::{Mem, Pages};
 use space_tree::{Path, Space, Status, Top, at};
 use std::alloc::{AllocError, Global};
 use std::io;
 use std::rt::Clock;
-use std::time::{Duration, Instant};
+use std::time::Instant;
 
-/// How many paths a schedule has.
-pub const STEPS: u32 = 1_000_000;
+// How many paths a schedule has.
+const STEPS: u32 = 1_000_000;
 
 // The number of the space at each level that the paths lead through.
 const NUMBER: u16 = 500;
@@ -15,25 +17,30 @@ const NUMBER: u16 = 500;
 // Where the loop stands, in page 1.
 const CODE: u32 = 0x1000;
 
-/// Where the space stands that takes the events of a schedule.
+// Where the space stands that takes the events of a schedule.
 #[derive(Clone, Copy)]
-pub enum Place {
-    /// It is the root.
+enum Place {
+    // It is the root.
     Root,
-    /// It is three levels below the root, and no space has another child.
+    // It is three levels below the root, and no space has another child.
     Alone,
-    /// It is three levels below the root, and each space above it has 1,000 children.
+    // It is three levels below the root, and each space above it has 1,000 children.
     Among,
 }
 
-// A space that runs an instruction that jumps to itself.
-fn looping(alloc: Global) -> Result<Space, AllocError> {
+// A memory with an instruction that jumps to itself.
+fn looping_memory(alloc: Global) -> Result<Mem, AllocError> {
     let mut memory = Mem::new(alloc);
-    memory.set_perm(Pages { first: 1, count: 1 }, 1)?;
+    memory.set_perm(Pages { first: 1, count: 1 }, GREATEST_PERMISSION)?;
     memory.write(CODE, 0x6f)?;
+    Ok(memory)
+}
+
+// A space that runs that instruction.
+fn looping(alloc: Global) -> Result<Space, AllocError> {
     let mut top = Top::fresh(alloc, u32::MAX);
     top.registers.pc = CODE;
-    top.memory = memory;
+    top.memory = looping_memory(alloc)?;
     top.status = Status::Running;
     Ok(Space::alone(alloc, top))
 }
@@ -86,20 +93,67 @@ fn schedule(alloc: Global, place: Place) -> Result<Vec<Path>, AllocError> {
     Ok(paths)
 }
 
-/// The time in which a tree goes through a schedule of one path. How many events the space at it has taken is added to `sum`.
-pub fn time_of_schedule(
-    rt: &impl Clock,
-    alloc: Global,
-    place: Place,
-    sum: &mut u32,
-) -> io::Result<Duration> {
-    let tree = tree(alloc, place)?;
-    let paths = schedule(alloc, place)?;
-    let start = Instant::now(rt)?;
-    let walked = walk(alloc, tree, &paths)?;
-    let time = start.elapsed(rt)?;
-    if let Some(space) = at(&walked, &path(place)) {
-        *sum = sum.wrapping_add(space.top().used);
+// How many events the space at a path has taken.
+fn taken(space: &Space, path: &Path) -> u32 {
+    match at(space, path) {
+        Some(space) => space.top().used,
+        None => 0,
     }
-    Ok(time)
+}
+
+// A schedule of one path again and again, on a new tree each time.
+#[derive(Drop)]
+struct Schedules {
+    alloc: Global,
+    paths: Vec<Path>,
+    place: Place,
+}
+
+impl Operation for Schedules {
+    fn row(&self) -> Row {
+        let what = match self.place {
+            Place::Root => "event, root",
+            Place::Alone => "event, alone",
+            Place::Among => "event, among",
+        };
+        Row {
+            what,
+            pages: 1,
+            operations: STEPS,
+        }
+    }
+
+    fn timing(&mut self, rt: &impl Clock) -> io::Result<Timing> {
+        let tree = tree(self.alloc, self.place)?;
+        let start = Instant::now(rt)?;
+        let walked = walk(self.alloc, tree, &self.paths)?;
+        let time = start.elapsed(rt)?;
+        Ok(Timing {
+            time,
+            read: taken(&walked, &path(self.place)),
+        })
+    }
+}
+
+// Measures events where the space stands at one place.
+fn events_at(
+    rt: &(impl Clock + Print),
+    alloc: Global,
+    rounds: u32,
+    place: Place,
+) -> io::Result<()> {
+    let mut schedules = Schedules {
+        alloc,
+        paths: schedule(alloc, place)?,
+        place,
+    };
+    measure(rt, rounds, &mut schedules)
+}
+
+/// Measures an event of a schedule, by where the space stands that takes it.
+pub fn measure_schedules(rt: &(impl Clock + Print), alloc: Global, rounds: u32) -> io::Result<()> {
+    for place in [Place::Root, Place::Alone, Place::Among] {
+        events_at(rt, alloc, rounds, place)?;
+    }
+    Ok(())
 }

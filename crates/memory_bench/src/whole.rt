@@ -1,43 +1,93 @@
-use space_mem::{Mem, Pages};
+ghost use Rattle.std.specs.Prelude.{◌≤◌};
+
+use crate::memories::{memory_of, whole};
+use crate::timing::{Operation, Row, Timing, measure};
+use memory_model::GREATEST_PERMISSION;
+use space_mem::Mem;
 use std::alloc::Global;
 use std::io;
 use std::rt::Clock;
-use std::time::{Duration, Instant};
+use std::time::Instant;
 
-/// A call over the whole memory.
+// A call over the whole memory.
 #[derive(Clone, Copy)]
-pub enum Call {
+enum Call {
     SetPerm,
     CopyFrom,
     Frozen,
 }
 
-// Each of the 2^20 pages.
-fn whole() -> Pages {
-    Pages {
-        first: 0,
-        count: 1048576,
+// Calls over a memory whose first pages, as many as `pages`, have bytes.
+#[derive(Drop)]
+struct Calls {
+    mem: Mem,
+    pages: u32,
+    call: Call,
+}
+
+impl Calls {
+    fn set_perm(&mut self, rt: &impl Clock) -> io::Result<Timing> {
+        let start = Instant::now(rt)?;
+        self.mem.set_perm(whole(), GREATEST_PERMISSION)?;
+        Ok(Timing::of(start.elapsed(rt)?))
+    }
+
+    // The copy is dropped after the clock was read.
+    fn copy_from(&mut self, rt: &impl Clock) -> io::Result<Timing> {
+        let mut copy = Mem::new(self.mem.allocator());
+        let start = Instant::now(rt)?;
+        copy.copy_from(&self.mem, 0, whole())?;
+        Ok(Timing::of(start.elapsed(rt)?))
+    }
+
+    // The memory that was made is dropped after the clock was read.
+    fn frozen(&mut self, rt: &impl Clock) -> io::Result<Timing> {
+        let start = Instant::now(rt)?;
+        let _frozen = self.mem.frozen()?;
+        Ok(Timing::of(start.elapsed(rt)?))
     }
 }
 
-/// The time of one call. What the call made is dropped after the clock was read.
-pub fn time_of(rt: &impl Clock, alloc: Global, call: Call, mem: &mut Mem) -> io::Result<Duration> {
-    match call {
-        Call::SetPerm => {
-            let start = Instant::now(rt)?;
-            mem.set_perm(whole(), 3)?;
-            start.elapsed(rt)
-        }
-        Call::CopyFrom => {
-            let mut copy = Mem::new(alloc);
-            let start = Instant::now(rt)?;
-            copy.copy_from(mem, 0, whole())?;
-            start.elapsed(rt)
-        }
-        Call::Frozen => {
-            let start = Instant::now(rt)?;
-            let _frozen = mem.frozen()?;
-            start.elapsed(rt)
+impl Operation for Calls {
+    fn row(&self) -> Row {
+        let what = match self.call {
+            Call::SetPerm => "set_perm, whole",
+            Call::CopyFrom => "copy_from, whole",
+            Call::Frozen => "frozen",
+        };
+        Row {
+            what,
+            pages: self.pages,
+            operations: 1,
         }
     }
+
+    fn timing(&mut self, rt: &impl Clock) -> io::Result<Timing> {
+        match self.call {
+            Call::SetPerm => self.set_perm(rt),
+            Call::CopyFrom => self.copy_from(rt),
+            Call::Frozen => self.frozen(rt),
+        }
+    }
+}
+
+// Measures each call.
+fn each_call(rt: &(impl Clock + Print), rounds: u32, calls: &mut Calls) -> io::Result<()> {
+    for call in [Call::SetPerm, Call::CopyFrom, Call::Frozen] {
+        calls.call = call;
+        measure(rt, rounds, calls)?;
+    }
+    Ok(())
+}
+
+/// Measures each call over the whole of a memory, of which so many pages have bytes.
+pub fn measure_calls(rt: &(impl Clock + Print), alloc: Global, rounds: u32, pages: u32) -> io::Result<()>
+    requires { pages ≤ 1048576 }
+{
+    let mut calls = Calls {
+        mem: memory_of(alloc, pages)?,
+        pages,
+        call: Call::SetPerm,
+    };
+    each_call(rt, rounds, &mut calls)
 }
