@@ -80,17 +80,29 @@ struct Passes {
     access: Access,
 }
 
+fn sequential_name(access: Access) -> &'static str {
+    match access {
+        Access::Walk => "walk, sequential",
+        Access::Load => "load, sequential",
+        Access::Fetch => "fetch, sequential",
+        Access::Store => "store, sequential",
+    }
+}
+
+fn wandering_name(access: Access) -> &'static str {
+    match access {
+        Access::Walk => "walk, wandering",
+        Access::Load => "load, wandering",
+        Access::Fetch => "fetch, wandering",
+        Access::Store => "store, wandering",
+    }
+}
+
 impl Operation for Passes {
     fn row(&self) -> Row {
-        let what = match (self.order, self.access) {
-            (Order::Sequential, Access::Walk) => "walk, sequential",
-            (Order::Sequential, Access::Load) => "load, sequential",
-            (Order::Sequential, Access::Fetch) => "fetch, sequential",
-            (Order::Sequential, Access::Store) => "store, sequential",
-            (Order::Wandering, Access::Walk) => "walk, wandering",
-            (Order::Wandering, Access::Load) => "load, wandering",
-            (Order::Wandering, Access::Fetch) => "fetch, wandering",
-            (Order::Wandering, Access::Store) => "store, wandering",
+        let what = match self.order {
+            Order::Sequential => sequential_name(self.access),
+            Order::Wandering => wandering_name(self.access),
         };
         Row {
             what,
@@ -122,9 +134,9 @@ fn passes_of(alloc: Global, order: Order, pages: u32) -> Result<Passes, AllocErr
     })
 }
 
-// Measures passes of each access.
+// Measures passes of each access, stores first, so that something is read.
 fn each_access(rt: &(impl Clock + Print), rounds: u32, passes: &mut Passes) -> io::Result<()> {
-    for access in [Access::Walk, Access::Load, Access::Fetch, Access::Store] {
+    for access in [Access::Walk, Access::Store, Access::Load, Access::Fetch] {
         passes.access = access;
         measure(rt, rounds, passes)?;
     }

@@ -2,6 +2,8 @@ ghost use Rattle.std.specs.Prelude.{◌≤◌};
 
 use crate::memories::memory_of;
 use crate::timing::{Operation, Row, Timing, measure};
+use crate::whole::time_of_frozen;
+use memory_model::PAGE_SIZE;
 use snapshot::take;
 use space_mem::Mem;
 use std::alloc::{AllocError, Global};
@@ -22,11 +24,18 @@ fn write_spread(mem: &mut Mem, pages: u32, written: Written) -> Result<(), Alloc
         Written::One => 1,
         Written::Hundred => 100,
     };
+    let apart = (pages / 100).wrapping_mul(PAGE_SIZE);
     for place in 0..count {
-        let page = (pages / 100).wrapping_mul(place) % 1048576;
-        mem.write(4096 * page, 2)?;
+        mem.write(apart.wrapping_mul(place), 2)?;
     }
     Ok(())
+}
+
+// The time of a write to the first page.
+fn time_of_write(rt: &impl Clock, mem: &mut Mem) -> io::Result<Timing> {
+    let start = Instant::now(rt)?;
+    mem.write(0, 3)?;
+    Ok(Timing::of(start.elapsed(rt)?))
 }
 
 // `frozen` of a memory of so many pages, of which some were written since a snapshot was taken.
@@ -51,11 +60,9 @@ impl Operation for Freezing {
     }
 
     fn timing(&mut self, rt: &impl Clock) -> io::Result<Timing> {
-        let _snapshot = take(&mut self.mem)?;
+        drop(take(&mut self.mem)?);
         write_spread(&mut self.mem, self.pages, self.written)?;
-        let start = Instant::now(rt)?;
-        let _frozen = self.mem.frozen()?;
-        Ok(Timing::of(start.elapsed(rt)?))
+        time_of_frozen(rt, &mut self.mem)
     }
 }
 
@@ -76,10 +83,10 @@ impl Operation for NextWrite {
     }
 
     fn timing(&mut self, rt: &impl Clock) -> io::Result<Timing> {
-        let _frozen = self.mem.frozen()?;
-        let start = Instant::now(rt)?;
-        self.mem.write(0, 3)?;
-        Ok(Timing::of(start.elapsed(rt)?))
+        let frozen = self.mem.frozen()?;
+        let timing = time_of_write(rt, &mut self.mem);
+        drop(frozen);
+        timing
     }
 }
 
@@ -91,7 +98,12 @@ fn each_written(rt: &(impl Clock + Print), rounds: u32, freezing: &mut Freezing)
 }
 
 /// Measures `frozen` of a memory of so many pages, by how many of them were written since a snapshot was taken.
-pub fn measure_freezes(rt: &(impl Clock + Print), alloc: Global, rounds: u32, pages: u32) -> io::Result<()>
+pub fn measure_freezes(
+    rt: &(impl Clock + Print),
+    alloc: Global,
+    rounds: u32,
+    pages: u32,
+) -> io::Result<()>
     requires { pages ≤ 1048576 }
 {
     let mut freezing = Freezing {

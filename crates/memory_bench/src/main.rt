@@ -1,15 +1,13 @@
-//! `memory_bench ROUNDS`: measures loads, stores and fetches of words, calls over whole memories, merges, digests, schedules, small
-//! memories, first writes and permissions. Each line has the best of so many rounds; first writes and permissions are measured once.
+//! `memory_bench ROUNDS`: measures loads, stores and fetches of words, calls over whole memories, merges, small memories, first
+//! writes and permissions. Each line has the best of so many rounds; first writes and permissions are measured once.
 #![tactic(auto)]
 
 mod accesses;
-mod digests;
 mod freezes;
 mod measure;
 mod memories;
 mod merges;
 mod page_merges;
-mod schedules;
 mod smalls;
 mod threads;
 mod timing;

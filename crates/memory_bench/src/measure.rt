@@ -1,9 +1,7 @@
 use crate::accesses::measure_accesses;
-use crate::digests::{measure_digests, measure_hashes};
 use crate::freezes::{measure_freezes, measure_next_writes};
 use crate::merges::measure_merges;
 use crate::page_merges::measure_page_merges;
-use crate::schedules::measure_schedules;
 use crate::smalls::measure_small_memories;
 use crate::threads::measure_threads;
 use crate::touches::measure_touches;
@@ -55,9 +53,6 @@ pub fn all(rt: &(impl Clock + Print), alloc: Global, rounds: u32) -> io::Result<
     all_accesses(rt, alloc, rounds)?;
     all_calls(rt, alloc, rounds)?;
     all_merges(rt, alloc, rounds)?;
-    measure_digests(rt, alloc, rounds)?;
-    measure_hashes(rt, alloc, rounds)?;
-    measure_schedules(rt, alloc, rounds)?;
     measure_small_memories(rt, alloc, rounds)?;
     measure_touches(rt, alloc)
 }

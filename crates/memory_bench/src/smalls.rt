@@ -9,32 +9,25 @@ use std::time::Instant;
 // How many small memories are measured at once.
 const SMALL: u32 = 1000;
 
-// The pages of a small program: code and data, and a stack at the end.
-const PARTS: [Pages; 2] = [
-    Pages {
+// Permits the pages of a small program: code and data, and a stack at the end.
+fn permit_parts(mem: &mut Mem) -> Result<(), AllocError> {
+    let low = Pages {
         first: 16,
         count: 6,
-    },
-    Pages {
+    };
+    let stack = Pages {
         first: 1048568,
         count: 8,
-    },
-];
+    };
+    mem.set_perm(low, GREATEST_PERMISSION)?;
+    mem.set_perm(stack, GREATEST_PERMISSION)
+}
 
 // Writes a byte of code, one of data and one of the stack.
 fn write_parts(mem: &mut Mem) -> Result<(), AllocError> {
-    for at in [0x1_0000, 0x1_2000, 0xffff_fff0] {
-        mem.write(at, 1)?;
-    }
-    Ok(())
-}
-
-// Permits the pages of a small program.
-fn permit_parts(mem: &mut Mem) -> Result<(), AllocError> {
-    for part in PARTS {
-        mem.set_perm(part, GREATEST_PERMISSION)?;
-    }
-    Ok(())
+    mem.write(0x1_0000, 1)?;
+    mem.write(0x1_2000, 1)?;
+    mem.write(0xffff_fff0, 1)
 }
 
 // A memory as a small program has it.
@@ -119,7 +112,11 @@ impl Operation for Smalls {
 }
 
 /// Measures how small memories are made, frozen and dropped.
-pub fn measure_small_memories(rt: &(impl Clock + Print), alloc: Global, rounds: u32) -> io::Result<()> {
+pub fn measure_small_memories(
+    rt: &(impl Clock + Print),
+    alloc: Global,
+    rounds: u32,
+) -> io::Result<()> {
     for deed in [Deed::Make, Deed::Freeze, Deed::Drop] {
         measure(rt, rounds, &mut Smalls { alloc, deed })?;
     }

@@ -10,15 +10,20 @@ use std::time::Instant;
 // How many threads are measured one after another.
 const THREADS: u32 = 100;
 
-// A child of a memory writes a byte of one of 16 pages and is merged. Tells whether it was.
-fn thread(parent: &mut Mem, number: u32) -> Result<bool, AllocError> {
-    let mut forked = Forked::of(parent)?;
+// A child writes a byte of one of 16 pages and is merged. Tells whether it was.
+fn write_and_merge(forked: &mut Forked, parent: &mut Mem, number: u32) -> Result<bool, AllocError> {
     forked.write(4096 * (number % 16), (number % 255 + 1) as u8)?;
     let range = Pages {
         first: 0,
         count: 16,
     };
     Ok(forked.merge_into(parent, range))
+}
+
+// A thread of a memory. Tells whether it was merged.
+fn thread(parent: &mut Mem, number: u32) -> Result<bool, AllocError> {
+    let mut forked = Forked::of(parent)?;
+    write_and_merge(&mut forked, parent, number)
 }
 
 // How many of `THREADS` threads were merged.

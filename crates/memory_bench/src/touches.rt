@@ -1,7 +1,5 @@
-ghost use Rattle.std.specs.Prelude.{◌<◌, ◌≤◌, ◌*◌};
-
 use crate::timing::{Operation, Row, Timing, measure};
-use memory_model::GREATEST_PERMISSION;
+use memory_model::{GREATEST_PERMISSION, PAGE_SIZE, PAGES};
 use space_mem::{Mem, Pages};
 use std::alloc::{AllocError, Global};
 use std::io;
@@ -13,7 +11,7 @@ use std::time::Instant;
 enum PageOrder {
     Rising,
     Falling,
-    // Far from one another, each once where the pages are a power of two.
+    // Far from one another.
     Scattered,
 }
 
@@ -21,32 +19,29 @@ enum PageOrder {
 const TOUCHED: u32 = 131072;
 
 // How many pages get a permission.
-const PERMITTED: u32 = 1_000_000;
+const PERMITTED: u32 = 524288;
 
-// The page that comes at a place; both lie below the count.
-fn page_at(order: PageOrder, place: u32, count: u32) -> u32
-    requires { place < count }
-    ensures { result < count }
-{
+// The page that comes at a place, of so many, which are a power of two.
+fn page_at(order: PageOrder, place: u32, count: u32) -> u32 {
     match order {
         PageOrder::Rising => place,
-        PageOrder::Falling => count - 1 - place,
-        PageOrder::Scattered => place.wrapping_mul(2654435769) % count,
+        PageOrder::Falling => count.wrapping_sub(place),
+        PageOrder::Scattered => place.wrapping_mul(2654435769) & count.wrapping_sub(1),
     }
 }
 
 fn touch_each(mem: &mut Mem, order: PageOrder) -> Result<(), AllocError> {
     for place in 0..TOUCHED {
-        mem.write(4096 * page_at(order, place, TOUCHED), 1)?;
+        mem.write(page_at(order, place, TOUCHED).wrapping_mul(PAGE_SIZE), 1)?;
     }
     Ok(())
 }
 
-// Gives every other page a permission, and then those between them, until `PERMITTED` have one.
+// Gives every other page a permission.
 fn permit_each(mem: &mut Mem, order: PageOrder) -> Result<(), AllocError> {
     for place in 0..PERMITTED {
         let page = Pages {
-            first: 2 * page_at(order, place, PERMITTED) % 1048575,
+            first: page_at(order, place, PERMITTED).wrapping_mul(2) % PAGES,
             count: 1,
         };
         mem.set_perm(page, GREATEST_PERMISSION)?;

@@ -35,17 +35,26 @@ impl Calls {
     // The copy is dropped after the clock was read.
     fn copy_from(&mut self, rt: &impl Clock) -> io::Result<Timing> {
         let mut copy = Mem::new(self.mem.allocator());
-        let start = Instant::now(rt)?;
-        copy.copy_from(&self.mem, 0, whole())?;
-        Ok(Timing::of(start.elapsed(rt)?))
+        let timing = time_of_copy(rt, &mut copy, &self.mem);
+        drop(copy);
+        timing
     }
+}
 
-    // The memory that was made is dropped after the clock was read.
-    fn frozen(&mut self, rt: &impl Clock) -> io::Result<Timing> {
-        let start = Instant::now(rt)?;
-        let _frozen = self.mem.frozen()?;
-        Ok(Timing::of(start.elapsed(rt)?))
-    }
+// The time in which the whole of a memory is copied.
+fn time_of_copy(rt: &impl Clock, copy: &mut Mem, source: &Mem) -> io::Result<Timing> {
+    let start = Instant::now(rt)?;
+    copy.copy_from(source, 0, whole())?;
+    Ok(Timing::of(start.elapsed(rt)?))
+}
+
+/// The time of `frozen`. The memory that it makes is dropped after the clock was read.
+pub fn time_of_frozen(rt: &impl Clock, mem: &mut Mem) -> io::Result<Timing> {
+    let start = Instant::now(rt)?;
+    let frozen = mem.frozen()?;
+    let time = start.elapsed(rt);
+    drop(frozen);
+    Ok(Timing::of(time?))
 }
 
 impl Operation for Calls {
@@ -66,7 +75,7 @@ impl Operation for Calls {
         match self.call {
             Call::SetPerm => self.set_perm(rt),
             Call::CopyFrom => self.copy_from(rt),
-            Call::Frozen => self.frozen(rt),
+            Call::Frozen => time_of_frozen(rt, &mut self.mem),
         }
     }
 }
@@ -81,7 +90,12 @@ fn each_call(rt: &(impl Clock + Print), rounds: u32, calls: &mut Calls) -> io::R
 }
 
 /// Measures each call over the whole of a memory, of which so many pages have bytes.
-pub fn measure_calls(rt: &(impl Clock + Print), alloc: Global, rounds: u32, pages: u32) -> io::Result<()>
+pub fn measure_calls(
+    rt: &(impl Clock + Print),
+    alloc: Global,
+    rounds: u32,
+    pages: u32,
+) -> io::Result<()>
     requires { pages ≤ 1048576 }
 {
     let mut calls = Calls {
