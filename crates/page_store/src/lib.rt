@@ -8,9 +8,8 @@ ghost use Rattle.memory_model.specs.Sizes.{page_size};
 
 mod rights;
 
-pub use rights::{may_execute, may_read, may_write};
-
 use memory_model::{PAGE_SIZE, Width};
+pub use rights::{may_execute, may_read, may_write};
 use std::alloc::{AllocError, Global};
 use std::sync::Arc;
 

@@ -2,7 +2,9 @@ ghost use Rattle.std.specs.Prelude.{◌≡◌, ◌/◌, ◌%◌, ◌==◌};
 
 // The bits of a permission (RISC-V Privileged ISA, the R, W and X bits of a page table entry).
 const READ: u8 = 1;
+
 const WRITE: u8 = 2;
+
 const EXECUTE: u8 = 4;
 
 /// Whether a page of this permission may be read.
