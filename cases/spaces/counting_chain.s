@@ -6,8 +6,8 @@
         addi t0, t0, 1
         lui s0, 1
         sw t0, 276(s0)          ; t0 in the child's registers
-        lui a0, 3
-        addi a0, a0, 83         ; Regs, Copy, Perm and Start, and the permission 3
+        lui a0, 7
+        addi a0, a0, 83         ; Regs, Copy, Perm and Start, and the permission 7
         addi a1, zero, 1
         lui a2, 1
         addi a2, a2, 256        ; the register block, at 0x1100

@@ -111,7 +111,28 @@ fn written_with(alloc: Global, permission: u8) -> Result<[u8; 2], ImageFault> {
     let image = read_image(alloc, &second_format(permission))?;
     let bytes = write_image(alloc, &image)?;
     match bytes.as_slice() {
-        [_, _, _, mark, _, _, _, _, _, _, _, _, _, _, _, _, _, _, byte, ..] => Ok([*mark, *byte]),
+        [
+            _,
+            _,
+            _,
+            mark,
+            _,
+            _,
+            _,
+            _,
+            _,
+            _,
+            _,
+            _,
+            _,
+            _,
+            _,
+            _,
+            _,
+            _,
+            byte,
+            ..
+        ] => Ok([*mark, *byte]),
         _ => Ok([0, 0]),
     }
 }

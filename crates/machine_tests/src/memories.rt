@@ -145,7 +145,11 @@ fn rights_of(alloc: Global, permission: u8) -> Result<[bool; 3], AllocError>
 fn rights(rt: HostRuntime) -> Result<(), Fail> {
     let alloc = rt.alloc();
     for permission in 0..8 {
-        let want = [permission >= 4, permission % 2 == 1, permission / 2 % 2 == 1];
+        let want = [
+            permission >= 4,
+            permission % 2 == 1,
+            permission / 2 % 2 == 1,
+        ];
         assert_eq!(rt; rights_of(alloc, permission)?, want, "at {permission}");
     }
     Ok(())

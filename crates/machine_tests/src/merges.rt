@@ -90,7 +90,11 @@ fn assert_merged(rt: &impl Abort, at: u16, bytes: [u8; 3], agree: bool) {
     let found = out.get(at as usize).copied();
     match merged_byte(bytes, agree) {
         Some(byte) => assert_eq!(rt; (conflict, found), (None, Some(byte)), "at {at}, {bytes:?}"),
-        None => assert_eq!(rt; (conflict, found), (Some(at), Some(9)), "at {at}, {bytes:?}"),
+        None => assert_eq!(rt;
+            (conflict, found),
+            (Some(at), Some(9)),
+            "at {at}, {bytes:?}"
+        ),
     }
 }
 
@@ -325,9 +329,24 @@ fn agreed_bytes(rt: HostRuntime) -> Result<(), Fail> {
     assert_rows(
         &rt,
         &[
-            agreeing(FOURS, &[(0x2004, 4), (0x2010, 5)], Some(0x2010), [4, 5, 0, 0]),
-            agreeing(FOURS, &[(0x2004, 4), (0x2050, 5)], Some(0x2050), [4, 0, 5, 0]),
-            agreeing(FOURS, &[(0x2004, 4), (0x3004, 5)], Some(0x3004), [4, 0, 0, 5]),
+            agreeing(
+                FOURS,
+                &[(0x2004, 4), (0x2010, 5)],
+                Some(0x2010),
+                [4, 5, 0, 0],
+            ),
+            agreeing(
+                FOURS,
+                &[(0x2004, 4), (0x2050, 5)],
+                Some(0x2050),
+                [4, 0, 5, 0],
+            ),
+            agreeing(
+                FOURS,
+                &[(0x2004, 4), (0x3004, 5)],
+                Some(0x3004),
+                [4, 0, 0, 5],
+            ),
             agreeing(FOURS, &[(0x2004, 4), (0x3004, 4)], None, [4, 4, 4, 4]),
             agreeing(FOURS, FOURS, None, [4, 4, 4, 4]),
         ],

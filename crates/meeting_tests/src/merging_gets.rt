@@ -164,16 +164,70 @@ fn agreeing_gets(rt: HostRuntime) -> Result<(), Fail> {
     let agree = MERGE + AGREE;
     let equal = (Child::Stopped, 7);
     // the caller has the child's new byte: in conflict, but with Agree, where the other byte comes too
-    row(&rt, alloc, equal, [MERGE, 0, 0x1000], [17, 0x2000, 7, 0, 3, 0, 3]);
-    row(&rt, alloc, equal, [agree, 0, 0x1000], [22, 0, 7, 8, 3, 0, 3]);
-    row(&rt, alloc, equal, [agree + PERM_1, 0, 0x1000], [22, 0, 7, 8, 1, 0, 3]);
-    row(&rt, alloc, equal, [agree + REGS, WRITABLE, 0x1000], [22, 0, 7, 8, 3, 9, 3]);
+    row(
+        &rt,
+        alloc,
+        equal,
+        [MERGE, 0, 0x1000],
+        [17, 0x2000, 7, 0, 3, 0, 3],
+    );
+    row(
+        &rt,
+        alloc,
+        equal,
+        [agree, 0, 0x1000],
+        [22, 0, 7, 8, 3, 0, 3],
+    );
+    row(
+        &rt,
+        alloc,
+        equal,
+        [agree + PERM_1, 0, 0x1000],
+        [22, 0, 7, 8, 1, 0, 3],
+    );
+    row(
+        &rt,
+        alloc,
+        equal,
+        [agree + REGS, WRITABLE, 0x1000],
+        [22, 0, 7, 8, 3, 9, 3],
+    );
     // another new byte is in conflict as ever
-    row(&rt, alloc, (Child::Stopped, 4), [agree, 0, 0x1000], [17, 0x2000, 4, 0, 3, 0, 3]);
+    row(
+        &rt,
+        alloc,
+        (Child::Stopped, 4),
+        [agree, 0, 0x1000],
+        [17, 0x2000, 4, 0, 3, 0, 3],
+    );
     // no snapshot, no child, and what does not stand together
-    row(&rt, alloc, (Child::WithoutSnapshot, 7), [agree, 0, 0x1000], [16, 5, 7, 0, 3, 0, 99]);
-    row(&rt, alloc, (Child::Missing, 7), [agree, 0, 0x1000], [16, 5, 7, 0, 3, 0, 99]);
-    row(&rt, alloc, equal, [AGREE, 0, 0x1000], [16, 2, 7, 0, 3, 0, 3]);
-    row(&rt, alloc, equal, [AGREE + COPY, 0, 0x1000], [16, 2, 7, 0, 3, 0, 3]);
+    row(
+        &rt,
+        alloc,
+        (Child::WithoutSnapshot, 7),
+        [agree, 0, 0x1000],
+        [16, 5, 7, 0, 3, 0, 99],
+    );
+    row(
+        &rt,
+        alloc,
+        (Child::Missing, 7),
+        [agree, 0, 0x1000],
+        [16, 5, 7, 0, 3, 0, 99],
+    );
+    row(
+        &rt,
+        alloc,
+        equal,
+        [AGREE, 0, 0x1000],
+        [16, 2, 7, 0, 3, 0, 3],
+    );
+    row(
+        &rt,
+        alloc,
+        equal,
+        [AGREE + COPY, 0, 0x1000],
+        [16, 2, 7, 0, 3, 0, 3],
+    );
     Ok(())
 }
