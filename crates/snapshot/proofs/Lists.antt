@@ -5,9 +5,9 @@ use Rattle.std.proofs.lemmas.Bool.{cases_lt}
 use Rattle.std.proofs.lemmas.List.{get_or_default, same_lists}
 use Rattle.std.proofs.lemmas.List.Elements.{All-nil, All-cons, All-same}
 use Rattle.memory_model.specs.Memory.{Memory, byte_at}
-use Rattle.memory_model.specs.Ranges.{IsPageOf}
-use Rattle.space_mem.specs.Held.{Held, AllClean, AllZero, Covers, IsClean, SamePage}
-use Rattle.snapshot.specs.Pages.{AreChanged, IsMerged, IsPassedOver, SameBytes}
+use Rattle.memory_model.specs.Ranges.{IsPageOf, IsZeroPage}
+use Rattle.space_mem.specs.Held.{Held, AllClean, AllZero, Covers, SamePage}
+use Rattle.snapshot.specs.Pages.{AreChanged, IsMerged, SameBytes}
 
 -- pages of which neither memory has a byte other than 0
 pub same_zero : (m n : Memory) (from end : ℕ) → AllZero m from end → AllZero n from end → SameBytes m n from end
@@ -17,6 +17,15 @@ same_zero m n from end p q a above below =
     ∙ p (a / 4096) (a % 4096) (omega arith) (omega arith) (omega arith)
     ∙ sym (q (a / 4096) (a % 4096) (omega arith) (omega arith) (omega arith))
     ∙ ap (byte_at n) (sym e)
+
+-- a page that has no byte other than 0, and those behind it
+pub zero_more : (m : Memory) (page far end : ℕ) → IsZeroPage m page → AllZero m (page + 1) far → end ≤ far → AllZero m page end
+zero_more m page far end first rest le q k from to below = elim (cases_lt page q) [
+  | inl behind ↦ rest q k (omega arith) (omega arith) below
+  | inr here ↦
+      let same : 4096 * q + k ≡ 4096 * page + k = omega arith in
+      ap (byte_at m) same ∙ first k below
+]
 
 -- pages that are not dirty
 pub same_clean : (h : Held) (n : Memory) (from end : ℕ) → Covers h n → AllClean h from end → end ≤ 1048576 → SameBytes h.memory n from end

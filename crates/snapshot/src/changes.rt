@@ -5,6 +5,7 @@ ghost use Rattle.space_mem.specs.Held.{Covers};
 ghost use Rattle.snapshot.specs.Faults.{MayFail};
 ghost use Rattle.snapshot.specs.Pages.{AreChanged, IsMerged, NoneInConflict};
 
+use crate::cursor::Cursor;
 use crate::fault::MergeError;
 use crate::page::{SIZE, merge_in_page};
 use crate::walk::next_page;
@@ -28,8 +29,10 @@ pub fn changed_pages(
     let end = range.first + range.count;
     let mut changed = Vec::new(parent.allocator());
     let mut scratch = [0; SIZE];
+    let mut child_cursor = Cursor::over(child);
+    let mut snapshot_cursor = Cursor::over(snapshot);
     let mut from = range.first;
-    while let Some(page) = next_page(child, snapshot, from) {
+    while let Some(page) = next_page(&mut child_cursor, &mut snapshot_cursor, from) {
         if page >= end {
             return Ok(changed);
         }

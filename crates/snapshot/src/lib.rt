@@ -2,6 +2,7 @@
 #![tactic(auto)]
 
 mod changes;
+mod cursor;
 mod fault;
 mod merging;
 mod page;

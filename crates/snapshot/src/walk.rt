@@ -3,39 +3,27 @@ ghost use Rattle.memory_model.specs.Sizes.{pages};
 ghost use Rattle.space_mem.specs.Held.{Covers, IsClean};
 ghost use Rattle.snapshot.specs.Pages.{IsNextToMerge, SameBytes};
 
-use space_mem::Mem;
+use crate::cursor::Cursor;
 
 // The next page from `n` on that a merge has to look at: one that is dirty in the child, and of which the child or the snapshot
-// keeps bytes. Other pages have the same bytes in both.
-pub fn next_page(child: &Mem, snapshot: &Mem, n: u32) -> Option<u32>
-    requires covers { Covers child.now snapshot.now.memory }
-    ensures some { IfSome result (IsNextToMerge child.now.memory snapshot.now.memory n) }
-    ensures dirty { IfSome result (λ page. IsClean child.now page → ⊥) }
-    ensures none { IsNone result → SameBytes child.now.memory snapshot.now.memory n pages }
+// keeps bytes. Other pages have the same bytes in both. Behind a page of which neither keeps bytes, dirty pages up to the next one that either
+// keeps are passed over at once.
+pub fn next_page(child: &mut Cursor, snapshot: &mut Cursor, n: u32) -> Option<u32>
+    requires covers { Covers child.old snapshot.old.memory }
+    ensures some { IfSome result (IsNextToMerge child.old.memory snapshot.old.memory n) }
+    ensures dirty { IfSome result (λ page. IsClean child.old page → ⊥) }
+    ensures none { IsNone result → SameBytes child.old.memory snapshot.old.memory n pages }
+    ensures same_child { child.new ≡ child.old }
+    ensures same_snapshot { snapshot.new ≡ snapshot.old }
 {
     let mut at = n;
     while let Some(dirty) = child.next_dirty(at) {
-        match next_kept(child, snapshot, dirty) {
-            Some(kept) => {
-                if kept == dirty {
-                    return Some(dirty);
-                }
-                at = kept;
-            }
-            None => return None,
+        if child.keeps(dirty) || snapshot.keeps(dirty) {
+            return Some(dirty);
         }
+        at = child
+            .next_kept(dirty + 1)
+            .min(snapshot.next_kept(dirty + 1));
     }
     None
-}
-
-// The next page from `n` on of which the child or the snapshot keeps bytes.
-fn next_kept(child: &Mem, snapshot: &Mem, n: u32) -> Option<u32>
-    ensures some { IfSome result (IsNextToMerge child.now.memory snapshot.now.memory n) }
-    ensures none { IsNone result → SameBytes child.now.memory snapshot.now.memory n pages }
-{
-    match (child.next_kept(n), snapshot.next_kept(n)) {
-        (Some(a), Some(b)) => Some(a.min(b)),
-        (Some(a), None) => Some(a),
-        (None, b) => b,
-    }
 }

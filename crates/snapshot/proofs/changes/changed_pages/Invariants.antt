@@ -1,4 +1,4 @@
-use Rattle.std.proofs.Common.{◌≤◌, ◌+◌, ◌*◌, ◌-◌, All}
+use Rattle.std.proofs.Common.{◌≡◌, ◌≤◌, ◌+◌, ◌*◌, ◌-◌, All}
 use Rattle.snapshot.specs.Pages.{AreChanged, IsMerged, NoneInConflict}
 use Rattle.snapshot.proofs.changes.changed_pages.Given as goal
 
@@ -8,6 +8,8 @@ invariant-loop-page l = record {
   within : l.from ≤ l.end;
   changed : AreChanged l.child.memory l.snapshot.memory l.fn.range.first l.from l.changed.items;
   each : All (IsMerged l.child l.snapshot.memory l.fn.range.first (l.fn.range.first + l.fn.range.count)) l.changed.items;
+  child : l.child_cursor ≡ l.child;
+  snapshot : l.snapshot_cursor ≡ l.snapshot;
   none : NoneInConflict l.agree l.snapshot.memory l.child.memory l.parent.memory (4096 * l.fn.range.first) (4096 * l.from);
 }
 

@@ -1,13 +1,15 @@
-use Rattle.std.proofs.Common.{arith, refl}
-use Rattle.snapshot.proofs.Lists.{same_clean, same_join}
+use Rattle.std.proofs.Common.{◌+◌, arith, refl, subst, ◌∙◌}
+use Rattle.memory_model.specs.Ranges.{IsZeroPage}
+use Rattle.space_mem.specs.Held.{Held, AllClean, AllZero, IsNextDirty}
+use Rattle.snapshot.proofs.Lists.{same_clean, same_join, same_zero, zero_more}
 use Rattle.snapshot.proofs.walk.next_page.Goals as goal
 
-pub returns-then-kept-dirty-clause-some : goal.returns-then-kept-dirty-clause-some
-returns-then-kept-dirty-clause-some c =
+pub returns-then-keeps-clause-some : goal.returns-then-keeps-clause-some
+returns-then-keeps-clause-some c =
     let h = c.args.child.now in
     let s = c.args.snapshot.now.memory in
     let at = c.loop-dirty.at in
-    let dirty = c.in-Some.ensures.some in
+    let dirty = subst (λ k. IsNextDirty k at c.in-Some.dirty) c.loop-dirty.invariant.child c.in-Some.ensures.some in
     record {
       above = omega (arith, dirty.above, c.loop-dirty.invariant.above);
       below = dirty.below;
@@ -20,26 +22,27 @@ loop-dirty-preserved c =
     let h = c.args.child.now in
     let s = c.args.snapshot.now.memory in
     let at = c.loop-dirty.at in
-    let dirty = c.in-Some.ensures.some in
-    let kept = c.in-Some-next_kept.ensures.some in
+    let page = c.in-Some.dirty in
+    let is_child = c.loop-dirty.invariant.child in
+    let is_snapshot = c.loop-dirty.invariant.snapshot in
+    let end = c.min-at.result in
+    let of_child = c.next_kept.ensures in
+    let of_snapshot = c.next_kept-in-Some.ensures in
+    let dirty = subst (λ k. IsNextDirty k at page) is_child c.in-Some.ensures.some in
+    let first_child = subst (λ (k : Held). IsZeroPage k.memory page) is_child (c.keeps.ensures c.if-keeps.false) in
+    let first_snapshot = subst (λ (k : Held). IsZeroPage k.memory page) is_snapshot (c.keeps-else-keeps.ensures c.if-keeps-2.false) in
+    let zero_child = subst (λ (k : Held). AllZero k.memory (page + 1) c.next_kept.result) is_child of_child.zero in
+    let zero_snapshot = subst (λ (k : Held). AllZero k.memory (page + 1) c.next_kept-in-Some.result) is_snapshot of_snapshot.zero in
     record {
-      above = omega (arith, kept.above, dirty.above, c.loop-dirty.invariant.above);
-      same = same_join h.memory s c.args.n c.in-Some.dirty _
-          (same_join h.memory s c.args.n at c.in-Some.dirty c.loop-dirty.invariant.same
-          (same_clean h s at c.in-Some.dirty c.requires.covers dirty.clean (omega (arith, dirty.below))))
-          kept.same;
+      above = omega (arith, of_child.above, of_snapshot.above, c.min-at.ensures, dirty.above, c.loop-dirty.invariant.above);
+      same = same_join h.memory s c.args.n at end c.loop-dirty.invariant.same
+          (same_join h.memory s at page end (same_clean h s at page c.requires.covers dirty.clean (omega (arith, dirty.below)))
+          (same_zero h.memory s page end
+          (zero_more h.memory page c.next_kept.result end first_child zero_child (omega (arith, c.min-at.ensures)))
+          (zero_more s page c.next_kept-in-Some.result end first_snapshot zero_snapshot (omega (arith, c.min-at.ensures)))));
+      child = of_child.same ∙ is_child;
+      snapshot = of_snapshot.same ∙ is_snapshot;
     }
-
-pub returns-in-None-clause-none : goal.returns-in-None-clause-none
-returns-in-None-clause-none c _ =
-    let h = c.args.child.now in
-    let s = c.args.snapshot.now.memory in
-    let at = c.loop-dirty.at in
-    let dirty = c.in-Some.ensures.some in
-    same_join h.memory s c.args.n c.in-Some.dirty 1048576
-    (same_join h.memory s c.args.n at c.in-Some.dirty c.loop-dirty.invariant.same
-    (same_clean h s at c.in-Some.dirty c.requires.covers dirty.clean (omega (arith, dirty.below))))
-    (c.in-None.ensures.none refl)
 
 pub returns-clause-none : goal.returns-clause-none
 returns-clause-none c _ =
@@ -47,4 +50,4 @@ returns-clause-none c _ =
     let s = c.args.snapshot.now.memory in
     let at = c.loop-dirty.at in
     same_join h.memory s c.args.n at 1048576 c.loop-dirty.invariant.same
-    (same_clean h s at 1048576 c.requires.covers (c.in_default.ensures.none refl) (omega arith))
+    (same_clean h s at 1048576 c.requires.covers (subst (λ k. AllClean k at 1048576) c.loop-dirty.invariant.child (c.in_default.ensures.none refl)) (omega arith))

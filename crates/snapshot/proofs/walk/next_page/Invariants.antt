@@ -1,11 +1,13 @@
-use Rattle.std.proofs.Common.{◌≤◌, ◌-◌}
+use Rattle.std.proofs.Common.{◌≡◌, ◌≤◌, ◌-◌}
 use Rattle.snapshot.specs.Pages.{SameBytes}
 use Rattle.snapshot.proofs.walk.next_page.Given as goal
 
 abbrev pub invariant-loop-dirty : goal.invariant-loop-dirty
 invariant-loop-dirty l = record {
   above : l.fn.n ≤ l.at;
-  same : SameBytes l.child.memory l.snapshot.memory l.fn.n l.at;
+  same : SameBytes l.fn.child.memory l.fn.snapshot.memory l.fn.n l.at;
+  child : l.child ≡ l.fn.child;
+  snapshot : l.snapshot ≡ l.fn.snapshot;
 }
 
 abbrev pub decreases-loop-dirty : goal.decreases-loop-dirty
