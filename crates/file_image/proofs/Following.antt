@@ -4,7 +4,6 @@ use Rattle.std.specs.Prelude.{◌&&◌, ◌||◌, ◌==◌, slice_set, IfSome, �
 use Rattle.std.specs.List.{AllZip}
 use Rattle.std.specs.Str.{bytes_eq}
 use Rattle.std.proofs.lemmas.Bool.{cases_order}
-use Rattle.std.proofs.lemmas.Bool.Decides.{nat_tests}
 use Rattle.std.proofs.lemmas.List.{get_or-set_same, get_or-set_other, length-set}
 use Rattle.std.proofs.lemmas.Slice.Eq.{bytes_eq-Decides}
 use Rattle.file_model.specs.File.{File}
@@ -94,14 +93,9 @@ against_slot : (c : File) (o : Option Entry) (s : List (Option File)) → slot_o
 against_slot c None s = arrival_slot c (lowest_free s)
 against_slot c (Some e) s = refl
 
-other_test : (a b : ℕ) → (a ≡ b → ⊥) → (a == b) ≡ false
-other_test a b h = grind (arith, nat_tests)
-
-pub slot_of_other : (b : ℕ → ℕ) (marks : List Bool) (c : File) (s : List (Option File)) → Follows b marks c.name s → (c.version ≡ c.base → ⊥)
-    → slot_of (reconcile_file c s) ≡ slot_or (entry_of (slots_of b) c.name) (lowest_free s)
-slot_of_other b marks c s h n =
-    ap (λ t. slot_of (cond t stays (against c (entry_of s c.name) s))) (other_test c.version c.base n) ∙ against_slot c (entry_of s c.name) s
-    ∙ ap (λ o. slot_or o (lowest_free s)) (entry_same 0 s (slots_of b) c.name h.same)
+pub slot_against : (b : ℕ → ℕ) (marks : List Bool) (c : File) (s : List (Option File)) → Follows b marks c.name s
+    → slot_of (against c (entry_of s c.name) s) ≡ slot_or (entry_of (slots_of b) c.name) (lowest_free s)
+slot_against b marks c s h = against_slot c (entry_of s c.name) s ∙ ap (λ o. slot_or o (lowest_free s)) (entry_same 0 s (slots_of b) c.name h.same)
 
 -- ---- what one file writes is nothing to another name
 

@@ -1,17 +1,18 @@
 -- Reconciling a child's files one after the other.
-use Rattle.std.proofs.Common.{◌≡◌, ℕ, suc, ◌+◌, ◌-◌, ◌<◌, ◌≤◌, Bool, true, false, cond, List, [], ◌∷◌, refl, ap, sym, subst, ◌∙◌, arith, Option, Some, None}
-use Rattle.std.specs.Prelude.{◌&&◌, slice_set}
+use Rattle.std.proofs.Common.{◌≡◌, ℕ, suc, ◌+◌, ◌-◌, ◌<◌, ◌≤◌, Bool, true, false, not, cond, List, [], ◌∷◌, refl, ap, sym, subst, ◌∙◌, arith, Option, Some, None}
+use Rattle.std.specs.Prelude.{◌==◌, ◌&&◌, slice_set}
+use Rattle.std.proofs.lemmas.Bool.{false≢true}
 use Rattle.std.specs.List.{All}
 use Rattle.file_model.specs.File.{File, IsFile}
 use Rattle.file_model.specs.Slots.{slot_at, slots_from, slots_of, is_in_use, slot_start, with_slot}
 use Rattle.file_model.specs.Operations.{Entry, entry_of}
-use Rattle.file_model.specs.Reconcile.{Outcome, stays, writes, leaves_out, Reconciliation, reconcile_file, shown_from, is_at, with_entries}
+use Rattle.file_model.specs.Reconcile.{Outcome, stays, writes, leaves_out, Reconciliation, reconcile_file, against, shown_from, is_at, with_entries}
 use Rattle.file_model.proofs.Lookups.{slots_next}
 use Rattle.file_model.proofs.OtherSlots.{slots_written}
 use Rattle.file_model.proofs.Reconciling.{rest, rest_none, rest_stays, edits_first, left_out_later, edits_later, left_out_first, WritesFile, outcome_well}
 use Rattle.file_model.proofs.WellFormed.{file_well}
 use Rattle.file_image.specs.Lookup.{file_in, HasFile}
-use Rattle.file_image.specs.Outcomes.{Happens, IsReadyFor, AreReady, is_shown}
+use Rattle.file_image.specs.Outcomes.{Happens, IsReadyFor, AreReady, is_shown, is_changed}
 
 -- ---- the files from slot k on that no lower slot hides
 
@@ -33,6 +34,40 @@ later_hidden d k h e = later_next d k h ∙ ap (λ t. cond t (file_in d k ∷ la
 
 pub later_shown : (d : ℕ → ℕ) (k : ℕ) → k < 64 → is_shown d k ≡ true → later d k ≡ file_in d k ∷ later d (k + 1)
 later_shown d k h e = later_next d k h ∙ ap (λ t. cond t (file_in d k ∷ later d (k + 1)) (later d (k + 1))) e
+
+-- ---- those that were changed since their base
+
+shown_if : (u v a : Bool) → (u && (v && a)) ≡ true → (u && a) ≡ true
+shown_if true true a h = h
+shown_if true false a h = absurd (false≢true h)
+shown_if false v a h = absurd (false≢true h)
+
+other_if : (u v a : Bool) → (u && (not v && a)) ≡ true → v ≡ false
+other_if true true a h = absurd (false≢true h)
+other_if true false a h = refl
+other_if false v a h = absurd (false≢true h)
+
+idle_choice : (u v a : Bool) (s : List (Option File)) (c : File) (cs : List File) → v ≡ (c.version == c.base) → (u && (not v && a)) ≡ false → rest s (cond (u && a) (c ∷ cs) cs) ≡ rest s cs
+idle_choice true true true s c cs e h = rest_stays s c cs (ap (λ t. cond t stays (against c (entry_of s c.name) s)) (sym e))
+idle_choice true true false s c cs e h = refl
+idle_choice true false true s c cs e h = absurd (false≢true (sym h))
+idle_choice true false false s c cs e h = refl
+idle_choice false v a s c cs e h = refl
+
+-- a file that is hidden, or as it was at its base, does nothing
+pub later_idle : (s : List (Option File)) (d : ℕ → ℕ) (k : ℕ) → k < 64 → is_changed d k ≡ false → rest s (later d k) ≡ rest s (later d (k + 1))
+later_idle s d k h e =
+    ap (rest s) (later_next d k h)
+    ∙ idle_choice (is_in_use d (slot_start k)) ((file_in d k).version == (file_in d k).base) (is_at k (entry_of (slots_of d) (file_in d k).name)) s (file_in d k) (later d (k + 1)) refl e
+
+pub changed_shown : (d : ℕ → ℕ) (k : ℕ) → is_changed d k ≡ true → is_shown d k ≡ true
+changed_shown d k h = shown_if (is_in_use d (slot_start k)) (not ((file_in d k).version == (file_in d k).base)) (is_at k (entry_of (slots_of d) (file_in d k).name)) h
+
+-- one that was changed is told by the parent's file of its name
+pub changed_against : (s : List (Option File)) (d : ℕ → ℕ) (k : ℕ) → is_changed d k ≡ true → reconcile_file (file_in d k) s ≡ against (file_in d k) (entry_of s (file_in d k).name) s
+changed_against s d k h =
+    ap (λ t. cond t stays (against (file_in d k) (entry_of s (file_in d k).name) s))
+    (other_if (is_in_use d (slot_start k)) ((file_in d k).version == (file_in d k).base) (is_at k (entry_of (slots_of d) (file_in d k).name)) h)
 
 pub later_end : (d : ℕ → ℕ) (k : ℕ) → 64 ≤ k → later d k ≡ []
 unfolding shown_from slots_from

@@ -9,13 +9,13 @@ use Rattle.std.proofs.lemmas.Slice.Eq.{bytes_eq-Decides}
 use Rattle.file_model.specs.File.{File}
 use Rattle.file_model.specs.Slots.{slot_at, slots_from, slots_of, is_in_use, slot_start}
 use Rattle.file_model.specs.Operations.{Entry, entry_of}
-use Rattle.file_model.specs.Reconcile.{Outcome, stays, writes, leaves_out, reconcile, reconcile_file, is_used, is_at, mark_entries, marks_of}
+use Rattle.file_model.specs.Reconcile.{Outcome, stays, writes, leaves_out, Reconciliation, reconcile, reconcile_file, is_used, is_at, mark_entries, marks_of}
 use Rattle.file_model.proofs.Lookups.{length-slots_from, and_right}
 use Rattle.file_model.proofs.Reconciling.{rest, rest_none, rest_stays, edits_first, edits_later}
 use Rattle.file_image.specs.Lookup.{file_in}
-use Rattle.file_image.specs.Outcomes.{is_shown}
+use Rattle.file_image.specs.Outcomes.{is_shown, is_changed}
 use Rattle.file_image.specs.Marks.{slot_of, with_mark, AreInUse, IsSameFor, Follows}
-use Rattle.file_image.proofs.LaterFiles.{later, later_hidden, later_shown, later_end}
+use Rattle.file_image.proofs.LaterFiles.{later, later_idle, later_shown, later_end}
 use Rattle.file_image.proofs.Following.{IsApart, apart, same_set, use_set}
 use Rattle.file_image.proofs.UsedBits.{used_slot}
 
@@ -57,13 +57,13 @@ marked_begin b d = record { long = length-replicate {A = Bool} 64 false; slots =
 
 -- ---- one slot
 
-pub marked_hidden : (b d : ℕ → ℕ) (marks : List Bool) (k : ℕ) → k < 64 → is_shown d k ≡ false → IsMarked b d marks k → IsMarked b d marks (k + 1)
-marked_hidden b d marks k h e m = record {
+pub marked_idle : (b d : ℕ → ℕ) (marks : List Bool) (k : ℕ) → k < 64 → is_changed d k ≡ false → IsMarked b d marks k → IsMarked b d marks (k + 1)
+marked_idle b d marks k h e m = record {
   long = m.long;
   slots = m.slots;
   in_use = m.in_use;
   same = λ name j l a. m.same name j (omega arith) a;
-  later_marks = ap (λ cs. mark_entries marks (rest m.slots cs).edits) (sym (later_hidden d k h e)) ∙ m.later_marks;
+  later_marks = ap (λ (r : Reconciliation). mark_entries marks r.edits) (sym (later_idle m.slots d k h e)) ∙ m.later_marks;
 }
 
 is_slot : (a b : ℕ) → (a == b) ≡ true → a ≡ b

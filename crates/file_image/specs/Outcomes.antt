@@ -1,6 +1,6 @@
 -- What becomes of one child's file, as the code tells it, and which of the child's slots have a file to reconcile.
 -- Our choice: a restatement for proofs.
-use Rattle.std.specs.Prelude.{◌≡◌, ℕ, ◌&&◌, Bool, true, false, ⊤}
+use Rattle.std.specs.Prelude.{◌≡◌, ℕ, ◌==◌, ◌&&◌, not, Bool, true, false, ⊤}
 use Rattle.std.specs.List.{All}
 use Rattle.file_model.specs.Slots.{slots_of, slot_start, is_in_use, with_slot}
 use Rattle.file_model.specs.Operations.{entry_of}
@@ -29,3 +29,7 @@ AreReady ready r = All (λ e. ready e.slot ≡ true) r.edits
 -- whether slot k has a file that no lower slot hides
 abbrev pub is_shown : (ℕ → ℕ) → ℕ → Bool
 is_shown bytes k = is_in_use bytes (slot_start k) && is_at k (entry_of (slots_of bytes) (file_in bytes k).name)
+
+-- whether slot k has one that was changed since its base, too
+abbrev pub is_changed : (ℕ → ℕ) → ℕ → Bool
+is_changed bytes k = is_in_use bytes (slot_start k) && (not ((file_in bytes k).version == (file_in bytes k).base) && is_at k (entry_of (slots_of bytes) (file_in bytes k).name))

@@ -2,16 +2,15 @@ ghost use Rattle.std.specs.Prelude.{◌≡◌, ℕ, ◌<◌, ◌&&◌, not, leng
 ghost use Rattle.file_model.specs.Sizes.{slot_count};
 ghost use Rattle.file_model.specs.File.{File};
 ghost use Rattle.file_model.specs.Slots.{slots_of, slot_start, is_in_use};
-ghost use Rattle.file_model.specs.Operations.{lowest_free};
+ghost use Rattle.file_model.specs.Operations.{entry_of, lowest_free};
 ghost use Rattle.file_model.specs.Reconcile as reconciling;
 ghost use Rattle.file_image.specs.Lookup.{file_in, HasFile};
 ghost use Rattle.file_image.specs.Marks.{slot_of, with_mark, AreInUse, Follows};
 
-use crate::fields::{base, version};
 use crate::file_bytes::FileBytes;
 use crate::header::SLOTS;
 use crate::lookup::{is_free, with_bit};
-use crate::reconciling::{find_same, is_shown};
+use crate::reconciling::{find_same, is_changed};
 
 // Whether a slot is neither in use nor marked.
 fn is_unmarked<P: FileBytes>(parent: &P, marks: &[bool; 64], slot: u32) -> bool
@@ -34,7 +33,7 @@ fn lowest_unmarked<P: FileBytes>(parent: &P, marks: &[bool; 64]) -> Option<u32>
     None
 }
 
-// The parent's slot that one file of a child is written to, where those that were written before are marked.
+// The parent's slot that a file is written to that the child changed, where those that were written before are marked.
 fn target<P: FileBytes, C: FileBytes>(
     parent: &P,
     child: &C,
@@ -42,12 +41,9 @@ fn target<P: FileBytes, C: FileBytes>(
     marks: &[bool; 64],
 ) -> Option<u32>
     requires { HasFile (C.bytes child.now) slot }
-    ensures slot { (s : List (Option File)) → Follows (P.bytes parent.now) marks.now (file_in (C.bytes child.now) slot).name s → result ≡ slot_of (reconciling.reconcile_file (file_in (C.bytes child.now) slot) s) }
+    ensures slot { (s : List (Option File)) → Follows (P.bytes parent.now) marks.now (file_in (C.bytes child.now) slot).name s → result ≡ slot_of (reconciling.against (file_in (C.bytes child.now) slot) (entry_of s (file_in (C.bytes child.now) slot).name) s) }
     ensures within { IfSome result (λ k. k < slot_count) }
 {
-    if version(child, slot) == base(child, slot) {
-        return None;
-    }
     match find_same(parent, child, slot) {
         Some(to) => Some(to),
         None => lowest_unmarked(parent, marks),
@@ -86,7 +82,7 @@ pub fn touched<P: FileBytes, C: FileBytes>(parent: &P, child: &C) -> u64
 {
     let mut marks = [false; 64];
     for slot in 0..SLOTS {
-        if !is_shown(child, slot) {
+        if !is_changed(child, slot) {
             continue;
         }
         let to = target(parent, child, slot, &marks);

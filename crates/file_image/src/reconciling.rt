@@ -4,7 +4,7 @@ ghost use Rattle.file_model.specs.Slots.{slots_of, with_slot};
 ghost use Rattle.file_model.specs.Operations.{entry_of, lowest_free};
 ghost use Rattle.file_model.specs.Reconcile as reconciling;
 ghost use Rattle.file_image.specs.Lookup.{file_in, HasFile, optional_entry};
-ghost use Rattle.file_image.specs.Outcomes.{Happens, IsReadyFor, AreReady, is_shown};
+ghost use Rattle.file_image.specs.Outcomes.{Happens, IsReadyFor, AreReady, is_changed};
 
 use crate::fields::{base, is_append, is_conflicted, is_deleted, length, length_at_base, version};
 use crate::file_bytes::FileBytes;
@@ -34,16 +34,16 @@ fn is_first<C: FileBytes>(child: &C, slot: u32) -> bool
     }
 }
 
-// Whether a slot has a file that no lower slot hides.
-pub(crate) fn is_shown<C: FileBytes>(child: &C, slot: u32) -> bool
+// Whether a slot has a file that was changed since its base, and that no lower slot hides.
+pub(crate) fn is_changed<C: FileBytes>(child: &C, slot: u32) -> bool
     requires { slot < slot_count }
-    ensures shown { result ≡ is_shown (C.bytes child.now) slot }
+    ensures changed { result ≡ is_changed (C.bytes child.now) slot }
     ensures file { result ≡ true → HasFile (C.bytes child.now) slot }
 {
     if is_free(child, slot) {
         return false;
     }
-    is_first(child, slot)
+    version(child, slot) != base(child, slot) && is_first(child, slot)
 }
 
 // Whether a file may only have been added to since it had this length.
@@ -140,16 +140,13 @@ fn take_new<P: FileBytes, C: FileBytes>(parent: &mut P, child: &C, slot: u32) ->
     }
 }
 
-// Reconciles one file of a child. Answers whether it is left out.
-fn reconcile_file<P: FileBytes, C: FileBytes>(parent: &mut P, child: &C, slot: u32) -> bool
+// Reconciles a file that the child changed. Answers whether it is left out.
+fn reconcile_changed<P: FileBytes, C: FileBytes>(parent: &mut P, child: &C, slot: u32) -> bool
     requires slot { HasFile (C.bytes child.now) slot }
-    requires ready { IsReadyFor (λ k. P.is_ready parent.old k) (reconciling.reconcile_file (file_in (C.bytes child.now) slot) (slots_of (P.bytes parent.old))) }
-    ensures happens { Happens (reconciling.reconcile_file (file_in (C.bytes child.now) slot) (slots_of (P.bytes parent.old))) result (P.bytes parent.old) (P.bytes parent.new) }
+    requires ready { IsReadyFor (λ k. P.is_ready parent.old k) (reconciling.against (file_in (C.bytes child.now) slot) (entry_of (slots_of (P.bytes parent.old)) (file_in (C.bytes child.now) slot).name) (slots_of (P.bytes parent.old))) }
+    ensures happens { Happens (reconciling.against (file_in (C.bytes child.now) slot) (entry_of (slots_of (P.bytes parent.old)) (file_in (C.bytes child.now) slot).name) (slots_of (P.bytes parent.old))) result (P.bytes parent.old) (P.bytes parent.new) }
     ensures kept { P.keeps parent.old parent.new }
 {
-    if version(child, slot) == base(child, slot) {
-        return false;
-    }
     match find_same(parent, child, slot) {
         None => take_new(parent, child, slot),
         Some(to) => {
@@ -176,10 +173,10 @@ pub fn reconcile<P: FileBytes, C: FileBytes>(parent: &mut P, child: &C) -> u32
 {
     let mut left_out = 0;
     for slot in 0..SLOTS {
-        if !is_shown(child, slot) {
+        if !is_changed(child, slot) {
             continue;
         }
-        let is_left_out = reconcile_file(parent, child, slot);
+        let is_left_out = reconcile_changed(parent, child, slot);
         left_out = count(left_out, is_left_out);
     }
     left_out

@@ -1,18 +1,16 @@
-use Rattle.std.proofs.Common.{◌≡◌, sym, ap, ◌∙◌}
+use Rattle.std.proofs.Common.{sym, ap, ◌∙◌}
 use Rattle.file_model.specs.Operations.{lowest_free}
 use Rattle.file_image.specs.Lookup.{file_in}
-use Rattle.file_image.proofs.Following.{slot_of_other, slot_or}
+use Rattle.file_image.proofs.Following.{slot_against, slot_or}
 use Rattle.file_image.proofs.marking.target.Goals as goal
 
 pub returns-in-Some-clause-slot : goal.returns-in-Some-clause-slot
 returns-in-Some-clause-slot g c = λ s h.
     let f = file_in (g.C.FileBytes.bytes c.args.child.now) c.args.slot in
-    let e : f.version ≡ f.base → ⊥ = λ i. c.if-version-base.false (c.version.ensures ∙ i ∙ sym c.base.ensures) in
-    sym (slot_of_other (g.P.FileBytes.bytes c.args.parent.now) c.args.marks.now f s h e ∙ ap (λ o. slot_or o (lowest_free s)) c.in-Some.ensures.entry)
+    sym (slot_against (g.P.FileBytes.bytes c.args.parent.now) c.args.marks.now f s h ∙ ap (λ o. slot_or o (lowest_free s)) c.in-Some.ensures.entry)
 
 pub returns-in-None-clause-slot : goal.returns-in-None-clause-slot
 returns-in-None-clause-slot g c = λ s h.
     let f = file_in (g.C.FileBytes.bytes c.args.child.now) c.args.slot in
-    let e : f.version ≡ f.base → ⊥ = λ i. c.if-version-base.false (c.version.ensures ∙ i ∙ sym c.base.ensures) in
     c.lowest_unmarked.ensures.slot s h.in_use
-    ∙ sym (slot_of_other (g.P.FileBytes.bytes c.args.parent.now) c.args.marks.now f s h e ∙ ap (λ o. slot_or o (lowest_free s)) c.in-None.ensures.entry)
+    ∙ sym (slot_against (g.P.FileBytes.bytes c.args.parent.now) c.args.marks.now f s h ∙ ap (λ o. slot_or o (lowest_free s)) c.in-None.ensures.entry)

@@ -1,26 +1,29 @@
 use Rattle.std.proofs.Common.{◌≡◌, ◌+◌, ◌≤◌, Bool, true, false, cond, sym, ap, subst, ◌∙◌, arith}
 use Rattle.file_model.specs.Slots.{slots_of}
-use Rattle.file_model.specs.Reconcile.{with_entries}
+use Rattle.file_model.specs.Reconcile.{with_entries, Reconciliation}
 use Rattle.file_model.proofs.Reconciling.{rest}
-use Rattle.file_image.specs.Outcomes.{AreReady}
-use Rattle.file_image.proofs.LaterFiles.{later, later_hidden, turns, ready_here, nothing_left, none_left_out}
+use Rattle.file_image.specs.Outcomes.{AreReady, Happens, IsReadyFor}
+use Rattle.file_image.proofs.LaterFiles.{later, later_idle, changed_shown, changed_against, turns, ready_here, nothing_left, none_left_out}
 use Rattle.file_image.proofs.reconciling.reconcile.Goals as goal
 
-pub reconcile_file-is_left_out-requires-clause-ready : goal.reconcile_file-is_left_out-requires-clause-ready
-reconcile_file-is_left_out-requires-clause-ready g c =
-    ready_here (λ k. g.P.FileBytes.is_ready c.loop-slot.parent k) (slots_of (g.P.FileBytes.bytes c.loop-slot.parent)) (g.C.FileBytes.bytes c.args.child.now) c.loop-slot.slot (omega arith)
-    (sym c.is_shown.ensures.shown ∙ c.if-not-is_shown.false) c.loop-slot.invariant.ready
+pub reconcile_changed-is_left_out-requires-clause-ready : goal.reconcile_changed-is_left_out-requires-clause-ready
+reconcile_changed-is_left_out-requires-clause-ready g c =
+    let s = slots_of (g.P.FileBytes.bytes c.loop-slot.parent) in
+    let d = g.C.FileBytes.bytes c.args.child.now in
+    let changed = sym c.is_changed.ensures.changed ∙ c.if-not-is_changed.false in
+    subst (IsReadyFor (λ k. g.P.FileBytes.is_ready c.loop-slot.parent k)) (changed_against s d c.loop-slot.slot changed)
+    (ready_here (λ k. g.P.FileBytes.is_ready c.loop-slot.parent k) s d c.loop-slot.slot (omega arith) (changed_shown d c.loop-slot.slot changed) c.loop-slot.invariant.ready)
 
-pub loop-slot-preserved-then-not-is_shown : goal.loop-slot-preserved-then-not-is_shown
-loop-slot-preserved-then-not-is_shown g c =
+pub loop-slot-preserved-then-not-is_changed : goal.loop-slot-preserved-then-not-is_changed
+loop-slot-preserved-then-not-is_changed g c =
     let b = g.P.FileBytes.bytes c.loop-slot.parent in
     let d = g.C.FileBytes.bytes c.args.child.now in
-    let l : later d c.loop-slot.slot ≡ later d (c.loop-slot.slot + 1) = later_hidden d c.loop-slot.slot (omega arith) (sym c.is_shown.ensures.shown ∙ c.if-not-is_shown.true) in
+    let l : rest (slots_of b) (later d c.loop-slot.slot) ≡ rest (slots_of b) (later d (c.loop-slot.slot + 1)) = later_idle (slots_of b) d c.loop-slot.slot (omega arith) (sym c.is_changed.ensures.changed ∙ c.if-not-is_changed.true) in
     record {
-      bytes = ap (λ cs. with_entries b (rest (slots_of b) cs).edits) (sym l) ∙ c.loop-slot.invariant.bytes;
-      left_out = ap (λ cs. c.loop-slot.left_out + (rest (slots_of b) cs).left_out) (sym l) ∙ c.loop-slot.invariant.left_out;
+      bytes = ap (λ (r : Reconciliation). with_entries b r.edits) (sym l) ∙ c.loop-slot.invariant.bytes;
+      left_out = ap (λ (r : Reconciliation). c.loop-slot.left_out + r.left_out) (sym l) ∙ c.loop-slot.invariant.left_out;
       few = omega (arith, c.loop-slot.invariant.few);
-      ready = subst (λ cs. AreReady (λ k. g.P.FileBytes.is_ready c.loop-slot.parent k) (rest (slots_of b) cs)) l c.loop-slot.invariant.ready;
+      ready = subst (AreReady (λ k. g.P.FileBytes.is_ready c.loop-slot.parent k)) l c.loop-slot.invariant.ready;
       kept = c.loop-slot.invariant.kept;
     }
 
@@ -31,17 +34,19 @@ one false = omega arith
 pub loop-slot-preserved : goal.loop-slot-preserved
 loop-slot-preserved g c =
     let b = g.P.FileBytes.bytes c.loop-slot.parent in
-    let n = g.P.FileBytes.bytes c.reconcile_file-is_left_out.new.parent in
+    let n = g.P.FileBytes.bytes c.reconcile_changed-is_left_out.new.parent in
     let d = g.C.FileBytes.bytes c.args.child.now in
-    let shown = sym c.is_shown.ensures.shown ∙ c.if-not-is_shown.false in
-    let t = turns b n d c.loop-slot.slot c.reconcile_file-is_left_out.result (g.met.P.FileBytes.small c.loop-slot.parent) (g.met.C.FileBytes.small c.args.child.now) (c.is_shown.ensures.file c.if-not-is_shown.false) shown c.reconcile_file-is_left_out.ensures.happens in
-    let o = one c.reconcile_file-is_left_out.result in
+    let changed = sym c.is_changed.ensures.changed ∙ c.if-not-is_changed.false in
+    let shown = changed_shown d c.loop-slot.slot changed in
+    let happens = subst (λ o. Happens o c.reconcile_changed-is_left_out.result b n) (sym (changed_against (slots_of b) d c.loop-slot.slot changed)) c.reconcile_changed-is_left_out.ensures.happens in
+    let t = turns b n d c.loop-slot.slot c.reconcile_changed-is_left_out.result (g.met.P.FileBytes.small c.loop-slot.parent) (g.met.C.FileBytes.small c.args.child.now) (c.is_changed.ensures.file c.if-not-is_changed.false) shown happens in
+    let o = one c.reconcile_changed-is_left_out.result in
     record {
       bytes = sym t.bytes ∙ c.loop-slot.invariant.bytes;
       left_out = omega (arith, t.left_out, c.loop-slot.invariant.left_out, c.count-left_out.ensures);
       few = omega (arith, c.loop-slot.invariant.few, c.count-left_out.ensures, o);
-      ready = λ k e l. g.met.P.FileBytes.ready_on c.loop-slot.parent c.reconcile_file-is_left_out.new.parent _ c.reconcile_file-is_left_out.ensures.kept (t.ready (λ j. g.P.FileBytes.is_ready c.loop-slot.parent j) c.loop-slot.invariant.ready k e l);
-      kept = g.met.P.FileBytes.keeps_on c.args.parent.now c.loop-slot.parent c.reconcile_file-is_left_out.new.parent c.loop-slot.invariant.kept c.reconcile_file-is_left_out.ensures.kept;
+      ready = λ k e l. g.met.P.FileBytes.ready_on c.loop-slot.parent c.reconcile_changed-is_left_out.new.parent _ c.reconcile_changed-is_left_out.ensures.kept (t.ready (λ j. g.P.FileBytes.is_ready c.loop-slot.parent j) c.loop-slot.invariant.ready k e l);
+      kept = g.met.P.FileBytes.keeps_on c.args.parent.now c.loop-slot.parent c.reconcile_changed-is_left_out.new.parent c.loop-slot.invariant.kept c.reconcile_changed-is_left_out.ensures.kept;
     }
 
 pub returns-clause-bytes : goal.returns-clause-bytes
