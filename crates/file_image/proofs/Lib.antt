@@ -1,6 +1,7 @@
 pub mod ByteRows
 pub mod Looking
 pub mod Parts
+pub mod Runs
 pub mod UsedBits
 pub mod Overwriting
 pub mod Bases

@@ -1,5 +1,6 @@
-ghost use Rattle.std.specs.Prelude.{◌≡◌, ℕ, ◌<◌, ◌≤◌, ◌/◌, ◌%◌, ◌==◌, Bool, true, if◌then◌else◌};
+ghost use Rattle.std.specs.Prelude.{◌≡◌, ℕ, ◌<◌, ◌≤◌, ◌+◌, ◌/◌, ◌%◌, ◌==◌, Bool, true, if◌then◌else◌, length};
 ghost use Rattle.file_model.specs.Sizes.{slot_count, slot_size, all_slots_size, content_offset};
+ghost use Rattle.file_model.specs.Slots.{bytes_from, with_bytes};
 
 /// What the slots of files are kept in. Offsets count from where slot 0 begins, and are below 4,194,304.
 pub trait FileBytes {
@@ -27,6 +28,33 @@ pub trait FileBytes {
         requires content { content_offset ≤ offset % slot_size → is_ready self.old (offset / slot_size) ≡ true }
         ensures bytes { (a : ℕ) → bytes self.new a ≡ (if a == offset then value else bytes self.old a) }
         ensures kept { keeps self.old self.new };
+
+    /// Copies the bytes from an offset on to all of `out`. They stand in one page of 4,096 bytes.
+    fn read_run(&self, offset: u32, out: &mut [u8])
+        requires within { offset < all_slots_size }
+        requires page { offset % content_offset + length out.old ≤ content_offset }
+        ensures { out.new ≡ bytes_from (bytes self.now) offset (length out.old) }
+    {
+        for (i, b) in out.iter_mut().enumerate() {
+            *b = self.byte(offset + i as u32);
+        }
+    }
+
+    /// Makes the bytes from an offset on those of `run`, one or more, of a slot that is ready, or of a header that may be written. They stand in
+    /// one page of 4,096 bytes.
+    fn write_run(&mut self, offset: u32, run: &[u8])
+        requires within { offset < all_slots_size }
+        requires some { 0 < length run.now }
+        requires page { offset % content_offset + length run.now ≤ content_offset }
+        requires header { has_header self.old (offset / slot_size) ≡ true }
+        requires content { content_offset ≤ offset % slot_size → is_ready self.old (offset / slot_size) ≡ true }
+        ensures bytes { (a : ℕ) → bytes self.new a ≡ with_bytes (bytes self.old) offset run.now a }
+        ensures kept { keeps self.old self.new }
+    {
+        for (i, b) in run.iter().enumerate() {
+            self.set(offset + i as u32, *b);
+        }
+    }
 
     /// Whether a slot, below 64, may be written.
     fn ready(&self, slot: u32) -> bool

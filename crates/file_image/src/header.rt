@@ -1,7 +1,7 @@
-ghost use Rattle.std.specs.Prelude.{◌≡◌, ℕ, ◌+◌, ◌<◌, ◌≤◌, ◌==◌, not, length};
+ghost use Rattle.std.specs.Prelude.{◌≡◌, ℕ, ◌+◌, ◌-◌, ◌%◌, ◌<◌, ◌≤◌, ◌==◌, not, length};
 ghost use Rattle.std.specs.List.{list_any};
 ghost use Rattle.std.specs.Str.{bytes_eq};
-ghost use Rattle.file_model.specs.Sizes.{slot_size, all_slots_size, greatest_name, greatest_length};
+ghost use Rattle.file_model.specs.Sizes.{slot_size, all_slots_size, content_offset, greatest_name, greatest_length};
 ghost use Rattle.file_model.specs.File.{is_name};
 ghost use Rattle.file_model.specs.Slots.{number_at, bytes_from, name_at, is_in_use, name_length_offset};
 
@@ -24,6 +24,16 @@ pub(crate) const SLOT_SIZE: u32 = 65536;
 
 // Where a content begins in its slot.
 pub(crate) const CONTENT: u32 = 4096;
+
+// The bytes of a page, of which a header has the first of its slot.
+pub(crate) const PAGE_SIZE: u32 = 4096;
+
+// How many bytes of a page stand from an offset on.
+pub(crate) fn rest_of_page(offset: u32) -> usize
+    ensures { result ≡ content_offset - offset % content_offset }
+{
+    (PAGE_SIZE - offset % PAGE_SIZE) as usize
+}
 
 // The number of four bytes at an offset, the least first.
 pub(crate) fn number<B: FileBytes>(bytes: &B, at: u32) -> u32

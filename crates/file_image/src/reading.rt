@@ -9,7 +9,7 @@ ghost use Rattle.file_image.specs.Answers.{count_of, buffer_after};
 
 use crate::fields::{is_conflicted, is_deleted, length};
 use crate::file_bytes::FileBytes;
-use crate::header::{CONTENT, GREATEST_NAME, SLOT_SIZE};
+use crate::header::{CONTENT, GREATEST_NAME, SLOT_SIZE, rest_of_page};
 use crate::lookup::find;
 use file_model::FileError;
 
@@ -78,13 +78,17 @@ pub fn len<B: FileBytes>(bytes: &B, name: &[u8]) -> Result<u32, FileError>
     }
 }
 
-// Copies bytes from an offset on.
+// Copies bytes from an offset on, page by page.
 pub(crate) fn read_bytes<B: FileBytes>(bytes: &B, at: u32, out: &mut [u8])
     requires { at + length out.old ≤ all_slots_size }
     ensures { out.new ≡ bytes_from (B.bytes bytes.now) at (length out.old) }
 {
-    for (i, b) in out.iter_mut().enumerate() {
-        *b = bytes.byte(at + i as u32);
+    let mut done: usize = 0;
+    while done < out.len() {
+        let from = at + done as u32;
+        let count = rest_of_page(from).min(out.len() - done);
+        bytes.read_run(from, &mut out[done..done + count]);
+        done += count;
     }
 }
 

@@ -1,5 +1,5 @@
 ghost use Rattle.std.specs.Prelude.{◌≡◌, ◌<◌, ◌≤◌, ◌+◌, true};
-ghost use Rattle.file_model.specs.Sizes.{slot_count, slot_size, all_slots_size};
+ghost use Rattle.file_model.specs.Sizes.{slot_count, slot_size, all_slots_size, content_offset};
 ghost use Rattle.file_model.specs.Slots.{slot_start, bytes_from, with_bytes, with_slot};
 ghost use Rattle.file_model.specs.Reconcile as reconciling;
 ghost use Rattle.file_image.specs.Lookup.{file_in, HasFile};
@@ -7,8 +7,32 @@ ghost use Rattle.file_image.specs.Lookup.{file_in, HasFile};
 use crate::editing::next_version;
 use crate::fields::{length, length_at_base};
 use crate::file_bytes::FileBytes;
-use crate::header::{CONTENT, SLOT_SIZE};
-use crate::writing::{read_header, write_header};
+use crate::header::{CONTENT, PAGE_SIZE, SLOT_SIZE};
+use crate::reading::read_bytes;
+use crate::writing::{read_header, write_bytes, write_header};
+
+// Copies at most a page of bytes of a child's slots into a slot of its parent.
+fn copy_piece<P: FileBytes, C: FileBytes>(
+    parent: &mut P,
+    slot: u32,
+    offset: u32,
+    child: &C,
+    from: u32,
+    count: u32,
+)
+    requires slot { slot < slot_count }
+    requires short { count ≤ content_offset }
+    requires within { offset + count ≤ slot_size }
+    requires from { from + count ≤ all_slots_size }
+    requires ready { P.is_ready parent.old slot ≡ true }
+    ensures bytes { P.bytes parent.new ≡ with_bytes (P.bytes parent.old) (slot_start slot + offset) (bytes_from (C.bytes child.now) from count) }
+    ensures kept { P.keeps parent.old parent.new }
+{
+    let mut buffer = [0; PAGE_SIZE as usize];
+    let piece = &mut buffer[..count as usize];
+    read_bytes(child, from, piece);
+    write_bytes(parent, slot, offset, piece);
+}
 
 // Copies bytes of a child's slots into a slot of its parent.
 fn copy_bytes<P: FileBytes, C: FileBytes>(
@@ -27,9 +51,11 @@ fn copy_bytes<P: FileBytes, C: FileBytes>(
     ensures ready { P.is_ready parent.new slot ≡ true }
     ensures kept { P.keeps parent.old parent.new }
 {
-    let start = SLOT_SIZE * slot + offset;
-    for i in 0..count {
-        parent.set(start + i, child.byte(from + i));
+    let mut done = 0;
+    while done < count {
+        let piece = (count - done).min(PAGE_SIZE);
+        copy_piece(parent, slot, offset + done, child, from + done, piece);
+        done += piece;
     }
 }
 

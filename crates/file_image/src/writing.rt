@@ -8,7 +8,7 @@ ghost use Rattle.file_image.specs.Writes.{Describes, first_half, second_half};
 
 use crate::fields::{base, is_append, is_conflicted, is_deleted, length, length_at_base, version};
 use crate::file_bytes::FileBytes;
-use crate::header::{SLOT_SIZE, number};
+use crate::header::{SLOT_SIZE, number, rest_of_page};
 use crate::reading::read_bytes;
 
 // The fields of a slot's header, the name padded with 0.
@@ -25,7 +25,7 @@ pub(crate) struct Header {
     pub(crate) deleted: bool,
 }
 
-// Writes bytes from an offset of a slot on.
+// Writes bytes from an offset of a slot on, page by page.
 pub(crate) fn write_bytes<B: FileBytes>(bytes: &mut B, slot: u32, offset: u32, part: &[u8])
     requires slot { slot < slot_count }
     requires within { offset + length part.now ≤ slot_size }
@@ -36,8 +36,12 @@ pub(crate) fn write_bytes<B: FileBytes>(bytes: &mut B, slot: u32, offset: u32, p
     ensures kept { B.keeps bytes.old bytes.new }
 {
     let start = SLOT_SIZE * slot + offset;
-    for (i, b) in part.iter().enumerate() {
-        bytes.set(start + i as u32, *b);
+    let mut done: usize = 0;
+    while done < part.len() {
+        let at = start + done as u32;
+        let count = rest_of_page(at).min(part.len() - done);
+        bytes.write_run(at, &part[done..done + count]);
+        done += count;
     }
 }
 

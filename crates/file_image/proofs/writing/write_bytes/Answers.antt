@@ -1,41 +1,40 @@
-use Rattle.std.proofs.Common.{◌≡◌, ◌+◌, ◌*◌, ◌/◌, cond, nat_eq, take, get_or, ap, sym, ◌∙◌, arith}
+use Rattle.std.proofs.Common.{◌≡◌, ◌+◌, ◌-◌, ◌*◌, take, drop, ap, sym, ◌∙◌, arith}
 use Rattle.file_model.specs.Slots.{with_bytes}
-use Rattle.file_model.proofs.Bytes.{nothing_at, with_bytes_more}
+use Rattle.file_model.proofs.Bytes.{nothing_at}
 use Rattle.file_image.proofs.Parts.{take_all}
+use Rattle.file_image.proofs.Runs.{run_written}
 use Rattle.file_image.proofs.writing.write_bytes.Goals as goal
 
-pub loop-i-init : goal.loop-i-init
-loop-i-init g c = record {
+pub loop-done-init : goal.loop-done-init
+loop-done-init g c = record {
+  in_range = omega arith;
   bytes = λ a. sym (nothing_at (g.B.FileBytes.bytes c.args.bytes.now) (65536 * c.args.slot + c.args.offset) a);
   ready = c.requires.ready;
   content = c.requires.content;
   kept = g.met.B.FileBytes.keeps_itself c.args.bytes.now;
 }
 
-pub set-requires : goal.set-requires
-set-requires g c =
-    let e : (65536 * c.args.slot + c.args.offset + c.loop-i.i) / 65536 ≡ c.args.slot = omega (arith, c.requires.within) in
+pub loop-done-preserved : goal.loop-done-preserved
+loop-done-preserved g c =
+    let inv = c.loop-done.invariant in
+    let done = c.loop-done.done in
+    let count = c.min-count.result in
+    let part = c.args.part.now in
+    let e : done + count - done ≡ count = omega arith in
     record {
-      within = omega (arith, c.requires.slot, c.requires.within);
-      header = ap (g.B.FileBytes.has_header c.loop-i.bytes) e ∙ c.loop-i.invariant.ready;
-      content = λ low. ap (g.B.FileBytes.is_ready c.loop-i.bytes) e ∙ c.loop-i.invariant.content (omega (arith, c.requires.within, low));
+      in_range = omega (arith, inv.in_range, c.min-count.ensures);
+      bytes = run_written (g.B.FileBytes.bytes c.args.bytes.now) (g.B.FileBytes.bytes c.loop-done.bytes) (g.B.FileBytes.bytes c.write_run.new.self) (65536 * c.args.slot + c.args.offset) done count part _ inv.in_range
+          (ap (λ n. take n (drop done part)) e) inv.bytes c.write_run.ensures.bytes;
+      ready = g.met.B.FileBytes.header_on c.loop-done.bytes c.write_run.new.self c.args.slot c.write_run.ensures.kept inv.ready;
+      content = λ more. g.met.B.FileBytes.ready_on c.loop-done.bytes c.write_run.new.self c.args.slot c.write_run.ensures.kept (inv.content more);
+      kept = g.met.B.FileBytes.keeps_on c.args.bytes.now c.loop-done.bytes c.write_run.new.self inv.kept c.write_run.ensures.kept;
     }
-
-pub loop-i-preserved : goal.loop-i-preserved
-loop-i-preserved g c = record {
-  bytes = λ a. c.set.ensures.bytes a
-      ∙ ap (λ x. cond (nat_eq a (65536 * c.args.slot + c.args.offset + c.loop-i.i)) (get_or c.args.part.now c.loop-i.i 0) x) (c.loop-i.invariant.bytes a)
-      ∙ with_bytes_more (g.B.FileBytes.bytes c.args.bytes.now) (65536 * c.args.slot + c.args.offset) c.args.part.now c.loop-i.i a (omega arith);
-  ready = g.met.B.FileBytes.header_on c.loop-i.bytes c.set.new.self c.args.slot c.set.ensures.kept c.loop-i.invariant.ready;
-  content = λ more. g.met.B.FileBytes.ready_on c.loop-i.bytes c.set.new.self c.args.slot c.set.ensures.kept (c.loop-i.invariant.content more);
-  kept = g.met.B.FileBytes.keeps_on c.args.bytes.now c.loop-i.bytes c.set.new.self c.loop-i.invariant.kept c.set.ensures.kept;
-}
 
 pub returns : goal.returns
 returns g c =
-    let w : take c.loop-i.i c.args.part.now ≡ c.args.part.now = take_all c.loop-i.i c.args.part.now (omega arith) in
+    let w : take c.loop-done.done c.args.part.now ≡ c.args.part.now = take_all c.loop-done.done c.args.part.now (omega arith) in
     record {
-      bytes = λ t a. (c.loop-i.invariant.bytes a ∙ ap (λ xs. with_bytes (g.B.FileBytes.bytes c.args.bytes.now) (65536 * c.args.slot + c.args.offset) xs a) w) t;
-      ready = c.loop-i.invariant.ready;
-      kept = c.loop-i.invariant.kept;
+      bytes = λ t a. (c.loop-done.invariant.bytes a ∙ ap (λ xs. with_bytes (g.B.FileBytes.bytes c.args.bytes.now) (65536 * c.args.slot + c.args.offset) xs a) w) t;
+      ready = c.loop-done.invariant.ready;
+      kept = c.loop-done.invariant.kept;
     }
