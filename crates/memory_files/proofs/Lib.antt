@@ -1,4 +1,5 @@
 pub mod Writes
+pub mod PageRuns
 pub mod Owned
 pub mod Results
 pub mod Refusals

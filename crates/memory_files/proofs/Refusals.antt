@@ -1,5 +1,5 @@
 -- What a call that changes a file leaves, from the slot that it was told or why it is refused.
-use Rattle.std.specs.Prelude.{◌≡◌, ℕ, ◌+◌, ◌<◌, ◌≤◌, ◌&&◌, ◌==◌, not, nat_le, nat_lt, Bool, true, false, List, length, take, drop, if◌then◌else◌, Option, Result, Ok, Err, IfOk}
+use Rattle.std.specs.Prelude.{◌≡◌, ℕ, ◌&&◌, ◌==◌, not, nat_le, nat_lt, Bool, true, false, List, length, take, drop, if◌then◌else◌, Option, Result, Ok, Err, IfOk}
 use Rattle.std.specs.List.{list_any}
 use Rattle.std.proofs.Common.{refl, sym, ◌∙◌, ap, subst}
 use Rattle.memory_model.specs.Memory.{Memory, bytes_from}

@@ -3,6 +3,7 @@ ghost use Rattle.space_model.specs.Files.{file_bytes};
 ghost use Rattle.memory_files.specs.Files.{held_in, is_taken, has_taken_header, KeepsFiles};
 
 use crate::lent::Lent;
+use crate::runs::read_run;
 use crate::slots::{FIRST_ADDRESS, Slots};
 use file_image::FileBytes;
 use space_mem::Mem;
@@ -45,6 +46,20 @@ impl FileBytes for Files<'_> {
         match self {
             Files::Lent(_) => {}
             Files::Taken(slots) => slots.set(offset, value),
+        }
+    }
+
+    fn read_run(&self, offset: u32, out: &mut [u8]) {
+        match self {
+            Files::Lent(lent) => read_run(lent.memory, offset, out),
+            Files::Taken(slots) => slots.read_run(offset, out),
+        }
+    }
+
+    fn write_run(&mut self, offset: u32, run: &[u8]) {
+        match self {
+            Files::Lent(_) => {}
+            Files::Taken(slots) => slots.write_run(offset, run),
         }
     }
 

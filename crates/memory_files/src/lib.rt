@@ -10,6 +10,7 @@ mod naming;
 mod owning;
 mod reading;
 mod reconciling;
+mod runs;
 mod slots;
 
 pub use basing::mark_base;

@@ -1,11 +1,12 @@
-ghost use Rattle.std.specs.Prelude.{◌≡◌, ℕ, ◌+◌, ◌/◌, ◌%◌, ◌<◌, ◌≤◌, true};
+ghost use Rattle.std.specs.Prelude.{◌≡◌, ℕ, ◌+◌, ◌/◌, ◌%◌, ◌<◌, ◌≤◌, true, length};
+ghost use Rattle.file_model.specs.Slots.{with_bytes};
 ghost use Rattle.file_model.specs.Sizes.{first_address, slot_size, slot_count, all_slots_size, content_offset};
 ghost use Rattle.space_model.specs.Files.{file_bytes};
-ghost use Rattle.memory_model.specs.Memory.{with_byte};
 ghost use Rattle.memory_model.specs.Sizes.{page_size};
-ghost use Rattle.space_mem.specs.Held.{Marks, Owns, with_written};
+ghost use Rattle.space_mem.specs.Held.{with_written};
 ghost use Rattle.memory_files.specs.Slots.{OwnsSlots, HasBytes, KeepsRest, has_slot};
 
+use crate::runs::{read_run, write_byte, write_run};
 use file_image::FileBytes;
 use space_mem::Mem;
 use std::mem;
@@ -74,23 +75,23 @@ impl Slots {
         ensures headers { self.new.headers ≡ self.old.headers }
         ensures kept { KeepsRest self.old.memory self.new.memory }
     {
-        write_owned(&mut self.memory, FIRST_ADDRESS + offset, value);
+        write_byte(&mut self.memory, FIRST_ADDRESS + offset, value);
     }
-}
 
-// Writes a byte of a page that is owned.
-fn write_owned(memory: &mut Mem, at: u32, value: u8)
-    requires { Owns memory.old (at / page_size) }
-    ensures written { memory.new ≡ with_written memory.old at value }
-    ensures in_place { memory.new ≡ record memory.old { memory = with_byte memory.old.memory at value } }
-    ensures small { HasBytes memory.new.memory }
-    ensures marks { Marks memory.old memory.new }
-{
-    match memory.write(at, value) {
-        Ok(()) => {}
-        Err(_) => {}
+    // Writes bytes of one page of a slot that is ready, or of a header that may be written.
+    fn write_all(&mut self, offset: u32, run: &[u8])
+        requires within { offset < all_slots_size }
+        requires some { 0 < length run.now }
+        requires page { offset % page_size + length run.now ≤ page_size }
+        requires header { has_slot self.old.headers (offset / slot_size) ≡ true }
+        requires content { content_offset ≤ offset % slot_size → has_slot self.old.ready (offset / slot_size) ≡ true }
+        ensures bytes { (a : ℕ) → file_bytes self.new.memory.memory a ≡ with_bytes (file_bytes self.old.memory.memory) offset run.now a }
+        ensures ready { self.new.ready ≡ self.old.ready }
+        ensures headers { self.new.headers ≡ self.old.headers }
+        ensures kept { KeepsRest self.old.memory self.new.memory }
+    {
+        write_run(&mut self.memory, FIRST_ADDRESS + offset, run);
     }
-    memory.bounds();
 }
 
 impl FileBytes for Slots {
@@ -112,6 +113,14 @@ impl FileBytes for Slots {
 
     fn set(&mut self, offset: u32, value: u8) {
         self.write(offset, value);
+    }
+
+    fn read_run(&self, offset: u32, out: &mut [u8]) {
+        read_run(&self.memory, offset, out);
+    }
+
+    fn write_run(&mut self, offset: u32, run: &[u8]) {
+        self.write_all(offset, run);
     }
 
     fn ready(&self, slot: u32) -> bool {

@@ -1,4 +1,4 @@
-use Rattle.std.proofs.Common.{◌∙◌, ap, sym}
+use Rattle.std.proofs.Common.{◌∙◌, sym}
 use Rattle.memory_model.specs.Memory.{Memory, bytes_from}
 use Rattle.file_model.specs.Operations as operations
 use Rattle.space_model.specs.Files.{files_in}

@@ -1,4 +1,3 @@
-use Rattle.memory_model.specs.Memory.{Memory}
 use Rattle.file_model.specs.Operations as operations
 use Rattle.space_model.specs.Files.{files_in}
 use Rattle.memory_files.proofs.Refusals.{refused_change}

@@ -1,5 +1,5 @@
 use Rattle.std.proofs.Common.{◌∙◌, ap, length, refl, sym}
-use Rattle.memory_model.specs.Memory.{Memory, bytes_from}
+use Rattle.memory_model.specs.Memory.{bytes_from}
 use Rattle.memory_model.proofs.Runs.{length-bytes_from}
 use Rattle.file_model.specs.Operations as operations
 use Rattle.space_mem.specs.Held.{Held}

@@ -1,4 +1,4 @@
-use Rattle.std.proofs.Common.{◌≡◌, ◌∙◌, length, take, min, sym, arith, length-take}
+use Rattle.std.proofs.Common.{◌≡◌, ◌∙◌, length, take, sym, arith, length-take}
 use Rattle.std.proofs.lemmas.List.{get_or-take}
 use Rattle.space_mem.proofs.Strings.{bytes_from_is}
 use Rattle.memory_files.proofs.naming.name_at.Goals as goal

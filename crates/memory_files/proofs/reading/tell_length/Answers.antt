@@ -1,6 +1,5 @@
 use Rattle.std.proofs.Common.{◌∙◌, ap, sym}
 use Rattle.memory_model.specs.Memory.{Memory, bytes_from}
-use Rattle.file_model.specs.Operations as operations
 use Rattle.space_model.specs.Files.{files_in, length_result}
 use Rattle.memory_files.proofs.Refusals.{no_length, no_name}
 use Rattle.memory_files.proofs.reading.tell_length.Goals as goal

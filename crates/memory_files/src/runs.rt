@@ -1,0 +1,80 @@
+ghost use Rattle.std.specs.Prelude.{◌≡◌, ℕ, ◌+◌, ◌/◌, ◌%◌, ◌<◌, ◌≤◌, length};
+ghost use Rattle.file_model.specs.Sizes.{all_slots_size};
+ghost use Rattle.file_model.specs.Slots as slots;
+ghost use Rattle.memory_model.specs.Memory.{byte_at, bytes_from, with_byte, with_bytes};
+ghost use Rattle.memory_model.specs.Sizes.{page_size};
+ghost use Rattle.space_mem.specs.Held.{HasNoneOf, KeepsMarks, Marks, Owns, with_written};
+ghost use Rattle.space_model.specs.Files.{file_bytes};
+ghost use Rattle.memory_files.specs.Slots.{HasBytes};
+
+use crate::slots::FIRST_ADDRESS;
+use memory_model::PAGE_SIZE;
+use space_mem::Mem;
+
+// Copies the bytes at the addresses from one on. They stand in one page.
+fn copy_run(memory: &Mem, at: u32, out: &mut [u8])
+    requires { at % page_size + length out.old ≤ page_size }
+    ensures { out.new ≡ bytes_from memory.now.memory at (length out.old) }
+{
+    let place = (at % PAGE_SIZE) as usize;
+    match memory.page(at / PAGE_SIZE) {
+        Some(page) => out.copy_from_slice(&page.bytes()[place..place + out.len()]),
+        None => out.fill(0),
+    }
+}
+
+// Copies the bytes of the slots of files from an offset on. They stand in one page.
+pub(crate) fn read_run(memory: &Mem, offset: u32, out: &mut [u8])
+    requires within { offset < all_slots_size }
+    requires page { offset % page_size + length out.old ≤ page_size }
+    ensures { out.new ≡ slots.bytes_from (file_bytes memory.now.memory) offset (length out.old) }
+{
+    copy_run(memory, FIRST_ADDRESS + offset, out);
+}
+
+// Writes a byte of a page that is owned.
+pub(crate) fn write_byte(memory: &mut Mem, at: u32, value: u8)
+    requires { Owns memory.old (at / page_size) }
+    ensures written { memory.new ≡ with_written memory.old at value }
+    ensures in_place { memory.new ≡ record memory.old { memory = with_byte memory.old.memory at value } }
+    ensures small { HasBytes memory.new.memory }
+    ensures marks { Marks memory.old memory.new }
+{
+    match memory.write(at, value) {
+        Ok(()) => {}
+        Err(_) => {}
+    }
+    memory.bounds();
+}
+
+// Writes the bytes at the addresses from one on. They stand in one page, which is owned.
+fn write_in_page(memory: &mut Mem, at: u32, run: &[u8])
+    requires owned { Owns memory.old (at / page_size) }
+    requires page { at % page_size + length run.now ≤ page_size }
+    ensures memory { memory.new.memory ≡ with_bytes memory.old.memory at run.now }
+    ensures owned { Owns memory.new (at / page_size) }
+    ensures beside { (page : ℕ) → HasNoneOf at (length run.now) page → KeepsMarks memory.old memory.new page }
+    ensures marks { Marks memory.old memory.new }
+{
+    match memory.write_bytes(at, run) {
+        Ok(()) => {}
+        Err(_) => {}
+    }
+}
+
+// Writes the bytes at the addresses from one on, one or more. They stand in one page, which is owned. That the page is dirty before, and stays so,
+// is told by what writes a byte: the first is written by itself before the others and again behind them.
+pub(crate) fn write_run(memory: &mut Mem, at: u32, run: &[u8])
+    requires owned { Owns memory.old (at / page_size) }
+    requires some { 0 < length run.now }
+    requires page { at % page_size + length run.now ≤ page_size }
+    ensures bytes { (a : ℕ) → byte_at memory.new.memory a ≡ byte_at (with_bytes memory.old.memory at run.now) a }
+    ensures permissions { memory.new.memory.permissions ≡ memory.old.memory.permissions }
+    ensures kept { (page : ℕ) → KeepsMarks memory.old memory.new page }
+    ensures small { HasBytes memory.new.memory }
+    ensures marks { Marks memory.old memory.new }
+{
+    write_byte(memory, at, run[0]);
+    write_in_page(memory, at, run);
+    write_byte(memory, at, run[0]);
+}
