@@ -1,35 +1,34 @@
 -- Reading bytes one after the other.
-use Rattle.std.proofs.Common.{◌≡◌, ℕ, suc, ◌+◌, ◌-◌, ◌<◌, ◌≤◌, Bool, true, false, List, [], ◌∷◌, length, get_or, drop, refl, ap, sym, ◌∙◌, arith, drop-cons}
-use Rattle.std.proofs.lemmas.List.{drop_all}
-use Rattle.std.specs.Prelude.{◌==◌, ◌&&◌, ◌||◌, nat_eq}
+use Rattle.std.proofs.Common.{◌≡◌, ℕ, suc, ◌+◌, ◌<◌, ◌≤◌, Bool, true, false, not, List, [], ◌∷◌, length, get_or, take, drop, refl, ap, sym, ◌∙◌, arith, drop-cons}
+use Rattle.std.proofs.lemmas.Bool.Decides.{nat_tests}
+use Rattle.std.proofs.lemmas.List.{drop_all, length-take-le}
+use Rattle.std.specs.Prelude.{◌==◌, ◌&&◌, ◌||◌, nat_eq, nat_le, nat_lt, replicate}
 use Rattle.std.specs.List.{list_any}
 use Rattle.std.specs.Str.{bytes_eq}
 use Rattle.file_model.specs.Slots.{bytes_from, name_at, number_at, name_length_offset}
-use Rattle.file_model.proofs.Bytes.{length-bytes_from, bytes_next}
+use Rattle.file_model.specs.File.{is_name}
+use Rattle.file_model.proofs.Bytes.{length-bytes_from}
 
 pub name_length : (b : ℕ → ℕ) (at : ℕ) → length (name_at b at) ≡ number_at b (at + name_length_offset)
 name_length b at = length-bytes_from b (at + 28) (number_at b (at + name_length_offset))
 
--- whether a byte is 0 among those from the i-th on
-pub zero_next : (b : ℕ → ℕ) (at i n : ℕ) → i < n → list_any (λ x. x == 0) (bytes_from b (at + i) (n - i)) ≡ ((b (at + i) == 0) || list_any (λ x. x == 0) (bytes_from b (at + (i + 1)) (n - (i + 1))))
-zero_next b at i n h = ap (list_any (λ x. x == 0)) (bytes_next b at i n h)
+-- a name that is read into an array
+pub name_read : (b : ℕ → ℕ) (at n : ℕ) (name : List ℕ) → n ≡ number_at b (at + name_length_offset) → n ≤ 32 → name ≡ bytes_from b (at + 28) (length (take n (replicate {A = ℕ} 32 0))) → name ≡ name_at b at
+name_read b at n name e short is = is ∙ ap (bytes_from b (at + 28)) (length-take-le n (replicate {A = ℕ} 32 0) (omega (arith, short)) ∙ e)
 
-pub zero_end : (b : ℕ → ℕ) (at i n : ℕ) → n ≤ i → list_any (λ x. x == 0) (bytes_from b (at + i) (n - i)) ≡ false
-unfolding bytes_from
-zero_end b at i n h = let e : n - i ≡ 0 = omega arith in ap (λ k. list_any (λ x. x == 0) (bytes_from b (at + i) k)) e
+too_long : (n : ℕ) → 32 < n → nat_le n 32 ≡ false
+too_long n h = grind (arith, nat_tests)
 
--- whether bytes are the same from the i-th on
-pub same_next : (b : ℕ → ℕ) (at i : ℕ) (part : List ℕ) → i < length part → bytes_eq (bytes_from b (at + i) (length part - i)) (drop i part) ≡ (nat_eq (b (at + i)) (get_or part i 0) && bytes_eq (bytes_from b (at + (i + 1)) (length part - (i + 1))) (drop (i + 1) part))
-same_next b at i part h =
-    let e : i + 1 ≡ suc i = omega arith in
-    let d : drop i part ≡ get_or part i 0 ∷ drop (i + 1) part = drop-cons part i 0 h ∙ ap (λ k. get_or part i 0 ∷ drop k part) (sym e) in
-    ap (λ xs. bytes_eq xs (drop i part)) (bytes_next b at i (length part) h) ∙ ap (bytes_eq (b (at + i) ∷ bytes_from b (at + (i + 1)) (length part - (i + 1)))) d
+and_none : (t u : Bool) → (t && false && u) ≡ false
+and_none true u = refl
+and_none false u = refl
 
-pub same_end : (b : ℕ → ℕ) (at i : ℕ) (part : List ℕ) → length part ≤ i → bytes_eq (bytes_from b (at + i) (length part - i)) (drop i part) ≡ true
-unfolding bytes_from
-same_end b at i part h =
-    let e : length part - i ≡ 0 = omega arith in
-    ap (λ k. bytes_eq (bytes_from b (at + i) k) (drop i part)) e ∙ ap (bytes_eq []) (drop_all i part h)
+-- more than 32 bytes are none
+pub long_name : (b : ℕ → ℕ) (at n : ℕ) → n ≡ number_at b (at + name_length_offset) → 32 < n → false ≡ is_name (name_at b at)
+long_name b at n e long =
+    let name = name_at b at in
+    let l : nat_le (length name) 32 ≡ false = too_long (length name) (omega (arith, e, long, name_length b at)) in
+    sym (ap (λ t. nat_lt 0 (length name) && t && not (list_any (λ x. x == 0) name)) l ∙ and_none (nat_lt 0 (length name)) (not (list_any (λ x. x == 0) name)))
 
 and_false : (t : Bool) → (t && false) ≡ false
 and_false true = refl

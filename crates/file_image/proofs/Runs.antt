@@ -1,8 +1,9 @@
 -- Bytes that are read or written one run after the other.
-use Rattle.std.proofs.Common.{◌≡◌, ℕ, ◌+◌, ◌-◌, ◌≤◌, List, [], ◌++◌, length, take, drop, refl, ap, sym, ◌∙◌, arith}
+use Rattle.std.proofs.Common.{◌≡◌, ℕ, ◌+◌, ◌-◌, ◌≤◌, List, [], ◌∷◌, ◌++◌, length, take, drop, refl, ap, sym, ◌∙◌, arith}
 use Rattle.std.proofs.lemmas.List.{length-take-le, take-append-drop}
 use Rattle.std.proofs.Math.Seq.{take-add}
-use Rattle.file_model.specs.Slots.{bytes_from, with_bytes}
+use Rattle.std.specs.Int.{w32, from_le_bytes}
+use Rattle.file_model.specs.Slots.{bytes_from, number_at, with_bytes}
 use Rattle.file_model.proofs.Bytes.{with_bytes_twice, take-bytes_from, drop-bytes_from}
 
 -- one run more of a part
@@ -32,3 +33,11 @@ row_next b at done count =
 -- a run of a row
 pub run_of_row : (b : ℕ → ℕ) (at n done count : ℕ) → done + count ≤ n → bytes_from b (at + done) count ≡ take count (drop done (bytes_from b at n))
 run_of_row b at n done count within = sym (ap (take count) (drop-bytes_from b at n done) ∙ take-bytes_from b (at + done) (n - done) count (omega arith))
+
+-- the number of four bytes in a row
+pub number_of_row : (b : ℕ → ℕ) (at : ℕ) → from_le_bytes w32 (bytes_from b at 4) ≡ number_at b at
+unfolding bytes_from
+number_of_row b at =
+    let two : at + 1 + 1 ≡ at + 2 = omega arith in
+    let three : at + 1 + 1 + 1 ≡ at + 3 = omega arith in
+    λ i. from_le_bytes w32 (b at ∷ b (at + 1) ∷ b (two i) ∷ b (three i) ∷ [])

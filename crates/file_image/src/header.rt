@@ -6,6 +6,7 @@ ghost use Rattle.file_model.specs.File.{is_name};
 ghost use Rattle.file_model.specs.Slots.{number_at, bytes_from, name_at, is_in_use, name_length_offset};
 
 use crate::file_bytes::FileBytes;
+use crate::reading::{is_name, read_bytes};
 
 // The mark that a slot in use begins with, `DTF1`, as a number.
 pub(crate) const MARK: u32 = 0x3146_5444;
@@ -40,36 +41,24 @@ pub(crate) fn number<B: FileBytes>(bytes: &B, at: u32) -> u32
     requires { at + 4 ≤ all_slots_size }
     ensures { result ≡ number_at (B.bytes bytes.now) at }
 {
-    u32::from_le_bytes([
-        bytes.byte(at),
-        bytes.byte(at + 1),
-        bytes.byte(at + 2),
-        bytes.byte(at + 3),
-    ])
-}
-
-// Whether none of n bytes is 0.
-#[tactic(auto, using(crate::proofs::ByteRows::zero_next, crate::proofs::ByteRows::zero_end))]
-fn has_no_zero<B: FileBytes>(bytes: &B, at: u32, n: u32) -> bool
-    requires { at + n ≤ all_slots_size }
-    ensures { result ≡ not (list_any (λ b. b == 0) (bytes_from (B.bytes bytes.now) at n)) }
-{
-    for i in 0..n {
-        if bytes.byte(at + i) == 0 {
-            return false;
-        }
-    }
-    true
+    let mut row = [0; 4];
+    read_bytes(bytes, at, &mut row);
+    u32::from_le_bytes(row)
 }
 
 // Whether the name of the slot that begins here is one.
-#[tactic(auto, using(crate::proofs::ByteRows::name_length))]
 fn is_named<B: FileBytes>(bytes: &B, at: u32) -> bool
     requires { at + slot_size ≤ all_slots_size }
     ensures { result ≡ is_name (name_at (B.bytes bytes.now) at) }
 {
     let n = number(bytes, at + 24);
-    n > 0 && n <= GREATEST_NAME && has_no_zero(bytes, at + 28, n)
+    if n > GREATEST_NAME {
+        return false;
+    }
+    let mut row = [0; GREATEST_NAME as usize];
+    let name = &mut row[..n as usize];
+    read_bytes(bytes, at + 28, name);
+    is_name(name)
 }
 
 // Whether the slot that begins here is in use.
@@ -95,19 +84,8 @@ pub(crate) fn has_name<B: FileBytes>(bytes: &B, at: u32, name: &[u8]) -> bool
     if n as usize != name.len() {
         return false;
     }
-    has_bytes(bytes, at + 28, name)
-}
-
-// Whether these bytes stand at an offset.
-#[tactic(auto, using(crate::proofs::ByteRows::same_next, crate::proofs::ByteRows::same_end))]
-fn has_bytes<B: FileBytes>(bytes: &B, at: u32, part: &[u8]) -> bool
-    requires { at + length part.now ≤ all_slots_size }
-    ensures { result ≡ bytes_eq (bytes_from (B.bytes bytes.now) at (length part.now)) part.now }
-{
-    for (i, b) in part.iter().enumerate() {
-        if bytes.byte(at + i as u32) != *b {
-            return false;
-        }
-    }
-    true
+    let mut row = [0; GREATEST_NAME as usize];
+    let own = &mut row[..n as usize];
+    read_bytes(bytes, at + 28, own);
+    *own == *name
 }
