@@ -5,14 +5,9 @@ use Rattle.std.specs.Int.{w32, to_le_bytes}
 use Rattle.std.proofs.lemmas.List.{drop-replicate, length-take-le}
 use Rattle.file_model.specs.File.{File}
 use Rattle.file_model.specs.Slots.{with_bytes, header_bytes, with_padding, bytes_from}
-use Rattle.file_model.proofs.Bytes.{with_bytes_twice, length-bytes_from}
+use Rattle.file_model.proofs.Bytes.{length-bytes_from}
 use Rattle.file_image.specs.declared.writing.Header.{Header}
 use Rattle.file_image.specs.Writes.{Describes, first_half, second_half}
-
--- a part right behind another
-pub written_next : (b c d : ℕ → ℕ) (at n : ℕ) (xs ys : List ℕ) → length xs ≡ n → c ≡ with_bytes b at xs → d ≡ with_bytes c (at + n) ys → d ≡ with_bytes b at (xs ++ ys)
-written_next b c d at n xs ys e f g =
-    g ∙ ap (λ (c : ℕ → ℕ). with_bytes c (at + n) ys) f ∙ ap (λ m. with_bytes (with_bytes b at xs) (at + m) ys) (sym e) ∙ with_bytes_twice b at xs ys
 
 -- a part that begins further on
 pub written_at : (b c : ℕ → ℕ) (at to : ℕ) (xs : List ℕ) → at ≡ to → c ≡ with_bytes b at xs → c ≡ with_bytes b to xs

@@ -1,5 +1,4 @@
-ghost use Rattle.std.specs.Prelude.{◌≡◌, ◌<◌, ◌≤◌, ◌+◌, true, cond, length};
-ghost use Rattle.std.specs.Int.{w32, to_le_bytes};
+ghost use Rattle.std.specs.Prelude.{◌≡◌, ◌<◌, ◌≤◌, ◌+◌, ◌++◌, true, cond, length};
 ghost use Rattle.file_model.specs.Sizes.{slot_count, slot_size, content_offset};
 ghost use Rattle.file_model.specs.File.{File};
 ghost use Rattle.file_model.specs.Slots.{slot_start, with_bytes, header_bytes, with_padding};
@@ -45,18 +44,6 @@ pub(crate) fn write_bytes<B: FileBytes>(bytes: &mut B, slot: u32, offset: u32, p
     }
 }
 
-// Writes a number of four bytes at an offset of a slot, the least first.
-fn write_number<B: FileBytes>(bytes: &mut B, slot: u32, offset: u32, value: u32)
-    requires slot { slot < slot_count }
-    requires within { offset + 4 ≤ content_offset }
-    requires ready { B.has_header bytes.old slot ≡ true }
-    ensures bytes { B.bytes bytes.new ≡ with_bytes (B.bytes bytes.old) (slot_start slot + offset) (to_le_bytes w32 value) }
-    ensures ready { B.has_header bytes.new slot ≡ true }
-    ensures kept { B.keeps bytes.old bytes.new }
-{
-    write_bytes(bytes, slot, offset, &value.to_le_bytes());
-}
-
 // The flags of a header: 1 append, 2 conflicted, 4 deleted.
 fn flags(header: &Header) -> u32
     ensures { result ≡ cond header.now.append 1 0 + cond header.now.conflicted 2 0 + cond header.now.deleted 4 0 }
@@ -64,32 +51,20 @@ fn flags(header: &Header) -> u32
     u32::from(header.append) + 2 * u32::from(header.conflicted) + 4 * u32::from(header.deleted)
 }
 
-// Writes the mark and the first three numbers of a header.
-fn write_versions<B: FileBytes>(bytes: &mut B, slot: u32, header: &Header)
-    requires slot { slot < slot_count }
-    requires ready { B.has_header bytes.old slot ≡ true }
-    ensures bytes { B.bytes bytes.new ≡ with_bytes (B.bytes bytes.old) (slot_start slot) (first_half header.now) }
-    ensures ready { B.has_header bytes.new slot ≡ true }
-    ensures kept { B.keeps bytes.old bytes.new }
+// The bytes of a header.
+fn header_row(header: &Header) -> [u8; 60]
+    ensures { result ≡ first_half header.now ++ second_half header.now }
 {
-    write_bytes(bytes, slot, 0, b"DTF1");
-    write_number(bytes, slot, 4, header.version);
-    write_number(bytes, slot, 8, header.base);
-    write_number(bytes, slot, 12, header.length);
-}
-
-// Writes the other numbers of a header, and its name.
-fn write_name<B: FileBytes>(bytes: &mut B, slot: u32, header: &Header)
-    requires slot { slot < slot_count }
-    requires ready { B.has_header bytes.old slot ≡ true }
-    ensures bytes { B.bytes bytes.new ≡ with_bytes (B.bytes bytes.old) (slot_start slot + 16) (second_half header.now) }
-    ensures ready { B.has_header bytes.new slot ≡ true }
-    ensures kept { B.keeps bytes.old bytes.new }
-{
-    write_number(bytes, slot, 16, header.length_at_base);
-    write_number(bytes, slot, 20, flags(header));
-    write_number(bytes, slot, 24, header.name_length);
-    write_bytes(bytes, slot, 28, &header.name);
+    let mut row = [0; 60];
+    row[..4].copy_from_slice(b"DTF1");
+    row[4..8].copy_from_slice(&header.version.to_le_bytes());
+    row[8..12].copy_from_slice(&header.base.to_le_bytes());
+    row[12..16].copy_from_slice(&header.length.to_le_bytes());
+    row[16..20].copy_from_slice(&header.length_at_base.to_le_bytes());
+    row[20..24].copy_from_slice(&flags(header).to_le_bytes());
+    row[24..28].copy_from_slice(&header.name_length.to_le_bytes());
+    row[28..].copy_from_slice(&header.name);
+    row
 }
 
 // Writes a header.
@@ -100,8 +75,7 @@ pub(crate) fn write_header<B: FileBytes>(bytes: &mut B, slot: u32, header: &Head
     ensures ready { B.has_header bytes.new slot ≡ true }
     ensures kept { B.keeps bytes.old bytes.new }
 {
-    write_versions(bytes, slot, header);
-    write_name(bytes, slot, header);
+    write_bytes(bytes, slot, 0, &header_row(header));
 }
 
 // The name of a slot in use, padded with 0.
