@@ -7,7 +7,7 @@ use std::process::Abort;
 use std::test::*;
 
 // The report of a tree, which has to be settled.
-pub(crate) fn report_of(
+fn report_of(
     rt: &impl Abort,
     alloc: Global,
     tree: &Space,
