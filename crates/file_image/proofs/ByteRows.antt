@@ -19,9 +19,20 @@ name_read b at n name e short is = is ∙ ap (bytes_from b (at + 28)) (length-ta
 too_long : (n : ℕ) → 32 < n → nat_le n 32 ≡ false
 too_long n h = grind (arith, nat_tests)
 
+is_short : (n : ℕ) → n ≤ 32 → nat_le n 32 ≡ true
+is_short n h = grind (arith, nat_tests)
+
 and_none : (t u : Bool) → (t && false && u) ≡ false
 and_none true u = refl
 and_none false u = refl
+
+-- a name of more than 32 bytes is not short
+pub long_test : (b : ℕ → ℕ) (at n : ℕ) (t : Bool) → n ≡ number_at b (at + name_length_offset) → 32 < n → false ≡ (nat_le (number_at b (at + name_length_offset)) 32 && t)
+long_test b at n t e long = sym (ap (λ u. u && t) (too_long (number_at b (at + name_length_offset)) (omega (arith, e, long))))
+
+-- one that is read is told by its bytes
+pub short_test : (b : ℕ → ℕ) (at n : ℕ) (t : Bool) → n ≡ number_at b (at + name_length_offset) → n ≤ 32 → t ≡ (nat_le (number_at b (at + name_length_offset)) 32 && t)
+short_test b at n t e short = let l : nat_le (number_at b (at + name_length_offset)) 32 ≡ true = is_short (number_at b (at + name_length_offset)) (omega (arith, e, short)) in sym (ap (λ u. u && t) l)
 
 -- more than 32 bytes are none
 pub long_name : (b : ℕ → ℕ) (at n : ℕ) → n ≡ number_at b (at + name_length_offset) → 32 < n → false ≡ is_name (name_at b at)
@@ -43,6 +54,11 @@ other_length (x ∷ xs) (y ∷ ys) h = ap (λ t. nat_eq x y && t) (other_length 
 -- a name of another length is another
 pub other_name : (b : ℕ → ℕ) (at : ℕ) (name : List ℕ) → (number_at b (at + name_length_offset) ≡ length name → ⊥) → bytes_eq (name_at b at) name ≡ false
 other_name b at name h = other_length (name_at b at) name (λ e. h (sym (name_length b at) ∙ e))
+
+pub other_test : (b : ℕ → ℕ) (at n : ℕ) (name : List ℕ) → n ≡ number_at b (at + name_length_offset) → (n ≡ length name → ⊥) → false ≡ (nat_le (number_at b (at + name_length_offset)) 32 && bytes_eq (name_at b at) name)
+other_test b at n name e h =
+    let s = nat_le (number_at b (at + name_length_offset)) 32 in
+    sym (ap (λ t. s && t) (other_name b at name (λ l. h (e ∙ l))) ∙ and_false s)
 
 -- whether a byte of a list is 0 from the i-th on
 pub any_next : (xs : List ℕ) (i : ℕ) → i < length xs → list_any (λ x. x == 0) (drop i xs) ≡ ((get_or xs i 0 == 0) || list_any (λ x. x == 0) (drop (i + 1) xs))

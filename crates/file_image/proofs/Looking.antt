@@ -1,11 +1,14 @@
 -- Looking for a name in slots one after the other.
 use Rattle.std.proofs.Common.{◌≡◌, ℕ, ◌+◌, ◌-◌, ◌<◌, ◌≤◌, Bool, true, false, cond, not, List, ◌∷◌, refl, ap, sym, ◌∙◌, arith, Option, Some, None}
-use Rattle.std.specs.Prelude.{option_map}
+use Rattle.std.specs.Prelude.{option_map, ◌&&◌, nat_le}
+use Rattle.std.proofs.lemmas.Bool.{false≢true}
+use Rattle.std.proofs.lemmas.Bool.Decides.{nat_tests}
 use Rattle.std.specs.Str.{bytes_eq}
 use Rattle.file_model.specs.File.{File}
-use Rattle.file_model.specs.Slots.{slot_at, slots_from, is_in_use, slot_start}
+use Rattle.file_model.specs.Slots.{slot_at, slots_from, file_at, is_in_use, name_at, number_at, name_length_offset, slot_start}
 use Rattle.file_model.specs.Operations.{Entry, entry_from, free_from}
-use Rattle.file_model.proofs.Lookups.{slots_next}
+use Rattle.file_model.proofs.Lookups.{slots_next, short_name}
+use Rattle.file_model.proofs.OtherSlots.{named_in_use}
 use Rattle.file_image.specs.Lookup.{file_in, holds, entry_in, optional_entry}
 
 pub entry_other : (k : ℕ) (s : Option File) (slots : List (Option File)) (name : List ℕ) → holds name s ≡ false → entry_from k (s ∷ slots) name ≡ entry_from (k + 1) slots name
@@ -25,6 +28,25 @@ chosen false f name h = cc
 pub in_use_here : (b : ℕ → ℕ) (k : ℕ) (name : List ℕ) → holds name (slot_at b k) ≡ true → slot_at b k ≡ Some (file_in b k)
 unfolding slot_at
 in_use_here b k name h = chosen (is_in_use b (slot_start k)) (file_in b k) name h
+
+choice : (u s t : Bool) (f : File) (name : List ℕ) → (u ≡ true → s ≡ true) → bytes_eq f.name name ≡ t → ((s && t) && u) ≡ holds name (cond u (Some f) None)
+choice true true true f name h e = sym e
+choice true true false f name h e = sym e
+choice true false t f name h e = absurd (false≢true (h refl))
+choice false true true f name h e = refl
+choice false true false f name h e = refl
+choice false false t f name h e = refl
+
+short_test : (n : ℕ) → n ≤ 32 → nat_le n 32 ≡ true
+short_test n h = grind (arith, nat_tests)
+
+-- a slot has a name where the name stands in it, is short, and the slot is in use
+pub held_name : (b : ℕ → ℕ) (k : ℕ) (name : List ℕ)
+    → ((nat_le (number_at b (slot_start k + name_length_offset)) 32 && bytes_eq (name_at b (slot_start k)) name) && is_in_use b (slot_start k)) ≡ holds name (slot_at b k)
+unfolding slot_at file_at
+held_name b k name =
+    choice (is_in_use b (slot_start k)) (nat_le (number_at b (slot_start k + name_length_offset)) 32) (bytes_eq (name_at b (slot_start k)) name) (file_in b k) name
+    (λ u. short_test (number_at b (slot_start k + name_length_offset)) (short_name b (slot_start k) (named_in_use b (slot_start k) u))) refl
 
 pub entry_next : (b : ℕ → ℕ) (k n : ℕ) (name : List ℕ) → k < n → holds name (slot_at b k) ≡ false
     → entry_from k (slots_from b k (n - k)) name ≡ entry_from (k + 1) (slots_from b (k + 1) (n - (k + 1))) name

@@ -1,4 +1,4 @@
-ghost use Rattle.std.specs.Prelude.{◌≡◌, ℕ, ◌+◌, ◌-◌, ◌%◌, ◌<◌, ◌≤◌, ◌==◌, not, length};
+ghost use Rattle.std.specs.Prelude.{◌≡◌, ℕ, ◌+◌, ◌-◌, ◌%◌, ◌<◌, ◌≤◌, ◌==◌, ◌&&◌, nat_le, not, length};
 ghost use Rattle.std.specs.List.{list_any};
 ghost use Rattle.std.specs.Str.{bytes_eq};
 ghost use Rattle.file_model.specs.Sizes.{slot_size, all_slots_size, content_offset, greatest_name, greatest_length};
@@ -73,14 +73,15 @@ pub(crate) fn is_in_use<B: FileBytes>(bytes: &B, at: u32) -> bool
         && is_named(bytes, at)
 }
 
-// Whether the slot that begins here has this name. Its name is short.
-#[tactic(auto, using(crate::proofs::ByteRows::other_name))]
+// Whether the slot that begins here has this name, which is short.
 pub(crate) fn has_name<B: FileBytes>(bytes: &B, at: u32, name: &[u8]) -> bool
-    requires within { at + slot_size ≤ all_slots_size }
-    requires short { number_at (B.bytes bytes.now) (at + name_length_offset) ≤ greatest_name }
-    ensures { result ≡ bytes_eq (name_at (B.bytes bytes.now) at) name.now }
+    requires { at + slot_size ≤ all_slots_size }
+    ensures { result ≡ (nat_le (number_at (B.bytes bytes.now) (at + name_length_offset)) greatest_name && bytes_eq (name_at (B.bytes bytes.now) at) name.now) }
 {
     let n = number(bytes, at + 24);
+    if n > GREATEST_NAME {
+        return false;
+    }
     if n as usize != name.len() {
         return false;
     }

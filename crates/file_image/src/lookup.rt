@@ -9,14 +9,13 @@ use crate::file_bytes::FileBytes;
 use crate::header::{SLOT_SIZE, SLOTS, has_name, is_in_use};
 
 // Whether a slot is in use and has this name.
-#[tactic(auto, using(file_model::proofs::Lookups::short_name, file_model::proofs::Lookups::and_right), unfolding(file_model::specs::Slots::slot_at, file_model::specs::Slots::file_at))]
 fn slot_holds<B: FileBytes>(bytes: &B, slot: u32, name: &[u8]) -> bool
     requires { slot < slot_count }
     ensures holds { result ≡ holds name.now (slot_at (B.bytes bytes.now) slot) }
     ensures used { result ≡ true → is_in_use (B.bytes bytes.now) (slot_start slot) ≡ true }
 {
     let at = SLOT_SIZE * slot;
-    is_in_use(bytes, at) && has_name(bytes, at, name)
+    has_name(bytes, at, name) && is_in_use(bytes, at)
 }
 
 /// The slot of a name's file: the lowest in use that has the name.
