@@ -1,0 +1,1 @@
+printf '\004'; head -c 65535 /dev/zero
