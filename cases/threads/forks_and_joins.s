@@ -38,8 +38,8 @@ kid:    addi a1, zero, 1
         add a0, a0, a3
         lbu t0, 0(s2)
         add a0, a0, t0
-        lui t0, 0xc0400
-        lbu t0, 0(t0)
+        lui t0, 0xc0000
+        lbu t0, 1024(t0)
         add a0, a0, t0
         addi a7, zero, 3
         ecall
@@ -77,9 +77,9 @@ both:   addi t0, zero, 7
         ecall
 thread: addi t0, zero, 7
         sb t0, 0(s2)
-        lui t1, 0xc0400
+        lui t1, 0xc0000
         addi t0, zero, 8
-        sb t0, 0(t1)
+        sb t0, 1024(t1)         ; in the first page that no join brings
         addi a1, zero, 2
         addi a0, zero, 0
         addi a7, zero, 1        ; Put: a child of its own
@@ -89,5 +89,5 @@ thread: addi t0, zero, 7
         ecall
 .segment 0x2000 3
         .zero 4
-.segment 0xc0400000 3
+.segment 0xc0000000 3
         .zero 4

@@ -1,10 +1,10 @@
-//! Tests of local events, one or many, calls on files and devices among them, and of the event at a path of a tree, through what the crates below
+//! Tests of local events, one or many, of the event at a path of a tree, and of spaces at a path and copied ones, through what the crates below
 //! show.
 #![tactic(auto)]
 
 #[cfg(test)]
-mod calls;
-#[cfg(test)]
 mod events;
 #[cfg(test)]
 mod local_events;
+#[cfg(test)]
+mod spaces;

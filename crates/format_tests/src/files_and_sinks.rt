@@ -1,6 +1,5 @@
 ghost use Rattle.std.specs.Prelude.{◌<◌, ◌^◌, Some, None};
 
-use crate::expected::assert_bytes;
 use det_host::{
     FileLoader, FileReader, Gate, GateEvent, LoadError, Loader, MemLoader, MemSink, OpenGate, Sink,
     SinkError, StdSink, SureSink,
@@ -10,6 +9,11 @@ use std::io::{Read, Write};
 use std::process::Abort;
 use std::test::*;
 use std::{fs, io};
+
+// Asserts that bytes are the ones that are wanted.
+fn assert_bytes(rt: &impl Abort, got: &[u8], want: &[u8]) {
+    assert_eq!(rt; got, want);
+}
 
 /// A writer that takes two bytes a call and fails at its third call.
 #[derive(Drop)]

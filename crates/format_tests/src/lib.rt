@@ -1,20 +1,5 @@
-//! Tests of the outside world, of images as files, of scripts and schedules, of the words of a command line and of the assembler. Tests
-//! alone.
+//! Tests of the outside world: files that are read, and sinks that are written to.
 #![tactic(auto)]
 
 #[cfg(test)]
-mod expected;
-#[cfg(test)]
 mod files_and_sinks;
-#[cfg(test)]
-mod generated;
-#[cfg(test)]
-mod images;
-#[cfg(test)]
-mod schedules;
-#[cfg(test)]
-mod scripts;
-#[cfg(test)]
-mod sources;
-#[cfg(test)]
-mod words;

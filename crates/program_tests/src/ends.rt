@@ -81,31 +81,6 @@ fn a_file_that_is_refused_is_the_last(rt: HostRuntime) -> Result<(), Fail> {
     Ok(())
 }
 
-#[test]
-fn a_schedule_that_is_too_large(rt: HostRuntime) -> Result<(), Fail> {
-    let schedule = vec![in rt.alloc(); b'\n'; 1_048_577]?;
-    let end = End::TooLarge { read: 1_048_577 };
-    let line = "det: too large: 1048577 bytes read\n";
-    one_of_files(&rt, [&WRITE_TWO, b"", &schedule], 4, end, line);
-    Ok(())
-}
-
-#[test]
-fn a_source_that_is_refused(rt: HostRuntime) -> Result<(), Fail> {
-    let end = End::BadSource(AsmError {
-        line: 2,
-        kind: AsmErrorKind::Number,
-    });
-    let source = b".segment 0x1000 1\naddi a7, zero, 4096\n";
-    let line = "det: source: line 2: number\n";
-    check_loads(&rt, &plain(ASM, source, end, b"", line), 2);
-    let source = vec![in rt.alloc(); b'\n'; 1_048_577]?;
-    let end = End::TooLarge { read: 1_048_577 };
-    let line = "det: too large: 1048577 bytes read\n";
-    check_loads(&rt, &plain(ASM, &source, end, b"", line), 2);
-    Ok(())
-}
-
 // The end of a call of `det_main` on a source that is refused, and how many bytes its sinks have taken.
 fn main_called<R: AllocGlobal>(rt: &R) -> Result<(End, usize, usize), AllocError> {
     let alloc = rt.alloc();
