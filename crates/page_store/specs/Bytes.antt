@@ -10,7 +10,7 @@ use Rattle.page_store.specs.declared.PageRef.TheVariants.{Shared, Own}
 
 -- the bytes that a reference to a page leads to
 abbrev pub bytes_of : PageRef → List ℕ
-bytes_of (Shared page) = (arc_value page).bytes
+bytes_of (Shared page) = (arc_value page).value.bytes
 bytes_of (Own page) = page.value.bytes
 
 -- whether a page is its holder's own, so that a write to it takes no memory and changes no other

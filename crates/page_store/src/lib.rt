@@ -1,8 +1,9 @@
 //! Pages of 4,096 bytes, and what their permissions allow.
 #![tactic(auto)]
 
-ghost use Rattle.std.specs.Prelude.{◌≡◌, ◌↔◌, ℕ, ◌<◌, ◌+◌, ◌%◌, ◌≤◌, IfOk, IsOk, IsTrue, OnOk, OnErr, length, slice_index, slice_set, true, false};
+ghost use Rattle.std.specs.Prelude.{◌≡◌, ◌↔◌, ℕ, ◌<◌, ◌+◌, ◌%◌, ◌≤◌, IfErr, IfOk, IsOk, IsTrue, length, slice_index, slice_set, true, false};
 ghost use Rattle.page_store.specs.Bytes.{bytes_of, is_own, IsPage, with_number_in, with_bytes_in};
+ghost use Rattle.page_store.specs.declared.PageRef.TheVariants.{Shared, Own};
 ghost use Rattle.memory_model.specs.Memory.{number_from, width_bytes};
 ghost use Rattle.memory_model.specs.Sizes.{page_size};
 
@@ -10,7 +11,7 @@ mod rights;
 
 use memory_model::{PAGE_SIZE, Width};
 pub use rights::{may_execute, may_read, may_write};
-use std::alloc::{AllocError, Global};
+use std::alloc::{AllocError, AllocFailed, Global};
 use std::sync::Arc;
 
 const SIZE: usize = PAGE_SIZE as usize;
@@ -24,8 +25,8 @@ pub struct Page {
 /// A page that is held. Contracts see it by its bytes, `bytes_of`, and by whether it is its holder's own, `is_own`.
 #[derive(Drop)]
 pub enum PageRef {
-    /// A page that others may hold too. No write changes it.
-    Shared(Arc<Page, Global>),
+    /// A page that others may hold too. No write changes it. It keeps the box that it was written in.
+    Shared(Arc<Box<Page, Global>, Global>),
     /// A page of its holder's own.
     Own(Box<Page, Global>),
 }
@@ -54,19 +55,18 @@ impl PageRef {
         }
     }
 
-    /// Makes it a page that can be shared, of the same bytes. A shared one takes no memory. The one error is want of memory: it
-    /// is as it was then.
-    pub fn freeze(&mut self, alloc: Global) -> Result<(), AllocError>
-        ensures same { bytes_of self.new ≡ bytes_of self.old }
-        ensures shared { OnOk result (is_own self.new ≡ false) }
-        ensures err { OnErr result (self.new ≡ self.old) }
-        ensures idle { is_own self.old ≡ false → IsOk result }
+    /// A page that can be shared, of the same bytes: an own page's box moves, and its bytes stay where they are. A shared one takes no
+    /// memory. The one error is want of memory: it gives the page back as it was.
+    pub fn freeze(self, alloc: Global) -> Result<PageRef, AllocFailed<PageRef>>
+        ensures same { IfOk result (λ page. bytes_of page ≡ bytes_of self) }
+        ensures shared { IfOk result (λ page. is_own page ≡ false) }
+        ensures err { IfErr result (λ failed. failed.value ≡ self) }
+        ensures idle { is_own self ≡ false → IsOk result }
     {
-        if let PageRef::Own(page) = self {
-            let shared = Arc::new(alloc, Page { bytes: page.bytes })?;
-            *self = PageRef::Shared(shared);
+        match self {
+            PageRef::Shared(page) => Ok(PageRef::Shared(page)),
+            PageRef::Own(page) => freeze_own(page, alloc),
         }
-        Ok(())
     }
 
     /// A page of the same bytes: of a shared page another holder, of an own page a copy. Its one error is want of memory.
@@ -80,18 +80,18 @@ impl PageRef {
         }
     }
 
-    /// Makes it an own page of the same bytes. An own one takes no memory. The one error is want of memory: it is as it was then.
-    pub fn own(&mut self, alloc: Global) -> Result<(), AllocError>
-        ensures same { bytes_of self.new ≡ bytes_of self.old }
-        ensures owned { OnOk result (is_own self.new ≡ true) }
-        ensures err { OnErr result (self.new ≡ self.old) }
-        ensures idle { is_own self.old ≡ true → IsOk result }
+    /// An own page of the same bytes: a shared page's box is taken back where nobody else holds it, and its bytes are copied where somebody
+    /// does. An own one takes no memory. The one error is want of memory: it gives the page back as it was.
+    pub fn own(self, alloc: Global) -> Result<PageRef, AllocFailed<PageRef>>
+        ensures same { IfOk result (λ page. bytes_of page ≡ bytes_of self) }
+        ensures owned { IfOk result (λ page. is_own page ≡ true) }
+        ensures err { IfErr result (λ failed. failed.value ≡ self) }
+        ensures idle { is_own self ≡ true → IsOk result }
     {
-        if let PageRef::Shared(page) = self {
-            let own = copy_of(page, alloc)?;
-            *self = PageRef::Own(own);
+        match self {
+            PageRef::Shared(page) => own_shared(page, alloc),
+            PageRef::Own(page) => Ok(PageRef::Own(page)),
         }
-        Ok(())
     }
 
     /// The page's bytes.
@@ -106,21 +106,6 @@ impl PageRef {
         }
     }
 
-    /// Makes the byte at `at`, below 4,096, `value`. The page is an own one then, and an own page takes no memory. The one error is want
-    /// of memory: it is as it was then.
-    #[inline(always)]
-    pub fn write_byte(&mut self, alloc: Global, at: u16, value: u8) -> Result<(), AllocError>
-        requires { at < page_size }
-        ensures ok { OnOk result (bytes_of self.new ≡ slice_set (bytes_of self.old) at value) }
-        ensures owned { OnOk result (is_own self.new ≡ true) }
-        ensures err { OnErr result (self.new ≡ self.old) }
-        ensures idle { is_own self.old ≡ true → IsOk result }
-    {
-        self.own(alloc)?;
-        self.write_own_byte(at, value);
-        Ok(())
-    }
-
     /// The number of `width` bytes at `at`, which lies below 4,096 and is a multiple of the width. The least byte comes first.
     #[inline(always)]
     pub fn number(&self, at: u16, width: Width) -> u32
@@ -129,42 +114,6 @@ impl PageRef {
         ensures { result ≡ number_from (λ k. slice_index (bytes_of self.now) k) width at }
     {
         number_in(self.bytes(), at as usize, width)
-    }
-
-    /// Writes the lowest `width` bytes of `value` at `at`, which lies below 4,096 and is a multiple of the width, the least
-    /// first. The page is an own one then, and an own page takes no memory. The one error is want of memory: it is as it was then.
-    #[inline(always)]
-    pub fn write_number(
-        &mut self,
-        alloc: Global,
-        at: u16,
-        width: Width,
-        value: u32,
-    ) -> Result<(), AllocError>
-        requires within { at < page_size }
-        requires aligned { at % width_bytes width ≡ 0 }
-        ensures ok { OnOk result (bytes_of self.new ≡ with_number_in (bytes_of self.old) at width value) }
-        ensures owned { OnOk result (is_own self.new ≡ true) }
-        ensures err { OnErr result (self.new ≡ self.old) }
-        ensures idle { is_own self.old ≡ true → IsOk result }
-    {
-        self.own(alloc)?;
-        self.write_own_number(at, width, value);
-        Ok(())
-    }
-
-    /// Writes `bytes` from `at` on; they end within the page. The page is an own one then, and an own page takes no memory. The
-    /// one error is want of memory: it is as it was then.
-    pub fn write_bytes(&mut self, alloc: Global, at: u16, bytes: &[u8]) -> Result<(), AllocError>
-        requires { at + length bytes.now ≤ page_size }
-        ensures ok { OnOk result (bytes_of self.new ≡ with_bytes_in (bytes_of self.old) at bytes.now) }
-        ensures owned { OnOk result (is_own self.new ≡ true) }
-        ensures err { OnErr result (self.new ≡ self.old) }
-        ensures idle { is_own self.old ≡ true → IsOk result }
-    {
-        self.own(alloc)?;
-        self.write_own_bytes(at, bytes);
-        Ok(())
     }
 
     /// Makes the byte at `at`, below 4,096, of an own page `value`.
@@ -222,6 +171,42 @@ impl PageRef {
         ensures { IsTrue result ↔ (bytes_of self.now ≡ bytes_of other.now) }
     {
         self.bytes() == other.bytes()
+    }
+}
+
+// An own page, as one that can be shared.
+#[inline(never)]
+fn freeze_own(page: Box<Page, Global>, alloc: Global) -> Result<PageRef, AllocFailed<PageRef>>
+    ensures same { IfOk result (λ shared. bytes_of shared ≡ page.value.bytes) }
+    ensures shared { IfOk result (λ shared. is_own shared ≡ false) }
+    ensures err { IfErr result (λ failed. failed.value ≡ Own page) }
+{
+    match Arc::new(alloc, page) {
+        Ok(page) => Ok(PageRef::Shared(page)),
+        Err(failed) => Err(AllocFailed {
+            value: PageRef::Own(failed.value),
+        }),
+    }
+}
+
+// A shared page, as an own one: itself where nobody else holds it, and else a copy.
+#[inline(never)]
+fn own_shared(
+    page: Arc<Box<Page, Global>, Global>,
+    alloc: Global,
+) -> Result<PageRef, AllocFailed<PageRef>>
+    ensures same { IfOk result (λ own. bytes_of own ≡ bytes_of (Shared page)) }
+    ensures owned { IfOk result (λ own. is_own own ≡ true) }
+    ensures err { IfErr result (λ failed. failed.value ≡ Shared page) }
+{
+    match Arc::try_unwrap(page) {
+        Ok(page) => Ok(PageRef::Own(page)),
+        Err(page) => match copy_of(&page, alloc) {
+            Ok(copy) => Ok(PageRef::Own(copy)),
+            Err(_) => Err(AllocFailed {
+                value: PageRef::Shared(page),
+            }),
+        },
     }
 }
 
