@@ -1,9 +1,9 @@
-ghost use Rattle.std.specs.Prelude.{◌≡◌, ℕ, ◌+◌, ◌<◌, ◌≤◌, ◌%◌, ◌&&◌, not, nat_lt, cond, IfOk, IsOk, OnOk, OnErr, IfSome, IsNone, IsTrue, IsFalse, false, true, length, slice_index, slice_index_or};
+ghost use Rattle.std.specs.Prelude.{◌≡◌, ℕ, ◌+◌, ◌<◌, ◌≤◌, ◌%◌, ◌&&◌, not, nat_lt, cond, IfErr, IfOk, IsErr, IsOk, OnOk, OnErr, IfSome, IsNone, IsTrue, IsFalse, false, true, length, slice_index, slice_index_or};
 ghost use Rattle.page_store.specs.Bytes.{bytes_of, is_own, IsPage, with_bytes_in};
 ghost use Rattle.page_tree.specs.Blocks.{block_pages, page_in, permission_in, byte_in, is_own_in, IsWhole, AreWhole, IsShare, SameBytes, NoneOwn, IsBlankIn, within};
 
 use page_store::PageRef;
-use std::alloc::{AllocError, Global};
+use std::alloc::{AllocError, AllocFailed, Global};
 use std::array::from_fn;
 
 /// How many pages a block has.
@@ -83,7 +83,7 @@ impl Block {
         ensures whole { AreWhole self.old → AreWhole self.new }
     {
         for j in 0..BLOCK_PAGES {
-            freeze_page(&mut self.pages[j], alloc)?;
+            freeze_slot(&mut self.pages[j], alloc)?;
         }
         Ok(())
     }
@@ -179,8 +179,8 @@ fn own_slot(slot: &mut Option<PageRef>, alloc: Global) -> Result<(), AllocError>
     ensures err { OnErr result (slot.new ≡ slot.old) }
     ensures idle { is_own_in slot.old ≡ true → IsOk result }
 {
-    match slot {
-        Some(page) => page.own(alloc),
+    match slot.take() {
+        Some(page) => put_back(slot, page.own(alloc)),
         None => {
             let zeros = PageRef::zeros(alloc)?;
             *slot = Some(zeros);
@@ -190,17 +190,39 @@ fn own_slot(slot: &mut Option<PageRef>, alloc: Global) -> Result<(), AllocError>
 }
 
 // Makes a page that is kept one that can be shared.
-fn freeze_page(page: &mut Option<PageRef>, alloc: Global) -> Result<(), AllocError>
-    ensures bytes { (k : ℕ) → byte_in page.new k ≡ byte_in page.old k }
-    ensures whole { IsWhole page.new }
-    ensures none { OnOk result (is_own_in page.new ≡ false) }
-    ensures less { is_own_in page.new ≡ true → is_own_in page.old ≡ true }
+fn freeze_slot(slot: &mut Option<PageRef>, alloc: Global) -> Result<(), AllocError>
+    ensures bytes { (k : ℕ) → byte_in slot.new k ≡ byte_in slot.old k }
+    ensures whole { IsWhole slot.new }
+    ensures none { OnOk result (is_own_in slot.new ≡ false) }
+    ensures less { is_own_in slot.new ≡ true → is_own_in slot.old ≡ true }
 {
-    match page {
+    match slot.take() {
         Some(page) => {
             let _whole = page.bytes();
-            page.freeze(alloc)
+            put_back(slot, page.freeze(alloc))
         }
         None => Ok(()),
+    }
+}
+
+// Puts what became of a page into its slot: the page that was made, or the page as it was.
+fn put_back(
+    slot: &mut Option<PageRef>,
+    page: Result<PageRef, AllocFailed<PageRef>>,
+) -> Result<(), AllocError>
+    ensures ok { IfOk page (λ made. slot.new ≡ Some made) }
+    ensures err { IfErr page (λ failed. slot.new ≡ Some failed.value) }
+    ensures done { OnOk result (IsOk page) }
+    ensures failed { OnErr result (IsErr page) }
+{
+    match page {
+        Ok(made) => {
+            *slot = Some(made);
+            Ok(())
+        }
+        Err(failed) => {
+            *slot = Some(failed.value);
+            Err(AllocError)
+        }
     }
 }
