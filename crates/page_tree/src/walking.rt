@@ -1,4 +1,4 @@
-ghost use Rattle.std.specs.Prelude.{◌≡◌, ℕ, ◌/◌, ◌<◌, ◌≤◌, IfSome, IsNone};
+ghost use Rattle.std.specs.Prelude.{◌≡◌, ℕ, ◌*◌, ◌/◌, ◌<◌, ◌≤◌, IfSome, IsNone};
 ghost use Rattle.page_tree.specs.Rows.{IsBlankPage, IsBareStretch};
 ghost use Rattle.page_tree.specs.Blocks.{block_pages, page_in};
 ghost use Rattle.page_tree.specs.BlockRows.{block_row};
@@ -16,15 +16,16 @@ use crate::tree::{BRANCHES, TREE_PAGES, Tree};
 use crate::tree_ref::TreeRef;
 
 impl Block {
-    /// The least page from `from` on of which bytes are kept.
-    pub fn next_kept(&self, from: usize) -> Option<usize>
+    /// The least page from `from` to before `end` of which bytes are kept. It looks at no page beside.
+    pub fn next_kept(&self, from: usize, end: usize) -> Option<usize>
+        requires { end ≤ block_pages }
         ensures from { IfSome result (λ p. from ≤ p) }
-        ensures within { IfSome result (λ p. p < block_pages) }
+        ensures within { IfSome result (λ p. p < end) }
         ensures kept { IfSome result (λ p. page_in self.now p ≡ None → ⊥) }
         ensures least { IfSome result (λ p. (q : ℕ) → from ≤ q → q < p → page_in self.now q ≡ None) }
-        ensures none { IsNone result → (q : ℕ) → from ≤ q → q < block_pages → page_in self.now q ≡ None }
+        ensures none { IsNone result → (q : ℕ) → from ≤ q → q < end → page_in self.now q ≡ None }
     {
-        for j in from..BLOCK_PAGES {
+        for j in from..end {
             if self.page(j).is_some() {
                 return Some(j);
             }
@@ -48,18 +49,19 @@ impl Block {
 }
 
 impl BlockRef {
-    /// The least page from `from` on of which bytes are kept.
-    pub fn next_kept(&self, from: usize) -> Option<usize>
+    /// The least page from `from` to before `end` of which bytes are kept. It looks at no page beside.
+    pub fn next_kept(&self, from: usize, end: usize) -> Option<usize>
+        requires { end ≤ block_pages }
         ensures from { IfSome result (λ p. from ≤ p) }
-        ensures within { IfSome result (λ p. p < block_pages) }
+        ensures within { IfSome result (λ p. p < end) }
         ensures kept { IfSome result (λ p. ref_page self.now p ≡ None → ⊥) }
         ensures least { IfSome result (λ p. (q : ℕ) → from ≤ q → q < p → ref_page self.now q ≡ None) }
-        ensures none { IsNone result → (q : ℕ) → from ≤ q → q < block_pages → ref_page self.now q ≡ None }
+        ensures none { IsNone result → (q : ℕ) → from ≤ q → q < end → ref_page self.now q ≡ None }
     {
         match self {
             BlockRef::Uniform(_) => None,
-            BlockRef::Shared(block) => block.next_kept(from),
-            BlockRef::Own(block) => block.next_kept(from),
+            BlockRef::Shared(block) => block.next_kept(from, end),
+            BlockRef::Own(block) => block.next_kept(from, end),
         }
     }
 
@@ -80,16 +82,17 @@ impl BlockRef {
 }
 
 impl Branch {
-    /// The least page from `from` on of which bytes are kept.
-    pub fn next_kept(&self, from: usize) -> Option<usize>
+    /// The least page from `from` to before `end` of which bytes are kept. It looks at no page beside.
+    pub fn next_kept(&self, from: usize, end: usize) -> Option<usize>
+        requires { end ≤ branch_pages }
         ensures from { IfSome result (λ p. from ≤ p) }
-        ensures within { IfSome result (λ p. p < branch_pages) }
+        ensures within { IfSome result (λ p. p < end) }
         ensures kept { IfSome result (λ p. branch_page self.now p ≡ None → ⊥) }
         ensures least { IfSome result (λ p. (q : ℕ) → from ≤ q → q < p → branch_page self.now q ≡ None) }
-        ensures none { IsNone result → (q : ℕ) → from ≤ q → q < branch_pages → branch_page self.now q ≡ None }
+        ensures none { IsNone result → (q : ℕ) → from ≤ q → q < end → branch_page self.now q ≡ None }
     {
-        for i in from / BLOCK_PAGES..BLOCKS {
-            let found = self.next_kept_in(i, from);
+        for i in from / BLOCK_PAGES..end.div_ceil(BLOCK_PAGES) {
+            let found = self.next_kept_in(i, from, end);
             if found.is_some() {
                 return found;
             }
@@ -97,17 +100,20 @@ impl Branch {
         None
     }
 
-    // The least page of a block from `from` on of which bytes are kept.
-    fn next_kept_in(&self, i: usize, from: usize) -> Option<usize>
-        requires { i < branch_blocks }
+    // The least page of a block from `from` to before `end` of which bytes are kept.
+    fn next_kept_in(&self, i: usize, from: usize, end: usize) -> Option<usize>
+        requires block { i < branch_blocks }
+        requires before { block_pages * i < end }
         ensures from { IfSome result (λ p. from ≤ p) }
         ensures within { IfSome result (λ p. p / block_pages ≡ i) }
+        ensures below { IfSome result (λ p. p < end) }
         ensures kept { IfSome result (λ p. branch_page self.now p ≡ None → ⊥) }
         ensures least { IfSome result (λ p. (q : ℕ) → from ≤ q → q / block_pages ≡ i → q < p → branch_page self.now q ≡ None) }
-        ensures none { IsNone result → (q : ℕ) → from ≤ q → q / block_pages ≡ i → branch_page self.now q ≡ None }
+        ensures none { IsNone result → (q : ℕ) → from ≤ q → q < end → q / block_pages ≡ i → branch_page self.now q ≡ None }
     {
         let first = i * BLOCK_PAGES;
-        match self.blocks[i].next_kept(from.saturating_sub(first)) {
+        let to = (end - first).min(BLOCK_PAGES);
+        match self.blocks[i].next_kept(from.saturating_sub(first), to) {
             Some(page) => Some(first + page),
             None => None,
         }
@@ -162,18 +168,19 @@ impl Branch {
 }
 
 impl BranchRef {
-    /// The least page from `from` on of which bytes are kept.
-    pub fn next_kept(&self, from: usize) -> Option<usize>
+    /// The least page from `from` to before `end` of which bytes are kept. It looks at no page beside.
+    pub fn next_kept(&self, from: usize, end: usize) -> Option<usize>
+        requires { end ≤ branch_pages }
         ensures from { IfSome result (λ p. from ≤ p) }
-        ensures within { IfSome result (λ p. p < branch_pages) }
+        ensures within { IfSome result (λ p. p < end) }
         ensures kept { IfSome result (λ p. limb_page self.now p ≡ None → ⊥) }
         ensures least { IfSome result (λ p. (q : ℕ) → from ≤ q → q < p → limb_page self.now q ≡ None) }
-        ensures none { IsNone result → (q : ℕ) → from ≤ q → q < branch_pages → limb_page self.now q ≡ None }
+        ensures none { IsNone result → (q : ℕ) → from ≤ q → q < end → limb_page self.now q ≡ None }
     {
         match self {
             BranchRef::Uniform(_) => None,
-            BranchRef::Shared(branch) => branch.next_kept(from),
-            BranchRef::Own(branch) => branch.next_kept(from),
+            BranchRef::Shared(branch) => branch.next_kept(from, end),
+            BranchRef::Own(branch) => branch.next_kept(from, end),
         }
     }
 
@@ -210,16 +217,17 @@ impl BranchRef {
 }
 
 impl Tree {
-    /// The least page from `from` on of which bytes are kept.
-    pub fn next_kept(&self, from: usize) -> Option<usize>
+    /// The least page from `from` to before `end` of which bytes are kept. It looks at no page beside.
+    pub fn next_kept(&self, from: usize, end: usize) -> Option<usize>
+        requires { end ≤ tree_pages }
         ensures from { IfSome result (λ p. from ≤ p) }
-        ensures within { IfSome result (λ p. p < tree_pages) }
+        ensures within { IfSome result (λ p. p < end) }
         ensures kept { IfSome result (λ p. tree_page self.now p ≡ None → ⊥) }
         ensures least { IfSome result (λ p. (q : ℕ) → from ≤ q → q < p → tree_page self.now q ≡ None) }
-        ensures none { IsNone result → (q : ℕ) → from ≤ q → q < tree_pages → tree_page self.now q ≡ None }
+        ensures none { IsNone result → (q : ℕ) → from ≤ q → q < end → tree_page self.now q ≡ None }
     {
-        for i in from / BRANCH_PAGES..BRANCHES {
-            let found = self.next_kept_in(i, from);
+        for i in from / BRANCH_PAGES..end.div_ceil(BRANCH_PAGES) {
+            let found = self.next_kept_in(i, from, end);
             if found.is_some() {
                 return found;
             }
@@ -227,17 +235,20 @@ impl Tree {
         None
     }
 
-    // The least page of a branch from `from` on of which bytes are kept.
-    fn next_kept_in(&self, i: usize, from: usize) -> Option<usize>
-        requires { i < tree_branches }
+    // The least page of a branch from `from` to before `end` of which bytes are kept.
+    fn next_kept_in(&self, i: usize, from: usize, end: usize) -> Option<usize>
+        requires branch { i < tree_branches }
+        requires before { branch_pages * i < end }
         ensures from { IfSome result (λ p. from ≤ p) }
         ensures within { IfSome result (λ p. p / branch_pages ≡ i) }
+        ensures below { IfSome result (λ p. p < end) }
         ensures kept { IfSome result (λ p. tree_page self.now p ≡ None → ⊥) }
         ensures least { IfSome result (λ p. (q : ℕ) → from ≤ q → q / branch_pages ≡ i → q < p → tree_page self.now q ≡ None) }
-        ensures none { IsNone result → (q : ℕ) → from ≤ q → q / branch_pages ≡ i → tree_page self.now q ≡ None }
+        ensures none { IsNone result → (q : ℕ) → from ≤ q → q < end → q / branch_pages ≡ i → tree_page self.now q ≡ None }
     {
         let first = i * BRANCH_PAGES;
-        match self.branches[i].next_kept(from.saturating_sub(first)) {
+        let to = (end - first).min(BRANCH_PAGES);
+        match self.branches[i].next_kept(from.saturating_sub(first), to) {
             Some(page) => Some(first + page),
             None => None,
         }
@@ -292,18 +303,19 @@ impl Tree {
 }
 
 impl TreeRef {
-    /// The least page from `from` on of which bytes are kept.
-    pub fn next_kept(&self, from: usize) -> Option<usize>
+    /// The least page from `from` to before `end` of which bytes are kept. It looks at no page beside.
+    pub fn next_kept(&self, from: usize, end: usize) -> Option<usize>
+        requires { end ≤ tree_pages }
         ensures from { IfSome result (λ p. from ≤ p) }
-        ensures within { IfSome result (λ p. p < tree_pages) }
+        ensures within { IfSome result (λ p. p < end) }
         ensures kept { IfSome result (λ p. root_page self.now p ≡ None → ⊥) }
         ensures least { IfSome result (λ p. (q : ℕ) → from ≤ q → q < p → root_page self.now q ≡ None) }
-        ensures none { IsNone result → (q : ℕ) → from ≤ q → q < tree_pages → root_page self.now q ≡ None }
+        ensures none { IsNone result → (q : ℕ) → from ≤ q → q < end → root_page self.now q ≡ None }
     {
         match self {
             TreeRef::Uniform(_) => None,
-            TreeRef::Shared(tree) => tree.next_kept(from),
-            TreeRef::Own(tree) => tree.next_kept(from),
+            TreeRef::Shared(tree) => tree.next_kept(from, end),
+            TreeRef::Own(tree) => tree.next_kept(from, end),
         }
     }
 

@@ -3,4 +3,4 @@ use Rattle.page_tree.specs.Branches.{branch_page}
 use Rattle.page_tree.proofs.branch.Branch.next_kept.Given as goal
 
 abbrev pub invariant-loop-i : goal.invariant-loop-i
-invariant-loop-i l = (q : ℕ) → l.fn.from ≤ q → q < 64 * l.i → branch_page l.self q ≡ None
+invariant-loop-i l = (q : ℕ) → l.fn.from ≤ q → q < l.fn.end → q < 64 * l.i → branch_page l.self q ≡ None

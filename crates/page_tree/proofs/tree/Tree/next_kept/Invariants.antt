@@ -3,4 +3,4 @@ use Rattle.page_tree.specs.Trees.{tree_page}
 use Rattle.page_tree.proofs.tree.Tree.next_kept.Given as goal
 
 abbrev pub invariant-loop-i : goal.invariant-loop-i
-invariant-loop-i l = (q : ℕ) → l.fn.from ≤ q → q < 8192 * l.i → tree_page l.self q ≡ None
+invariant-loop-i l = (q : ℕ) → l.fn.from ≤ q → q < l.fn.end → q < 8192 * l.i → tree_page l.self q ≡ None
