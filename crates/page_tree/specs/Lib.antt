@@ -7,3 +7,4 @@ pub mod Trees
 pub mod TreeRefs
 pub mod Ready
 pub mod BlockRows
+pub mod Settled

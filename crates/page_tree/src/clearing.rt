@@ -16,8 +16,23 @@ use crate::tree::Tree;
 use crate::tree_ref::TreeRef;
 
 impl BlockRef {
-    /// Forgets the pages from `from` to before `to`. Permissions stay.
+    /// Forgets the pages from `from` to before `to`. Permissions stay. Where that is all pages, and they have one permission, it is uniform then.
     pub fn clear(&mut self, from: usize, to: usize)
+        requires rise { from < to }
+        requires within { to ≤ block_pages }
+        requires ready { ReadyBlock from to self.old }
+        ensures cleared { IsClearedRow block_pages from to (ref_row self.old) (ref_row self.new) }
+        ensures whole { AreWholeIn self.old → AreWholeIn self.new }
+        ensures ready { ReadyBlock from to self.new }
+    {
+        self.clear_pages(from, to);
+        if from == 0 && to == BLOCK_PAGES {
+            self.settle();
+        }
+    }
+
+    // Forgets the pages from `from` to before `to` one by one.
+    fn clear_pages(&mut self, from: usize, to: usize)
         requires rise { from < to }
         requires within { to ≤ block_pages }
         requires ready { ReadyBlock from to self.old }
@@ -66,8 +81,23 @@ impl Branch {
 }
 
 impl BranchRef {
-    /// Forgets the pages from `from` to before `to`. Permissions stay.
+    /// Forgets the pages from `from` to before `to`. Permissions stay. Where that is all pages, and they have one permission, it is uniform then.
     pub fn clear(&mut self, from: usize, to: usize)
+        requires rise { from < to }
+        requires within { to ≤ branch_pages }
+        requires ready { ReadyLimb from to self.old }
+        ensures cleared { IsClearedRow branch_pages from to (limb_row self.old) (limb_row self.new) }
+        ensures whole { AreWholeLimb self.old → AreWholeLimb self.new }
+        ensures ready { ReadyLimb from to self.new }
+    {
+        self.clear_pages(from, to);
+        if from == 0 && to == BRANCH_PAGES {
+            self.settle();
+        }
+    }
+
+    // Forgets the pages from `from` to before `to` block by block.
+    fn clear_pages(&mut self, from: usize, to: usize)
         requires rise { from < to }
         requires within { to ≤ branch_pages }
         requires ready { ReadyLimb from to self.old }

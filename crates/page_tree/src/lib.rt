@@ -10,6 +10,7 @@ mod permitting;
 mod preparing;
 mod reading;
 mod replacing;
+mod settling;
 mod storing;
 mod taking;
 mod tree;

@@ -16,8 +16,23 @@ use crate::tree::Tree;
 use crate::tree_ref::TreeRef;
 
 impl BlockRef {
-    /// Gives the pages from `from` to before `to` the permission.
+    /// Gives the pages from `from` to before `to` the permission. Where that is all pages, and no bytes are kept, it is uniform then.
     pub fn permit(&mut self, from: usize, to: usize, permission: u8)
+        requires rise { from < to }
+        requires within { to ≤ block_pages }
+        requires ready { ReadyBlock from to self.old }
+        ensures permitted { IsPermittedRow block_pages from to permission (ref_row self.old) (ref_row self.new) }
+        ensures whole { AreWholeIn self.old → AreWholeIn self.new }
+        ensures ready { ReadyBlock from to self.new }
+    {
+        self.permit_pages(from, to, permission);
+        if from == 0 && to == BLOCK_PAGES {
+            self.settle();
+        }
+    }
+
+    // Gives the pages from `from` to before `to` the permission one by one.
+    fn permit_pages(&mut self, from: usize, to: usize, permission: u8)
         requires rise { from < to }
         requires within { to ≤ block_pages }
         requires ready { ReadyBlock from to self.old }
@@ -70,8 +85,23 @@ impl Branch {
 }
 
 impl BranchRef {
-    /// Gives the pages from `from` to before `to` the permission.
+    /// Gives the pages from `from` to before `to` the permission. Where that is all pages, and no bytes are kept, it is uniform then.
     pub fn permit(&mut self, from: usize, to: usize, permission: u8)
+        requires rise { from < to }
+        requires within { to ≤ branch_pages }
+        requires ready { ReadyLimb from to self.old }
+        ensures permitted { IsPermittedRow branch_pages from to permission (limb_row self.old) (limb_row self.new) }
+        ensures whole { AreWholeLimb self.old → AreWholeLimb self.new }
+        ensures ready { ReadyLimb from to self.new }
+    {
+        self.permit_pages(from, to, permission);
+        if from == 0 && to == BRANCH_PAGES {
+            self.settle();
+        }
+    }
+
+    // Gives the pages from `from` to before `to` the permission block by block.
+    fn permit_pages(&mut self, from: usize, to: usize, permission: u8)
         requires rise { from < to }
         requires within { to ≤ branch_pages }
         requires ready { ReadyLimb from to self.old }

@@ -1,7 +1,7 @@
 use Rattle.std.proofs.Common.{sym, subst, slice_index_or, None}
 use Rattle.page_tree.specs.Blocks.{AreWhole, IsWhole}
 use Rattle.page_tree.specs.BlockRefs.{AreWholeIn}
-use Rattle.page_tree.proofs.block_ref.BlockRef.permit.Goals as goal
+use Rattle.page_tree.proofs.block_ref.BlockRef.permit_pages.Goals as goal
 
 pub returns-in-Own-clause-whole : goal.returns-in-Own-clause-whole
 returns-in-Own-clause-whole c whole j low =

@@ -2,7 +2,7 @@ use Rattle.std.proofs.Common.{sym, subst, None}
 use Rattle.page_tree.specs.Blocks.{AreWhole, IsWhole, page_in, within}
 use Rattle.page_tree.specs.BlockRefs.{AreWholeIn}
 use Rattle.page_tree.proofs.Spread.{whole_either}
-use Rattle.page_tree.proofs.block_ref.BlockRef.clear.Goals as goal
+use Rattle.page_tree.proofs.block_ref.BlockRef.clear_pages.Goals as goal
 
 pub returns-in-Own-clause-whole : goal.returns-in-Own-clause-whole
 returns-in-Own-clause-whole c whole j low =
