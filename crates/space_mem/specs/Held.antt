@@ -99,8 +99,8 @@ AllClean h n end = (q : ℕ) → n ≤ q → q < end → IsClean h q
 abbrev pub AllZero : Memory → ℕ → ℕ → Type 0
 AllZero m n end = (q k : ℕ) → n ≤ q → q < end → k < page_size → byte_at m (page_size * q + k) ≡ 0
 
--- the next page from n on of which bytes are kept
-pub record IsNextKept (m : Memory) (n page : ℕ) : Type 0 where
-  pub above : n ≤ page
-  pub below : page < pages
-  pub zero : AllZero m n page
+-- the next page from one to before another of which bytes are kept
+pub record IsNextKept (m : Memory) (from end page : ℕ) : Type 0 where
+  pub above : from ≤ page
+  pub below : page < end
+  pub zero : AllZero m from page

@@ -46,7 +46,8 @@ impl Mem {
 
     /// Writes bytes from an address on, whatever the permissions; they end within the memory. Each page
     /// that has one of them is owned then, and each that was owned stays so; every other page is owned, and dirty, where it was. The
-    /// one error is want of memory: no byte is written then. It does not come where each of those pages was owned.
+    /// one error is want of memory: no byte is written then. It does not come where each of those pages was owned, and then nothing but the
+    /// bytes changes.
     pub fn write_bytes(&mut self, at: u32, bytes: &[u8]) -> Result<(), AllocError>
         requires { at + length bytes.now ≤ 2 ^ 32 }
         ensures ok { OnOk result (self.new.memory ≡ with_bytes self.old.memory at bytes.now) }
@@ -54,6 +55,7 @@ impl Mem {
         ensures owned { OnOk result ((k : ℕ) → k < length bytes.now → Owns self.new ((at + k) / 4096)) }
         ensures stays { (page : ℕ) → Owns self.old page → Owns self.new page }
         ensures idle { ((k : ℕ) → k < length bytes.now → Owns self.old ((at + k) / 4096)) → IsOk result }
+        ensures in_place { ((k : ℕ) → k < length bytes.now → Owns self.old ((at + k) / 4096)) → self.new ≡ record self.old { memory = with_bytes self.old.memory at bytes.now } }
         ensures beside { (page : ℕ) → HasNoneOf at (length bytes.now) page → KeepsMarks self.old self.new page }
         ensures marks { Marks self.old self.new }
     {
@@ -106,13 +108,14 @@ impl Mem {
         self.own_pages(range.first, range.first + range.count)
     }
 
-    // Owns each page from `first` to before `end`.
+    // Owns each page from `first` to before `end`. Where each was owned, nothing changes.
     fn own_pages(&mut self, first: u32, end: u32) -> Result<(), AllocError>
         requires { end ≤ pages }
         ensures same { self.new.memory ≡ self.old.memory }
         ensures owned { OnOk result ((page : ℕ) → first ≤ page → page < end → Owns self.new page) }
         ensures stays { (page : ℕ) → Owns self.old page → Owns self.new page }
         ensures idle { ((page : ℕ) → first ≤ page → page < end → Owns self.old page) → IsOk result }
+        ensures again { ((page : ℕ) → first ≤ page → page < end → Owns self.old page) → self.new ≡ self.old }
         ensures outside { KeepsMarksOutside first end self.old self.new }
         ensures marks { Marks self.old self.new }
     {

@@ -57,10 +57,7 @@ fn freeze_pages(
     ensures whole { AreWholeRoot tree.old → AreWholeRoot tree.new }
 {
     let mut at = first;
-    while let Some(page) = tree.next_kept(at) {
-        if page >= end {
-            return Ok(());
-        }
+    while let Some(page) = tree.next_kept(at, end) {
         freeze_page(tree, page, alloc)?;
         at = page + 1;
     }
@@ -103,12 +100,18 @@ fn freeze_kept(tree: &mut TreeRef, page: usize, alloc: Global) -> Result<(), All
     ensures whole { AreWholeRoot tree.old → AreWholeRoot tree.new }
 {
     match tree.replace(page, None) {
-        Some(mut kept) => {
-            let frozen = kept.freeze(alloc);
-            let _bytes = kept.bytes();
-            tree.replace(page, Some(kept));
-            frozen
-        }
+        Some(kept) => match kept.freeze(alloc) {
+            Ok(frozen) => {
+                let _bytes = frozen.bytes();
+                tree.replace(page, Some(frozen));
+                Ok(())
+            }
+            Err(failed) => {
+                let _bytes = failed.value.bytes();
+                tree.replace(page, Some(failed.value));
+                Err(AllocError)
+            }
+        },
         None => Ok(()),
     }
 }

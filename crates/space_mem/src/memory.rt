@@ -241,12 +241,14 @@ impl Mem {
         self.table.next_dirty(n)
     }
 
-    /// A page from `n` on, before which all bytes from `n` on are 0: the least of which bytes are kept. None only where all are 0.
-    pub fn next_kept(&self, n: u32) -> Option<u32>
-        ensures some { IfSome result (IsNextKept self.now.memory n) }
-        ensures none { IsNone result → AllZero self.now.memory n 1048576 }
+    /// A page from `from` to before `end`, which is at most 2^20, before which all bytes from `from` on are 0: the least of which bytes are
+    /// kept. None only where all of them are 0. It looks at no page beside.
+    pub fn next_kept(&self, from: u32, end: u32) -> Option<u32>
+        requires { end ≤ 1048576 }
+        ensures some { IfSome result (IsNextKept self.now.memory from end) }
+        ensures none { IsNone result → AllZero self.now.memory from end }
     {
-        self.table.next_kept(n)
+        self.table.next_kept(from, end)
     }
 
     /// An equal memory, which no later write to this one changes; none of its pages is dirty. Both share all pages, and own none then. The one

@@ -2,6 +2,7 @@ ghost use Rattle.std.specs.Prelude.{◌≡◌, ℕ, ◌+◌, ◌*◌, ◌/◌, �
 ghost use Rattle.memory_model.specs.Memory.{number_from, width_bytes, byte_at, permission_at, may_fetch, may_read};
 ghost use Rattle.memory_model.specs.Ranges.{IsPageOf, IsZeroPage, IsBounded, IsNextPage, NoneUsed};
 ghost use Rattle.memory_model.specs.declared.Width.TheVariants.{Four};
+ghost use Rattle.memory_model.specs.Sizes.{pages};
 ghost use Rattle.page_store.specs.Bytes.{bytes_of};
 ghost use Rattle.space_mem.specs.Held.{IsNextDirty, AllClean, IsNextKept, AllZero};
 ghost use Rattle.space_mem.specs.Tables.{IsTable, held_of, memory_of};
@@ -96,15 +97,13 @@ impl PageTable {
         }
     }
 
-    // The least page from `n` on of which bytes are kept.
-    pub fn next_kept(&self, n: u32) -> Option<u32>
-        ensures some { IfSome result (IsNextKept (memory_of self.now.pages) n) }
-        ensures none { IsNone result → AllZero (memory_of self.now.pages) n 1048576 }
+    // The least page from `from` to before `end` of which bytes are kept.
+    pub fn next_kept(&self, from: u32, end: u32) -> Option<u32>
+        requires { end ≤ pages }
+        ensures some { IfSome result (IsNextKept (memory_of self.now.pages) from end) }
+        ensures none { IsNone result → AllZero (memory_of self.now.pages) from end }
     {
-        if n >= PAGES {
-            return None;
-        }
-        match self.pages.next_kept(n as usize) {
+        match self.pages.next_kept(from as usize, end as usize) {
             Some(page) => Some(page as u32),
             None => None,
         }

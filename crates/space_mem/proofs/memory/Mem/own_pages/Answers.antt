@@ -11,7 +11,7 @@ beside q page first end (inl before) here low high = omega arith
 beside q page first end (inr after) here low high = omega arith
 
 pub loop-page-init : goal.loop-page-init
-loop-page-init c = record { same = refl; owned = λ q from to. absurd (omega arith); stays = λ q owns. owns; outside = λ q out. keeps_refl c.args.self.now q; marks = marks_refl c.args.self.now }
+loop-page-init c = record { same = refl; owned = λ q from to. absurd (omega arith); stays = λ q owns. owns; outside = λ q out. keeps_refl c.args.self.now q; again = λ owns. refl; marks = marks_refl c.args.self.now }
 
 pub loop-page-preserved : goal.loop-page-preserved
 loop-page-preserved c =
@@ -26,6 +26,7 @@ loop-page-preserved c =
       ];
       stays = λ q owns. owns_too mid c.own_page.new.self c.loop-page.page q h.ok (inr (inv.stays q owns));
       outside = λ q out. keeps_then c.args.self.now mid c.own_page.new.self q (inv.outside q out) (keeps_beside mid c.own_page.new.self c.loop-page.page mid.memory q h.ok (λ here. beside q c.loop-page.page c.args.first c.args.end out here (omega arith) (omega arith)));
+      again = λ owns. h.again (inv.stays c.loop-page.page (owns c.loop-page.page (omega arith) (omega arith))) ∙ inv.again owns;
       marks = marks_then c.args.self.now mid c.own_page.new.self inv.marks h.marks;
     }
 
@@ -45,3 +46,6 @@ returns-in_err-own_page-clause-marks c = marks_then c.args.self.now c.loop-page.
 
 pub returns-in_err-own_page-clause-outside : goal.returns-in_err-own_page-clause-outside
 returns-in_err-own_page-clause-outside c q out = keeps_then c.args.self.now c.loop-page.self c.own_page.new.self q (c.loop-page.invariant.outside q out) (keeps_same c.loop-page.self c.own_page.new.self q c.in_err-own_page.ensures.err)
+
+pub returns-in_err-own_page-clause-again : goal.returns-in_err-own_page-clause-again
+returns-in_err-own_page-clause-again c owns = c.in_err-own_page.ensures.err ∙ c.loop-page.invariant.again owns

@@ -8,5 +8,6 @@ invariant-loop-page l = record {
   owned : (q : ℕ) → l.fn.first ≤ q → q < l.page → Owns l.self q;
   stays : (q : ℕ) → Owns l.fn.self q → Owns l.self q;
   outside : KeepsMarksOutside l.fn.first l.fn.end l.fn.self l.self;
+  again : ((q : ℕ) → l.fn.first ≤ q → q < l.fn.end → Owns l.fn.self q) → l.self ≡ l.fn.self;
   marks : Marks l.fn.self l.self;
 }

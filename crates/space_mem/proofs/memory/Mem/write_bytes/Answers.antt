@@ -1,7 +1,8 @@
-use Rattle.std.proofs.Common.{◌≡◌, ◌+◌, ◌-◌, ◌*◌, ◌/◌, ◌<◌, ◌≤◌, arith, ℕ, length, subst, inl, inr}
+use Rattle.std.proofs.Common.{◌≡◌, ◌+◌, ◌-◌, ◌*◌, ◌/◌, ◌<◌, ◌≤◌, ◌∙◌, ap, arith, ℕ, length, subst, inl, inr}
 use Rattle.std.proofs.lemmas.Bool.{cases_lt, false≢true}
 use Rattle.std.proofs.lemmas.Bool.Decides.{nat_tests}
-use Rattle.space_mem.specs.Held.{HasNoneOf, IsOutside, Owns}
+use Rattle.memory_model.specs.Memory.{with_bytes}
+use Rattle.space_mem.specs.Held.{Held, HasNoneOf, IsOutside, Owns}
 use Rattle.space_mem.proofs.Kept.{keeps_memory, keeps_refl, keeps_then}
 use Rattle.space_mem.proofs.memory.Mem.write_bytes.Goals as goal
 
@@ -18,16 +19,32 @@ beside at count end page some reach most none = elim (cases_lt page (at / 4096))
   ]
 ]
 
-pub returns-in_err-own_pages-clause-idle : goal.returns-in_err-own_pages-clause-idle
-returns-in_err-own_pages-clause-idle c owns = absurd (false≢true (c.in_err-own_pages.ensures.idle (λ page from to. elim (cases_lt c.args.at (4096 * page)) [
+-- each page that has some of the bytes is owned, where the page of each byte is
+all_owned : (h : Held) (at count end page : ℕ) → 0 < count → 4096 * end < at + count + 4096 → ((k : ℕ) → k < count → Owns h ((at + k) / 4096)) → at / 4096 ≤ page → page < end → Owns h page
+all_owned h at count end page some most owns from to = elim (cases_lt at (4096 * page)) [
   | inl after ↦
-      let same : (c.args.at + (4096 * page - c.args.at)) / 4096 ≡ page = omega arith in
-      subst (Owns c.args.self.now) same (owns (4096 * page - c.args.at) (omega arith))
+      let same : (at + (4096 * page - at)) / 4096 ≡ page = omega arith in
+      subst (Owns h) same (owns (4096 * page - at) (omega arith))
   | inr before ↦
-      let same : (c.args.at + 0) / 4096 ≡ page = omega arith in
-      let some : 0 < length c.args.bytes.now = grind (arith, nat_tests, c.if-is_empty.ensures, c.is_empty.ensures) in
-      subst (Owns c.args.self.now) same (owns 0 some)
-])))
+      let same : (at + 0) / 4096 ≡ page = omega arith in
+      subst (Owns h) same (owns 0 some)
+]
+
+pub returns-in_err-own_pages-clause-idle : goal.returns-in_err-own_pages-clause-idle
+returns-in_err-own_pages-clause-idle c owns =
+    let some : 0 < length c.args.bytes.now = grind (arith, nat_tests, c.if-is_empty.ensures, c.is_empty.ensures) in
+    absurd (false≢true (c.in_err-own_pages.ensures.idle (λ page from to. all_owned c.args.self.now c.args.at (length c.args.bytes.now) c.div_ceil-end.result page some (omega arith) owns from to)))
+
+pub returns-in_err-own_pages-clause-in_place : goal.returns-in_err-own_pages-clause-in_place
+returns-in_err-own_pages-clause-in_place c owns =
+    let some : 0 < length c.args.bytes.now = grind (arith, nat_tests, c.if-is_empty.ensures, c.is_empty.ensures) in
+    absurd (false≢true (c.in_err-own_pages.ensures.idle (λ page from to. all_owned c.args.self.now c.args.at (length c.args.bytes.now) c.div_ceil-end.result page some (omega arith) owns from to)))
+
+pub returns-clause-in_place : goal.returns-clause-in_place
+returns-clause-in_place c owns =
+    let some : 0 < length c.args.bytes.now = grind (arith, nat_tests, c.if-is_empty.ensures, c.is_empty.ensures) in
+    let write : Held → Held = λ h. record h { memory = with_bytes h.memory c.args.at c.args.bytes.now } in
+    c.write_owned.ensures.held ∙ ap write (c.in_ok-own_pages.ensures.again (λ page from to. all_owned c.args.self.now c.args.at (length c.args.bytes.now) c.div_ceil-end.result page some (omega arith) owns from to))
 
 pub returns-then-is_empty-clause-beside : goal.returns-then-is_empty-clause-beside
 returns-then-is_empty-clause-beside c page none = keeps_refl c.args.self.now page

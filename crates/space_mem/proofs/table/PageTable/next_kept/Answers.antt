@@ -11,4 +11,4 @@ returns-in-Some-clause-some c = let h = c.in-Some.ensures in record {
 }
 
 pub returns-in-None-clause-none : goal.returns-in-None-clause-none
-returns-in-None-clause-none c none q k low high below = byte_at-page c.args.self.now.pages q k high below ∙ ap (λ o. byte_in o k) (c.in-None.ensures.none refl q low high)
+returns-in-None-clause-none c none q k low high below = byte_at-page c.args.self.now.pages q k (omega arith) below ∙ ap (λ o. byte_in o k) (c.in-None.ensures.none refl q low high)
