@@ -2,7 +2,7 @@
 -- Our choice: a restatement for proofs.
 use Rattle.std.specs.Prelude.{◌≡◌, ℕ, Bool, ◌+◌, ◌*◌, ◌<◌, ◌≤◌, ◌⊎◌, false, true, List, [], ◌∷◌, slice_index}
 use Rattle.memory_model.specs.Memory.{Memory, byte_at}
-use Rattle.memory_model.specs.Sizes.{page_size, pages}
+use Rattle.memory_model.specs.Sizes.{page_size}
 use Rattle.merge_model.specs.Merge.{is_conflict, merged_byte}
 use Rattle.space_mem.specs.Held.{Held, IsClean, IsOutside, SamePage}
 
@@ -14,10 +14,10 @@ SameBytes m n first end = (a : ℕ) → page_size * first ≤ a → a < page_siz
 abbrev pub NoneInConflict : Bool → Memory → Memory → Memory → ℕ → ℕ → Type 0
 NoneInConflict agree snapshot child parent from to = (a : ℕ) → from ≤ a → a < to → is_conflict agree snapshot child parent a ≡ false
 
--- the next page from n on of which the bytes of two memories may differ
-pub record IsNextToMerge (m n : Memory) (from page : ℕ) : Type 0 where
+-- the next page from one to before another of which the bytes of two memories may differ
+pub record IsNextToMerge (m n : Memory) (from end page : ℕ) : Type 0 where
   pub above : from ≤ page
-  pub below : page < pages
+  pub below : page < end
   pub same : SameBytes m n from page
 
 -- rising pages from one to before another, and the bytes of two memories are the same in all others

@@ -32,10 +32,7 @@ pub fn changed_pages(
     let mut child_cursor = Cursor::over(child);
     let mut snapshot_cursor = Cursor::over(snapshot);
     let mut from = range.first;
-    while let Some(page) = next_page(&mut child_cursor, &mut snapshot_cursor, from) {
-        if page >= end {
-            return Ok(changed);
-        }
+    while let Some(page) = next_page(&mut child_cursor, &mut snapshot_cursor, from, end) {
         if merge_in_page(parent, child, snapshot, page, agree, &mut scratch)? {
             changed.push(page)?;
         }

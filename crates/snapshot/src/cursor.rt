@@ -3,7 +3,6 @@ ghost use Rattle.memory_model.specs.Ranges.{IsZeroPage};
 ghost use Rattle.memory_model.specs.Sizes.{pages};
 ghost use Rattle.space_mem.specs.Held.{AllClean, AllZero, IsNextDirty};
 
-use memory_model::PAGES;
 use space_mem::Mem;
 use std::marker::Model;
 
@@ -12,7 +11,7 @@ use std::marker::Model;
 #[derive(Drop)]
 pub struct Cursor<'a> {
     memory: &'a Mem,
-    // From the first of these pages on no bytes are kept before the other, which is 2^20 where none follow.
+    // From the first of these pages on no bytes are kept before the other.
     from: u32,
     next: u32,
 }
@@ -57,18 +56,19 @@ impl<'a> Cursor<'a> {
         self.memory.page(page).is_some()
     }
 
-    // The least page from `n` on of which bytes are kept, or 2^20.
-    pub fn next_kept(&mut self, n: u32) -> u32
-        requires { n ≤ pages }
+    // The least page from `n` to before `end` of which bytes are kept, or `end`.
+    pub fn next_kept(&mut self, n: u32, end: u32) -> u32
+        requires rise { n ≤ end }
+        requires within { end ≤ pages }
         ensures same { self.new ≡ self.old }
         ensures above { n ≤ result }
-        ensures below { result ≤ pages }
+        ensures below { result ≤ end }
         ensures zero { AllZero self.old.memory n result }
     {
         if n < self.from || self.next < n {
-            self.next = self.memory.next_kept(n).unwrap_or(PAGES);
+            self.next = self.memory.next_kept(n, end).unwrap_or(end);
             self.from = n;
         }
-        self.next
+        self.next.min(end)
     }
 }

@@ -24,7 +24,8 @@ pub fn page_bytes(memory: &Mem, page: u32) -> &[u8; SIZE]
     }
 }
 
-// Whether the child changed a byte of a page, which is merged into `out` then. The error is the conflict at the least address of the page.
+// Whether the child changed a byte of a page, which is merged into `out` then: the child's page as it is, where the parent still has the
+// snapshot's. The error is the conflict at the least address of the page.
 pub fn merge_in_page(
     parent: &Mem,
     child: &Mem,
@@ -45,7 +46,12 @@ pub fn merge_in_page(
     if same_page(before, written) {
         return Ok(false);
     }
-    match merge_page(before, written, page_bytes(parent, page), out, agree) {
+    let current = page_bytes(parent, page);
+    if same_page(before, current) {
+        *out = *written;
+        return Ok(true);
+    }
+    match merge_page(before, written, current, out, agree) {
         Ok(()) => Ok(true),
         Err(offset) => {
             let addr = PAGE_SIZE * page + u32::from(offset);

@@ -5,25 +5,29 @@ ghost use Rattle.snapshot.specs.Pages.{IsNextToMerge, SameBytes};
 
 use crate::cursor::Cursor;
 
-// The next page from `n` on that a merge has to look at: one that is dirty in the child, and of which the child or the snapshot
+// The next page from one to before another that a merge has to look at: one that is dirty in the child, and of which the child or the snapshot
 // keeps bytes. Other pages have the same bytes in both. Behind a page of which neither keeps bytes, dirty pages up to the next one that either
-// keeps are passed over at once.
-pub fn next_page(child: &mut Cursor, snapshot: &mut Cursor, n: u32) -> Option<u32>
+// keeps are passed over at once. No page beside is looked at, but to find that none is dirty.
+pub fn next_page(child: &mut Cursor, snapshot: &mut Cursor, from: u32, end: u32) -> Option<u32>
     requires covers { Covers child.old snapshot.old.memory }
-    ensures some { IfSome result (IsNextToMerge child.old.memory snapshot.old.memory n) }
+    requires within { end ≤ pages }
+    ensures some { IfSome result (IsNextToMerge child.old.memory snapshot.old.memory from end) }
     ensures dirty { IfSome result (λ page. IsClean child.old page → ⊥) }
-    ensures none { IsNone result → SameBytes child.old.memory snapshot.old.memory n pages }
+    ensures none { IsNone result → SameBytes child.old.memory snapshot.old.memory from end }
     ensures same_child { child.new ≡ child.old }
     ensures same_snapshot { snapshot.new ≡ snapshot.old }
 {
-    let mut at = n;
+    let mut at = from;
     while let Some(dirty) = child.next_dirty(at) {
+        if dirty >= end {
+            return None;
+        }
         if child.keeps(dirty) || snapshot.keeps(dirty) {
             return Some(dirty);
         }
         at = child
-            .next_kept(dirty + 1)
-            .min(snapshot.next_kept(dirty + 1));
+            .next_kept(dirty + 1, end)
+            .min(snapshot.next_kept(dirty + 1, end));
     }
     None
 }

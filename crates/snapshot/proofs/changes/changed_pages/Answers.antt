@@ -4,18 +4,18 @@ use Rattle.std.specs.Prelude.{All}
 use Rattle.std.proofs.lemmas.List.Elements.{All-push}
 use Rattle.space_mem.specs.Held.{Held, IsClean}
 use Rattle.snapshot.specs.Pages.{AreChanged, IsMerged, IsNextToMerge, SameBytes}
-use Rattle.snapshot.proofs.Lists.{changed_more, changed_push, changed_start, none_merged, same_join, same_less}
+use Rattle.snapshot.proofs.Lists.{changed_more, changed_push, changed_start, none_merged, same_join}
 use Rattle.snapshot.proofs.Conflicts.{none_join, none_unchanged, fails_at}
 use Rattle.snapshot.proofs.changes.changed_pages.Goals.{then-branch+in_ok-push, else-branch}
 use Rattle.snapshot.proofs.changes.changed_pages.Goals as goal
 
 -- what the next page of two cursors is of their memories
-pub next_of : (child snapshot h s : Held) (from page : ℕ) → child ≡ h → snapshot ≡ s → IsNextToMerge child.memory snapshot.memory from page → IsNextToMerge h.memory s.memory from page
-next_of child snapshot h s from page of_child of_snapshot next = subst (λ (k : Held). IsNextToMerge k.memory s.memory from page) of_child (subst (λ (k : Held). IsNextToMerge child.memory k.memory from page) of_snapshot next)
+pub next_of : (child snapshot h s : Held) (from end page : ℕ) → child ≡ h → snapshot ≡ s → IsNextToMerge child.memory snapshot.memory from end page → IsNextToMerge h.memory s.memory from end page
+next_of child snapshot h s from end page of_child of_snapshot next = subst (λ (k : Held). IsNextToMerge k.memory s.memory from end page) of_child (subst (λ (k : Held). IsNextToMerge child.memory k.memory from end page) of_snapshot next)
 
 -- and where there is none
-pub none_of : (child snapshot h s : Held) (from : ℕ) → child ≡ h → snapshot ≡ s → SameBytes child.memory snapshot.memory from 1048576 → SameBytes h.memory s.memory from 1048576
-none_of child snapshot h s from of_child of_snapshot none = subst (λ (k : Held). SameBytes k.memory s.memory from 1048576) of_child (subst (λ (k : Held). SameBytes child.memory k.memory from 1048576) of_snapshot none)
+pub none_of : (child snapshot h s : Held) (from end : ℕ) → child ≡ h → snapshot ≡ s → SameBytes child.memory snapshot.memory from end → SameBytes h.memory s.memory from end
+none_of child snapshot h s from end of_child of_snapshot none = subst (λ (k : Held). SameBytes k.memory s.memory from end) of_child (subst (λ (k : Held). SameBytes child.memory k.memory from end) of_snapshot none)
 
 pub loop-page-init : goal.loop-page-init
 loop-page-init c = record {
@@ -28,30 +28,16 @@ loop-page-init c = record {
   none = λ a above below. absurd (omega arith);
 }
 
-pub returns-then-page-end-clause-changed : goal.returns-then-page-end-clause-changed
-returns-then-page-end-clause-changed c =
-    let l = c.loop-page in
-    changed_more c.args.child.now.memory c.args.snapshot.now.memory c.args.range.first l.from _ _ l.invariant.changed l.invariant.within
-    (same_less c.args.child.now.memory c.args.snapshot.now.memory l.from _ _ c.if-page-end.true (next_of _ _ c.args.child.now c.args.snapshot.now l.from _ l.invariant.child l.invariant.snapshot c.in-Some.ensures.some).same)
-
-pub returns-then-page-end-clause-sure : goal.returns-then-page-end-clause-sure
-returns-then-page-end-clause-sure c =
-    let l = c.loop-page in
-    let s = c.args.snapshot.now.memory in
-    let d = c.args.child.now.memory in
-    none_join c.args.agree s d c.args.parent.now.memory _ (4096 * l.from) _ l.invariant.none
-    (none_unchanged c.args.agree s d c.args.parent.now.memory l.from _ (same_less d s l.from _ _ c.if-page-end.true (next_of _ _ c.args.child.now c.args.snapshot.now l.from _ l.invariant.child l.invariant.snapshot c.in-Some.ensures.some).same))
-
 pub returns-in_err-merge_in_page-clause-conflict : goal.returns-in_err-merge_in_page-clause-conflict
 returns-in_err-merge_in_page-clause-conflict c =
     let l = c.loop-page in
     let s = c.args.snapshot.now.memory in
     let d = c.args.child.now.memory in
     let p = c.args.parent.now.memory in
-    let next = next_of _ _ c.args.child.now c.args.snapshot.now l.from c.in-Some.page l.invariant.child l.invariant.snapshot c.in-Some.ensures.some in
+    let next = next_of _ _ c.args.child.now c.args.snapshot.now l.from (c.args.range.first + c.args.range.count) c.in-Some.page l.invariant.child l.invariant.snapshot c.in-Some.ensures.some in
     let none = none_join c.args.agree s d p _ (4096 * l.from) _ l.invariant.none (none_unchanged c.args.agree s d p l.from c.in-Some.page next.same) in
     let told = err_from_is_err_and c.from_residual.result c.from_residual.ensures.1 in
-    rw (told.1, told.2) (fails_at c.args.agree s d p c.args.range.first c.args.range.count c.in-Some.page c.in_err-merge_in_page.field-0.0 (omega (arith, next.above, l.invariant.above)) c.if-page-end.false none c.in_err-merge_in_page.ensures.conflict)
+    rw (told.1, told.2) (fails_at c.args.agree s d p c.args.range.first c.args.range.count c.in-Some.page c.in_err-merge_in_page.field-0.0 (omega (arith, next.above, l.invariant.above)) next.below none c.in_err-merge_in_page.ensures.conflict)
 
 pub loop-page-preserved : goal.loop-page-preserved
 loop-page-preserved c =
@@ -59,11 +45,11 @@ loop-page-preserved c =
     let s = c.args.snapshot.now.memory in
     let d = c.args.child.now.memory in
     let p = c.args.parent.now.memory in
-    let next = next_of _ _ c.args.child.now c.args.snapshot.now l.from c.in-Some.page l.invariant.child l.invariant.snapshot c.in-Some.ensures.some in
+    let next = next_of _ _ c.args.child.now c.args.snapshot.now l.from (c.args.range.first + c.args.range.count) c.in-Some.page l.invariant.child l.invariant.snapshot c.in-Some.ensures.some in
     let page = c.in-Some.page in
     record {
       above = omega (arith, next.above, l.invariant.above);
-      within = omega arith;
+      within = omega (arith, next.below);
       child = c.next_page.ensures.same_child ∙ l.invariant.child;
       snapshot = c.next_page.ensures.same_snapshot ∙ l.invariant.snapshot;
       changed = elim c.if-branch.branch [
@@ -81,7 +67,7 @@ loop-page-preserved c =
             let is = ap (λ v. v.items) w.changed-is ∙ w.in_ok-push.ensures.items in
             subst (All (IsMerged c.args.child.now s c.args.range.first (c.args.range.first + c.args.range.count))) (sym is)
             (All-push (IsMerged c.args.child.now s c.args.range.first (c.args.range.first + c.args.range.count)) l.changed.items page l.invariant.each
-            (record { above = omega (arith, next.above, l.invariant.above); below = c.if-page-end.false; dirty = subst (λ k. IsClean k page → ⊥) l.invariant.child c.in-Some.ensures.dirty; differs = c.in_ok-merge_in_page.ensures.differs w.if-branch.true }))
+            (record { above = omega (arith, next.above, l.invariant.above); below = next.below; dirty = subst (λ k. IsClean k page → ⊥) l.invariant.child c.in-Some.ensures.dirty; differs = c.in_ok-merge_in_page.ensures.differs w.if-branch.true }))
         | else-branch w ↦ subst (All (IsMerged c.args.child.now s c.args.range.first (c.args.range.first + c.args.range.count))) (sym (ap (λ v. v.items) w.changed-is)) l.invariant.each
       ];
       none = none_join c.args.agree s d p _ (4096 * page) _
@@ -93,7 +79,7 @@ pub returns-clause-changed : goal.returns-clause-changed
 returns-clause-changed c =
     let l = c.loop-page in
     changed_more c.args.child.now.memory c.args.snapshot.now.memory c.args.range.first l.from _ _ l.invariant.changed l.invariant.within
-    (same_less c.args.child.now.memory c.args.snapshot.now.memory l.from _ 1048576 (omega (arith, c.args.range.within)) (none_of _ _ c.args.child.now c.args.snapshot.now l.from l.invariant.child l.invariant.snapshot (c.in_default.ensures.none refl)))
+    (none_of _ _ c.args.child.now c.args.snapshot.now l.from _ l.invariant.child l.invariant.snapshot (c.in_default.ensures.none refl))
 
 pub returns-clause-sure : goal.returns-clause-sure
 returns-clause-sure c =
@@ -101,4 +87,4 @@ returns-clause-sure c =
     let s = c.args.snapshot.now.memory in
     let d = c.args.child.now.memory in
     none_join c.args.agree s d c.args.parent.now.memory _ (4096 * l.from) _ l.invariant.none
-    (none_unchanged c.args.agree s d c.args.parent.now.memory l.from _ (same_less d s l.from _ 1048576 (omega (arith, c.args.range.within)) (none_of _ _ c.args.child.now c.args.snapshot.now l.from l.invariant.child l.invariant.snapshot (c.in_default.ensures.none refl))))
+    (none_unchanged c.args.agree s d c.args.parent.now.memory l.from _ (none_of _ _ c.args.child.now c.args.snapshot.now l.from _ l.invariant.child l.invariant.snapshot (c.in_default.ensures.none refl)))

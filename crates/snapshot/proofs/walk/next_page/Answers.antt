@@ -1,7 +1,7 @@
 use Rattle.std.proofs.Common.{◌+◌, arith, refl, subst, ◌∙◌}
 use Rattle.memory_model.specs.Ranges.{IsZeroPage}
 use Rattle.space_mem.specs.Held.{Held, AllClean, AllZero, IsNextDirty}
-use Rattle.snapshot.proofs.Lists.{same_clean, same_join, same_zero, zero_more}
+use Rattle.snapshot.proofs.Lists.{same_clean, same_join, same_less, same_zero, zero_more}
 use Rattle.snapshot.proofs.walk.next_page.Goals as goal
 
 pub returns-then-keeps-clause-some : goal.returns-then-keeps-clause-some
@@ -12,8 +12,8 @@ returns-then-keeps-clause-some c =
     let dirty = subst (λ k. IsNextDirty k at c.in-Some.dirty) c.loop-dirty.invariant.child c.in-Some.ensures.some in
     record {
       above = omega (arith, dirty.above, c.loop-dirty.invariant.above);
-      below = dirty.below;
-      same = same_join h.memory s c.args.n at c.in-Some.dirty c.loop-dirty.invariant.same
+      below = omega arith;
+      same = same_join h.memory s c.args.from at c.in-Some.dirty c.loop-dirty.invariant.same
           (same_clean h s at c.in-Some.dirty c.requires.covers dirty.clean (omega (arith, dirty.below)));
     }
 
@@ -35,7 +35,7 @@ loop-dirty-preserved c =
     let zero_snapshot = subst (λ (k : Held). AllZero k.memory (page + 1) c.next_kept-in-Some.result) is_snapshot of_snapshot.zero in
     record {
       above = omega (arith, of_child.above, of_snapshot.above, c.min-at.ensures, dirty.above, c.loop-dirty.invariant.above);
-      same = same_join h.memory s c.args.n at end c.loop-dirty.invariant.same
+      same = same_join h.memory s c.args.from at end c.loop-dirty.invariant.same
           (same_join h.memory s at page end (same_clean h s at page c.requires.covers dirty.clean (omega (arith, dirty.below)))
           (same_zero h.memory s page end
           (zero_more h.memory page c.next_kept.result end first_child zero_child (omega (arith, c.min-at.ensures)))
@@ -44,10 +44,20 @@ loop-dirty-preserved c =
       snapshot = of_snapshot.same ∙ is_snapshot;
     }
 
+pub returns-then-dirty-end-clause-none : goal.returns-then-dirty-end-clause-none
+returns-then-dirty-end-clause-none c _ =
+    let h = c.args.child.now in
+    let s = c.args.snapshot.now.memory in
+    let at = c.loop-dirty.at in
+    let dirty = subst (λ k. IsNextDirty k at c.in-Some.dirty) c.loop-dirty.invariant.child c.in-Some.ensures.some in
+    same_less h.memory s c.args.from c.args.end c.in-Some.dirty (omega arith)
+    (same_join h.memory s c.args.from at c.in-Some.dirty c.loop-dirty.invariant.same (same_clean h s at c.in-Some.dirty c.requires.covers dirty.clean (omega (arith, dirty.below))))
+
 pub returns-clause-none : goal.returns-clause-none
 returns-clause-none c _ =
     let h = c.args.child.now in
     let s = c.args.snapshot.now.memory in
     let at = c.loop-dirty.at in
-    same_join h.memory s c.args.n at 1048576 c.loop-dirty.invariant.same
-    (same_clean h s at 1048576 c.requires.covers (subst (λ k. AllClean k at 1048576) c.loop-dirty.invariant.child (c.in_default.ensures.none refl)) (omega arith))
+    same_less h.memory s c.args.from c.args.end 1048576 (omega (arith, c.requires.within))
+    (same_join h.memory s c.args.from at 1048576 c.loop-dirty.invariant.same
+    (same_clean h s at 1048576 c.requires.covers (subst (λ k. AllClean k at 1048576) c.loop-dirty.invariant.child (c.in_default.ensures.none refl)) (omega arith)))

@@ -4,8 +4,8 @@ use Rattle.snapshot.proofs.walk.next_page.Given as goal
 
 abbrev pub invariant-loop-dirty : goal.invariant-loop-dirty
 invariant-loop-dirty l = record {
-  above : l.fn.n ≤ l.at;
-  same : SameBytes l.fn.child.memory l.fn.snapshot.memory l.fn.n l.at;
+  above : l.fn.from ≤ l.at;
+  same : SameBytes l.fn.child.memory l.fn.snapshot.memory l.fn.from l.at;
   child : l.child ≡ l.fn.child;
   snapshot : l.snapshot ≡ l.fn.snapshot;
 }
