@@ -16,10 +16,9 @@ use std::alloc::AllocError;
 pub(crate) fn are_kept(memory: &Mem) -> bool
     ensures { IsFalse result → AllZero memory.now.memory first_page (slot_page slot_count) }
 {
-    match memory.next_kept(FIRST_PAGE) {
-        Some(page) => page < FIRST_PAGE + SLOT_PAGES * SLOT_COUNT,
-        None => false,
-    }
+    memory
+        .next_kept(FIRST_PAGE, FIRST_PAGE + SLOT_PAGES * SLOT_COUNT)
+        .is_some()
 }
 
 // Gives each file its base, in a memory that owns the headers of the slots in use.

@@ -1,9 +1,9 @@
 ghost use Rattle.std.specs.Prelude.{◌≡◌, ℕ, ◌+◌, ◌/◌, ◌%◌, ◌<◌, ◌≤◌, length};
 ghost use Rattle.file_model.specs.Sizes.{all_slots_size};
 ghost use Rattle.file_model.specs.Slots as slots;
-ghost use Rattle.memory_model.specs.Memory.{byte_at, bytes_from, with_byte, with_bytes};
+ghost use Rattle.memory_model.specs.Memory.{bytes_from, with_byte, with_bytes};
 ghost use Rattle.memory_model.specs.Sizes.{page_size};
-ghost use Rattle.space_mem.specs.Held.{HasNoneOf, KeepsMarks, Marks, Owns, with_written};
+ghost use Rattle.space_mem.specs.Held.{Marks, Owns, with_written};
 ghost use Rattle.space_model.specs.Files.{file_bytes};
 ghost use Rattle.memory_files.specs.Slots.{HasBytes};
 
@@ -48,33 +48,16 @@ pub(crate) fn write_byte(memory: &mut Mem, at: u32, value: u8)
 }
 
 // Writes the bytes at the addresses from one on. They stand in one page, which is owned.
-fn write_in_page(memory: &mut Mem, at: u32, run: &[u8])
+pub(crate) fn write_run(memory: &mut Mem, at: u32, run: &[u8])
     requires owned { Owns memory.old (at / page_size) }
     requires page { at % page_size + length run.now ≤ page_size }
-    ensures memory { memory.new.memory ≡ with_bytes memory.old.memory at run.now }
-    ensures owned { Owns memory.new (at / page_size) }
-    ensures beside { (page : ℕ) → HasNoneOf at (length run.now) page → KeepsMarks memory.old memory.new page }
+    ensures memory { memory.new ≡ record memory.old { memory = with_bytes memory.old.memory at run.now } }
+    ensures small { HasBytes memory.new.memory }
     ensures marks { Marks memory.old memory.new }
 {
     match memory.write_bytes(at, run) {
         Ok(()) => {}
         Err(_) => {}
     }
-}
-
-// Writes the bytes at the addresses from one on, one or more. They stand in one page, which is owned. That the page is dirty before, and stays so,
-// is told by what writes a byte: the first is written by itself before the others and again behind them.
-pub(crate) fn write_run(memory: &mut Mem, at: u32, run: &[u8])
-    requires owned { Owns memory.old (at / page_size) }
-    requires some { 0 < length run.now }
-    requires page { at % page_size + length run.now ≤ page_size }
-    ensures bytes { (a : ℕ) → byte_at memory.new.memory a ≡ byte_at (with_bytes memory.old.memory at run.now) a }
-    ensures permissions { memory.new.memory.permissions ≡ memory.old.memory.permissions }
-    ensures kept { (page : ℕ) → KeepsMarks memory.old memory.new page }
-    ensures small { HasBytes memory.new.memory }
-    ensures marks { Marks memory.old memory.new }
-{
-    write_byte(memory, at, run[0]);
-    write_in_page(memory, at, run);
-    write_byte(memory, at, run[0]);
+    memory.bounds();
 }

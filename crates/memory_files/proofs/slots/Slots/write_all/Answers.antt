@@ -1,5 +1,7 @@
-use Rattle.std.proofs.Common.{◌+◌, ◌∙◌, arith}
+use Rattle.std.proofs.Common.{ap, ◌+◌, ◌∙◌, arith}
 use Rattle.file_model.specs.Sizes.{first_address}
+use Rattle.memory_model.specs.Memory.{byte_at}
+use Rattle.space_mem.proofs.Kept.{keeps_memory}
 use Rattle.memory_files.proofs.Writes.{slot_owner}
 use Rattle.memory_files.proofs.PageRuns.{run_in_slots, rest_after, still_owned}
 use Rattle.memory_files.proofs.slots.Slots.write_all.Goals as goal
@@ -9,17 +11,19 @@ write_run-requires-clause-owned c =
     slot_owner c.args.self.now.memory c.args.self.now.ready c.args.self.now.headers c.args.offset c.args.self.now.owned c.args.self.now.headed c.requires.header c.requires.content
 
 pub invariant_of-self : goal.invariant_of-self
-invariant_of-self c = record {
-  owned = still_owned c.args.self.now.memory c.write_run.new.memory 16 c.args.self.now.ready c.write_run.ensures.kept c.args.self.now.owned;
-  headed = still_owned c.args.self.now.memory c.write_run.new.memory 1 c.args.self.now.headers c.write_run.ensures.kept c.args.self.now.headed;
-  within = c.args.self.now.within;
-  small = c.write_run.ensures.small;
-}
+invariant_of-self c =
+    let h = c.args.self.now.memory in
+    let g = c.write_run.new.memory in
+    record {
+      owned = still_owned h g 16 c.args.self.now.ready (λ page. keeps_memory h g _ page c.write_run.ensures.memory) c.args.self.now.owned;
+      headed = still_owned h g 1 c.args.self.now.headers (λ page. keeps_memory h g _ page c.write_run.ensures.memory) c.args.self.now.headed;
+      within = c.args.self.now.within;
+      small = c.write_run.ensures.small;
+    }
 
 pub returns-clause-bytes : goal.returns-clause-bytes
 returns-clause-bytes c = λ a.
-    c.write_run.ensures.bytes (first_address + a) ∙ run_in_slots c.args.self.now.memory.memory c.args.offset c.args.run.now a
+    ap (λ x. byte_at x.memory (first_address + a)) c.write_run.ensures.memory ∙ run_in_slots c.args.self.now.memory.memory c.args.offset c.args.run.now a
 
 pub returns-clause-kept : goal.returns-clause-kept
-returns-clause-kept c = rest_after c.args.self.now.memory c.write_run.new.memory c.args.offset c.args.run.now (omega (arith, c.requires.within, c.requires.page)) c.write_run.ensures.bytes
-    c.write_run.ensures.permissions c.write_run.ensures.kept c.write_run.ensures.marks
+returns-clause-kept c = rest_after c.args.self.now.memory c.write_run.new.memory c.args.offset c.args.run.now (omega (arith, c.requires.within, c.requires.page)) c.write_run.ensures.memory c.write_run.ensures.marks
