@@ -1,4 +1,4 @@
-ghost use Rattle.std.specs.Prelude.{◌≡◌, ℕ, ◌<◌, ◌≤◌, IfSome, IsTrue, None};
+ghost use Rattle.std.specs.Prelude.{◌≡◌, ℕ, ◌<◌, ◌≤◌, IfSome, IsFalse, IsTrue, None};
 ghost use Rattle.page_tree.specs.Blocks.{block_pages, page_in, permission_in};
 ghost use Rattle.page_tree.specs.BlockRefs.{AreWholeIn, ref_row};
 ghost use Rattle.page_tree.specs.Branches.{branch_pages, branch_blocks, block_at, IsUniformBranch};
@@ -28,10 +28,11 @@ impl Block {
     }
 
     // Whether a page is not kept and has this permission.
-    fn is_bare(&self, j: usize, permission: u8) -> bool
+    pub(crate) fn is_bare(&self, j: usize, permission: u8) -> bool
         requires { j < block_pages }
         ensures page { IsTrue result → page_in self.now j ≡ None }
         ensures permission { IsTrue result → permission_in self.now j ≡ permission }
+        ensures other { IsFalse result → page_in self.now j ≡ None → permission_in self.now j ≡ permission → ⊥ }
     {
         self.page(j).is_none() && self.permissions[j] == permission
     }

@@ -41,10 +41,13 @@ impl Block {
         ensures bare { IsBareStretch (block_row self.now) page result }
         ensures kept { result ≡ page → page_in self.now page ≡ None → ⊥ }
     {
-        if self.page(page).is_some() {
-            return page;
+        let permission = self.permissions[page];
+        for j in page..BLOCK_PAGES {
+            if !self.is_bare(j, permission) {
+                return j;
+            }
         }
-        page + 1
+        BLOCK_PAGES
     }
 }
 
