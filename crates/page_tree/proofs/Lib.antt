@@ -5,3 +5,4 @@ mod BlockRanges
 mod BranchRanges
 mod BlockEdits
 mod LimbEdits
+mod Blockwise

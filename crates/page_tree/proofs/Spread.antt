@@ -109,13 +109,13 @@ spread_branches {C} {A} P from to i a b get x rise last d f p =
       ]
     ]
 
-eq_same : (a b c d : ℕ) → (a ≡ b → c ≡ d) → (c ≡ d → a ≡ b) → nat_eq a b ≡ nat_eq c d
+pub eq_same : (a b c d : ℕ) → (a ≡ b → c ≡ d) → (c ≡ d → a ≡ b) → nat_eq a b ≡ nat_eq c d
 eq_same a b c d f g = elim (cases_eq a b) [
   | inl one ↦ let h : c ≡ d = f one in grind (arith, nat_tests)
   | inr two ↦ let h : c ≡ d → ⊥ = λ e. two (g e) in grind (arith, nat_tests)
 ]
 
-not_eq : (a b : ℕ) → (a ≡ b → ⊥) → nat_eq a b ≡ false
+pub not_eq : (a b : ℕ) → (a ≡ b → ⊥) → nat_eq a b ≡ false
 not_eq a b h = grind (arith, nat_tests)
 
 -- one page is another one, and those beside are the same

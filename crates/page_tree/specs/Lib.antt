@@ -8,3 +8,4 @@ pub mod TreeRefs
 pub mod Ready
 pub mod BlockRows
 pub mod Settled
+pub mod Blockwise

@@ -74,7 +74,7 @@ impl Branch {
 
     // What is kept of a block, shared.
     #[inline(always)]
-    fn share_at(&self, i: usize, alloc: Global) -> Result<BlockRef, AllocError>
+    pub(crate) fn share_at(&self, i: usize, alloc: Global) -> Result<BlockRef, AllocError>
         ensures same { IfOk result (λ copy. SameRef (block_at self.now i) copy) }
         ensures own { IfOk result (λ copy. SameOwn (block_at self.now i) copy) }
         ensures whole { AreWholeIn (block_at self.now i) → IfOk result (λ copy. AreWholeIn copy) }

@@ -6,6 +6,7 @@ mod block_ref;
 mod branch;
 mod branch_ref;
 mod clearing;
+mod moving;
 mod permitting;
 mod preparing;
 mod reading;
