@@ -1,6 +1,6 @@
 -- Pages of a source that stand in the place of others.
 use Rattle.std.specs.Prelude.{◌≡◌, ℕ, ◌+◌, ◌-◌, ◌*◌, ◌/◌, ◌%◌, ◌<◌, ◌≤◌, ◌⊎◌, Bool, true, false, cond, not, nat_lt, ◌&&◌, Result, Ok, Err, OnErr}
-use Rattle.std.proofs.Common.{refl, sym, ◌∙◌, ap, arith, inl, inr}
+use Rattle.std.proofs.Common.{refl, sym, ◌∙◌, ap, arith, inl, inr, eq-eqb}
 use Rattle.std.proofs.lemmas.Bool.{cases_lt}
 use Rattle.std.proofs.lemmas.Bool.Decides.{nat_tests}
 use Rattle.memory_model.specs.Sparse.{value_at}
@@ -8,7 +8,10 @@ use Rattle.memory_model.specs.Memory.{byte_at, permission_at}
 use Rattle.memory_model.specs.Ranges.{with_copies, with_row}
 use Rattle.memory_model.proofs.Rows.{value_at-row_key, value_at-row_before, value_at-row_after}
 use Rattle.page_tree.specs.declared.tree_ref.TreeRef.{TreeRef}
+use Rattle.page_tree.specs.declared.block_ref.BlockRef.{BlockRef}
 use Rattle.page_tree.specs.Blocks.{byte_in, within}
+use Rattle.page_tree.specs.BlockRefs.{ref_permission, ref_page}
+use Rattle.page_tree.specs.Blockwise.{IsBlockOf, IsBlockPutRow}
 use Rattle.page_tree.specs.Rows.{SameRow, SameOwners, IsTakenRow, IsPermittedRow}
 use Rattle.page_tree.specs.TreeRefs.{root_permission, root_page, root_own, root_row, AreWholeRoot, SameRoot}
 use Rattle.space_mem.specs.declared.table.PageTable.{PageTable}
@@ -200,3 +203,49 @@ unfolding with_row
 copied_none t source from first end e =
     let none : 0 ≡ end - first = omega arith in
     ap (with_copies (memory_of t) (memory_of source) from first) none
+
+-- a block is kept that is like a source's
+pub block_permission : (source ready new : TreeRef) (at to : ℕ) (block : BlockRef) → at % 64 ≡ 0 → to % 64 ≡ 0 → to + 64 ≤ 1048576 → IsBlockOf (root_row source) (at / 64) block → IsBlockPutRow 1048576 (to / 64) block (root_row ready) (root_row new)
+    → (j : ℕ) → j < 64 → root_permission new (to + j) ≡ root_permission source (at + j)
+block_permission source ready new at to block from first within one put j below =
+    let q : ℕ = (to + j) % 64 in
+    let here : (to + j) / 64 ≡ to / 64 = omega arith in
+    let same : q ≡ j = omega arith in
+    let there : 64 * (at / 64) + j ≡ at + j = omega arith in
+    put.permission (to + j) (omega arith) ∙ ap (λ b. cond b (ref_permission block q) (root_permission ready (to + j))) (eq-eqb ((to + j) / 64) (to / 64) here)
+    ∙ ap (ref_permission block) same ∙ one.permission j below ∙ ap (root_permission source) there
+
+pub block_bytes : (source ready new : TreeRef) (at to : ℕ) (block : BlockRef) → at % 64 ≡ 0 → to % 64 ≡ 0 → to + 64 ≤ 1048576 → IsBlockOf (root_row source) (at / 64) block → IsBlockPutRow 1048576 (to / 64) block (root_row ready) (root_row new)
+    → (j k : ℕ) → j < 64 → byte_in (root_page new (to + j)) k ≡ byte_in (root_page source (at + j)) k
+block_bytes source ready new at to block from first within one put j k below =
+    let q : ℕ = (to + j) % 64 in
+    let here : (to + j) / 64 ≡ to / 64 = omega arith in
+    let same : q ≡ j = omega arith in
+    let there : 64 * (at / 64) + j ≡ at + j = omega arith in
+    ap (λ o. byte_in o k) (put.page (to + j) (omega arith) ∙ ap (λ b. cond b (ref_page block q) (root_page ready (to + j))) (eq-eqb ((to + j) / 64) (to / 64) here))
+    ∙ ap (λ n. byte_in (ref_page block n) k) same ∙ one.byte j k below ∙ ap (λ n. byte_in (root_page source n) k) there
+
+-- and stands behind the pages that were moved before
+pub moved_block : (source made new : TreeRef) (at to from first before : ℕ) → to + 64 ≤ 1048576
+    → ((j : ℕ) → j < 64 → root_permission new (to + j) ≡ root_permission source (at + j))
+    → ((j k : ℕ) → j < 64 → byte_in (root_page new (to + j)) k ≡ byte_in (root_page source (at + j)) k)
+    → ((p : ℕ) → p < 1048576 → IsOutside to (to + 64) p → root_permission new p ≡ root_permission made p)
+    → ((p k : ℕ) → p < 1048576 → IsOutside to (to + 64) p → byte_in (root_page new p) k ≡ byte_in (root_page made p) k)
+    → at ≡ from + before → to ≡ first + before → HasMoved (root_row source) from first before (root_row made) → HasMoved (root_row source) from first (before + 64) (root_row new)
+moved_block source made new at to from first before within here bytes beside rest at_is to_is moved = record {
+  permission = λ k below. elim (cases_lt k before) [
+    | inl early ↦ beside (first + k) (omega arith) (inl (omega arith)) ∙ moved.permission k early
+    | inr late ↦
+        let e : first + k ≡ to + (k - before) = omega arith in
+        let f : at + (k - before) ≡ from + k = omega arith in
+        ap (root_permission new) e ∙ here (k - before) (omega arith) ∙ ap (root_permission source) f
+  ];
+  byte = λ k j below. elim (cases_lt k before) [
+    | inl early ↦ rest (first + k) j (omega arith) (inl (omega arith)) ∙ moved.byte k j early
+    | inr late ↦
+        let e : first + k ≡ to + (k - before) = omega arith in
+        let f : at + (k - before) ≡ from + k = omega arith in
+        ap (λ n. byte_in (root_page new n) j) e ∙ bytes (k - before) j (omega arith) ∙ ap (λ n. byte_in (root_page source n) j) f
+  ];
+  rest = λ p j low below. rest p j below (inr (omega arith)) ∙ moved.rest p j (omega arith) below;
+}

@@ -1,10 +1,10 @@
-ghost use Rattle.std.specs.Prelude.{◌≡◌, ℕ, ◌+◌, ◌-◌, ◌<◌, ◌≤◌, ◌==◌, cond, IfOk, OnOk, OnErr};
+ghost use Rattle.std.specs.Prelude.{◌≡◌, ℕ, ◌+◌, ◌-◌, ◌%◌, ◌<◌, ◌≤◌, ◌==◌, cond, IfOk, IsTrue, OnOk, OnErr};
 ghost use Rattle.memory_model.specs.Ranges.{with_copies};
 ghost use Rattle.memory_model.specs.Sizes.{pages};
-ghost use Rattle.page_tree.specs.Blocks.{byte_in, within, IsWhole};
+ghost use Rattle.page_tree.specs.Blocks.{block_pages, byte_in, within, IsWhole};
 ghost use Rattle.page_tree.specs.Trees.{tree_pages};
 ghost use Rattle.page_tree.specs.TreeRefs.{root_page, root_permission, root_row, AreWholeRoot};
-ghost use Rattle.space_mem.specs.Held.{KeepsMarksOutside, Marks};
+ghost use Rattle.space_mem.specs.Held.{IsOutside, KeepsMarksOutside, Marks};
 ghost use Rattle.space_mem.specs.Moves.{HasMoved};
 ghost use Rattle.space_mem.specs.Tables.{IsTable, held_of, memory_of};
 
@@ -13,7 +13,7 @@ use crate::memory::Mem;
 use crate::table::PageTable;
 use memory_model::PAGES;
 use page_store::PageRef;
-use page_tree::TreeRef;
+use page_tree::{BLOCK_PAGES, TreeRef};
 use std::alloc::{AllocError, Global};
 
 impl Mem {
@@ -116,6 +116,7 @@ fn move_pages(
 ) -> Result<TreeRef, AllocError>
     requires within { first + count ≤ tree_pages }
     requires in_range { from + count ≤ tree_pages }
+    requires whole { AreWholeRoot source.now }
     ensures moved { IfOk result (λ made. HasMoved (root_row source.now) from first count (root_row made)) }
     ensures whole { IfOk result (λ made. AreWholeRoot made) }
 {
@@ -134,8 +135,8 @@ fn move_pages(
     Ok(made)
 }
 
-// Makes some pages from `to` on, at most `count`, like a source's from `at` on, and tells how many. The pages from `to` on have no byte
-// other than 0 before.
+// Makes some pages from `to` on, at most `count`, like a source's from `at` on, and tells how many: a whole block where one begins at each
+// place. The pages from `to` on have no byte other than 0 before.
 fn move_some(
     made: &mut TreeRef,
     source: &TreeRef,
@@ -147,18 +148,56 @@ fn move_some(
     requires some { 0 < count }
     requires within { to + count ≤ tree_pages }
     requires in_range { at + count ≤ tree_pages }
+    requires whole { AreWholeRoot source.now }
     ensures some { IfOk result (λ done. 0 < done) }
     ensures most { IfOk result (λ done. done ≤ count) }
     ensures moved { IfOk result (λ done. (from first before : ℕ) → at ≡ from + before → to ≡ first + before → HasMoved (root_row source.now) from first before (root_row made.old) → HasMoved (root_row source.now) from first (before + done) (root_row made.new)) }
     ensures whole { AreWholeRoot made.old → AreWholeRoot made.new }
 {
     let bare = (source.bare_end(at) - at).min(count);
+    if bare < BLOCK_PAGES && begin_blocks(at, to) && count >= BLOCK_PAGES {
+        move_block(made, source, at, to, alloc)?;
+        return Ok(BLOCK_PAGES);
+    }
     if bare == 0 {
         move_page(made, source, at, to, alloc)?;
         return Ok(1);
     }
     move_bare(made, to, to + bare, source.permission(at), alloc)?;
     Ok(bare)
+}
+
+// Whether two pages each are the first of a block.
+fn begin_blocks(at: usize, to: usize) -> bool
+    ensures at { IsTrue result → at % block_pages ≡ 0 }
+    ensures to { IsTrue result → to % block_pages ≡ 0 }
+{
+    at % BLOCK_PAGES == 0 && to % BLOCK_PAGES == 0
+}
+
+// Gives the block that begins with the page `to` the pages of a source's block, which it shares.
+fn move_block(
+    made: &mut TreeRef,
+    source: &TreeRef,
+    at: usize,
+    to: usize,
+    alloc: Global,
+) -> Result<(), AllocError>
+    requires at { at % block_pages ≡ 0 }
+    requires to { to % block_pages ≡ 0 }
+    requires within { to + block_pages ≤ tree_pages }
+    requires in_range { at + block_pages ≤ tree_pages }
+    requires whole { AreWholeRoot source.now }
+    ensures here { OnOk result ((j : ℕ) → j < block_pages → root_permission made.new (to + j) ≡ root_permission source.now (at + j)) }
+    ensures bytes { OnOk result ((j k : ℕ) → j < block_pages → byte_in (root_page made.new (to + j)) k ≡ byte_in (root_page source.now (at + j)) k) }
+    ensures beside { OnOk result ((p : ℕ) → p < tree_pages → IsOutside to (to + block_pages) p → root_permission made.new p ≡ root_permission made.old p) }
+    ensures rest { OnOk result ((p k : ℕ) → p < tree_pages → IsOutside to (to + block_pages) p → byte_in (root_page made.new p) k ≡ byte_in (root_page made.old p) k) }
+    ensures whole { AreWholeRoot made.old → AreWholeRoot made.new }
+{
+    let block = source.share_block(at / BLOCK_PAGES, alloc)?;
+    made.prepare(to, to + BLOCK_PAGES, alloc)?;
+    made.put_block(to / BLOCK_PAGES, block);
+    Ok(())
 }
 
 // Gives the pages from `to` to before `end` a permission.
