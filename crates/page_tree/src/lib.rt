@@ -7,6 +7,7 @@ mod branch;
 mod branch_ref;
 mod clearing;
 mod moving;
+mod owners;
 mod permitting;
 mod preparing;
 mod reading;
