@@ -24,22 +24,6 @@ use Rattle.space_mem.specs.Held.{Owns}
 use Rattle.space_mem.specs.Tables.{held_of}
 use Rattle.space_mem.proofs.Tables.{owned_at, owned_high, owns_own, own_owns}
 
--- a page of which nothing is kept is not owned
-ref_bare : (r : BlockRef) (j : ℕ) → ref_page r j ≡ None → ref_own r j ≡ false
-ref_bare (block_ref.TheVariants.Uniform p) j e = refl
-ref_bare (block_ref.TheVariants.Shared b) j e = refl
-ref_bare (block_ref.TheVariants.Own b) j e = ap is_own_in e
-
-limb_bare : (r : BranchRef) (j : ℕ) → limb_page r j ≡ None → limb_own r j ≡ false
-limb_bare (branch_ref.TheVariants.Uniform p) j e = refl
-limb_bare (branch_ref.TheVariants.Shared b) j e = refl
-limb_bare (branch_ref.TheVariants.Own b) j e = ref_bare (block_at b.value (j / 64)) (j % 64) e
-
-pub root_bare : (t : TreeRef) (p : ℕ) → root_page t p ≡ None → root_own t p ≡ false
-root_bare (tree_ref.TheVariants.Uniform q) p e = refl
-root_bare (tree_ref.TheVariants.Shared b) p e = refl
-root_bare (tree_ref.TheVariants.Own b) p e = limb_bare (branch_at b.value (p / 8192)) (p % 8192) e
-
 -- in a range that is ready, a page is owned where its bytes are its holder's own
 block_ready : (from to : ℕ) (r : BlockRef) (j : ℕ) → ReadyBlock from to r → ref_own r j ≡ is_own_in (ref_page r j)
 block_ready from to (block_ref.TheVariants.Uniform q) j ready = refl
@@ -74,10 +58,10 @@ put_back_less r t u s page was now within ready kept shared same out back p belo
 ]
 
 -- the walk has come to a page: none is owned before it
-pub none_until : (t : TreeRef) (first at page : ℕ) → ((p : ℕ) → first ≤ p → p < at → root_own t p ≡ false) → ((p : ℕ) → at ≤ p → p < page → root_page t p ≡ None) → (p : ℕ) → first ≤ p → p < page → root_own t p ≡ false
+pub none_until : (t : TreeRef) (first at page : ℕ) → ((p : ℕ) → first ≤ p → p < at → root_own t p ≡ false) → ((p : ℕ) → at ≤ p → p < page → root_own t p ≡ false) → (p : ℕ) → first ≤ p → p < page → root_own t p ≡ false
 none_until t first at page none least p low high = elim (cases_lt p at) [
   | inl before ↦ none p low before
-  | inr from ↦ root_bare t p (least p from high)
+  | inr from ↦ least p from high
 ]
 
 not_more : (b c : Bool) → (b ≡ true → c ≡ true) → c ≡ false → b ≡ false
@@ -85,7 +69,7 @@ not_more true c less none = sym (less refl) ∙ none
 not_more false c less none = refl
 
 -- and it has made that page one that can be shared
-pub none_through : (t s : TreeRef) (first at page : ℕ) → page < 1048576 → ((p : ℕ) → first ≤ p → p < at → root_own t p ≡ false) → ((p : ℕ) → at ≤ p → p < page → root_page t p ≡ None) → root_own s page ≡ false → ((p : ℕ) → p < 1048576 → root_own s p ≡ true → root_own t p ≡ true)
+pub none_through : (t s : TreeRef) (first at page : ℕ) → page < 1048576 → ((p : ℕ) → first ≤ p → p < at → root_own t p ≡ false) → ((p : ℕ) → at ≤ p → p < page → root_own t p ≡ false) → root_own s page ≡ false → ((p : ℕ) → p < 1048576 → root_own s p ≡ true → root_own t p ≡ true)
     → (p : ℕ) → first ≤ p → p < page + 1 → root_own s p ≡ false
 none_through t s first at page within none least here less p low high = elim (cases_eq p page) [
   | inl last ↦ ap (root_own s) last ∙ here

@@ -1,4 +1,4 @@
-ghost use Rattle.std.specs.Prelude.{◌≡◌, ℕ, ◌+◌, ◌<◌, ◌≤◌, OnOk, IsFalse, false, true};
+ghost use Rattle.std.specs.Prelude.{◌≡◌, ℕ, ◌+◌, ◌<◌, ◌≤◌, OnOk, false, true};
 ghost use Rattle.memory_model.specs.Sizes.{pages};
 ghost use Rattle.memory_model.specs.Sparse.{value_at};
 ghost use Rattle.page_tree.specs.Ready.{ReadyRoot};
@@ -43,7 +43,7 @@ impl PageTable {
     }
 }
 
-// Makes each page of a tree that is kept, from `first` to before `end`, one that can be shared. At an error some of them are.
+// Makes each page of a tree that is owned, from `first` to before `end`, one that can be shared. At an error some of them are.
 fn freeze_pages(
     tree: &mut TreeRef,
     first: usize,
@@ -57,41 +57,16 @@ fn freeze_pages(
     ensures whole { AreWholeRoot tree.old → AreWholeRoot tree.new }
 {
     let mut at = first;
-    while let Some(page) = tree.next_kept(at, end) {
+    while let Some(page) = tree.next_own(at, end) {
         freeze_page(tree, page, alloc)?;
         at = page + 1;
     }
     Ok(())
 }
 
-// Makes a page of a tree, if it is kept, one that can be shared. At the one error, want of memory, it is as it was.
+// Takes a page out of a tree that is ready for it, makes it one that can be shared, and puts it back. At the one error, want of memory, it is
+// as it was.
 fn freeze_page(tree: &mut TreeRef, page: usize, alloc: Global) -> Result<(), AllocError>
-    requires { page < tree_pages }
-    ensures same { SameRow tree_pages (root_row tree.old) (root_row tree.new) }
-    ensures none { OnOk result (root_own tree.new page ≡ false) }
-    ensures less { (p : ℕ) → p < tree_pages → root_own tree.new p ≡ true → root_own tree.old p ≡ true }
-    ensures whole { AreWholeRoot tree.old → AreWholeRoot tree.new }
-{
-    if !is_kept_own(tree, page) {
-        return Ok(());
-    }
-    tree.prepare(page, page + 1, alloc)?;
-    freeze_kept(tree, page, alloc)
-}
-
-// Whether a page's bytes are its holder's own; where they are not, the page is not owned.
-fn is_kept_own(tree: &TreeRef, page: usize) -> bool
-    requires { page < tree_pages }
-    ensures { IsFalse result → root_own tree.now page ≡ false }
-{
-    match tree.page(page) {
-        Some(kept) => kept.is_own(),
-        None => false,
-    }
-}
-
-// Takes a page out of a tree that is ready for it, makes it one that can be shared, and puts it back.
-fn freeze_kept(tree: &mut TreeRef, page: usize, alloc: Global) -> Result<(), AllocError>
     requires within { page < tree_pages }
     requires ready { ReadyRoot page (page + 1) tree.old }
     ensures same { SameRow tree_pages (root_row tree.old) (root_row tree.new) }

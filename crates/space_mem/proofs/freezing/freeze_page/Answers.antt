@@ -1,6 +1,6 @@
 use Rattle.std.proofs.Common.{ℕ, Result, Ok, Err}
 use Rattle.space_mem.proofs.Freezes.{put_back_less}
-use Rattle.space_mem.proofs.freezing.freeze_kept.Goals as goal
+use Rattle.space_mem.proofs.freezing.freeze_page.Goals as goal
 
 pub returns-in-Ok-clause-less : goal.returns-in-Ok-clause-less
 returns-in-Ok-clause-less c =
