@@ -9,3 +9,4 @@ pub mod Following
 pub mod Advancing
 pub mod Caching
 pub mod Marking
+pub mod Leaving

@@ -26,13 +26,3 @@ wants_memory takes (traps number value) e r s m n h = absurd h
 pub executes_more : (count : ℕ) (r q s : Registers) (m k n : Memory) (takes : Bool) → Executes count r m q k
     → Steps with_number takes (outcome (view_of k) q) (Ok Next) q k s n → Executes (count + 1) r m s n
 executes_more count r q s m k n takes h step = rw add-one (q, k, h, step_is_done takes _ q s k n step)
-
-pub executes_on : (a b : ℕ) (r q s : Registers) (m k n : Memory) → Executes a r m q k → Executes b q k s n → Executes (a + b) r m s n
-executes_on a zero r q s m k n f g = rw add-zero (rw g.0 (rw g.1 f))
-executes_on a (suc b) r q s m k n f g = rw add-suc (g.0, g.1, executes_on a b r q g.0 m k g.1 f g.2, g.3)
-
-pub ends_on : (a b budget : ℕ) (e : End) (o : Outcome) → a ≤ budget → Ends e b (budget - a) o → Ends e (a + b) budget o
-ends_on a b budget ends.Budget o h f = omega (arith, h, f)
-ends_on a b budget ends.Call o h f = (omega (arith, h, f.0), f.1)
-ends_on a b budget (ends.Trap number value) o h f = (omega (arith, h, f.0), f.1)
-ends_on a b budget ends.Memory o h f = (omega (arith, h, f.0), f.1)

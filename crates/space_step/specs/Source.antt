@@ -13,6 +13,10 @@ use Rattle.instruction_model.specs.Outcome.{View, Registers, traps, view_of, out
 abbrev pub IsKnown : View → ℕ → Instruction → Type 0
 IsKnown v a i = (v.may_fetch a ≡ true) × (instruction_of (number_from v.byte Four a) ≡ Some i)
 
+-- no instruction stands at an address
+abbrev pub HasNone : View → ℕ → Type 0
+HasNone v a = (i : Instruction) → a % 4 ≡ 0 → IsKnown v a i → ⊥
+
 -- where pc is this address, the outcome is that of the instruction
 abbrev pub StandsAt : View → ℕ → Instruction → Type 0
 StandsAt v a i = (r : Registers) → r.pc ≡ a → outcome v r ≡ perform i v r

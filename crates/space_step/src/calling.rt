@@ -1,13 +1,15 @@
-ghost use Rattle.std.specs.Prelude.{◌≡◌, ◌-◌, ◌≤◌};
+ghost use Rattle.std.specs.Prelude.{◌≡◌, false, ◌-◌, ◌≤◌};
 ghost use Rattle.call_model.specs.Limits.{greatest_depth, levels_below};
-ghost use Rattle.instruction_model.specs.Outcome.{calls, view_of, outcome};
+ghost use Rattle.instruction_model.specs.Outcome.{View, calls, view_of, outcome};
 ghost use Rattle.space_model.specs.Change.{after_payment, after_success, stop};
 ghost use Rattle.space_model.specs.Event as event;
 ghost use Rattle.space_model.specs.Event.{MayPay};
+ghost use Rattle.space_step.specs.Calls.{may_write};
 ghost use Rattle.space_step.specs.Steps.{Acts, Steps};
 
 use crate::event::Next;
 use crate::files::file_call;
+use crate::source::Source;
 use root_device::device_call;
 use space_model::{Cause, Refusal};
 use space_tree::Top;
@@ -23,13 +25,31 @@ fn ret(top: &mut Top, value: u32)
     top.stop(Cause::Ret, value);
 }
 
+// Whether a call may write to the memory of its space.
+fn may_write(call: &Call) -> bool
+    ensures { result ≡ may_write call.now }
+{
+    matches!(call, Call::ConsoleIn { .. } | Call::File(_))
+}
+
+// Has the source forget all, before a call that may write to memory.
+fn prepare<S: Source>(source: &mut S, call: &Call)
+    ensures { (u v : View) → (may_write call.now ≡ false → v ≡ u) → S.agrees source.old u → S.agrees source.new v }
+{
+    if may_write(call) {
+        source.forget_all();
+    }
+}
+
 // What a call does, which is paid for. A call that meets children is left to do.
-#[tactic(auto, using(crate::proofs::Answers::device_is_local))]
-fn act(top: &mut Top, accepted: AcceptedCall) -> Result<Next, AllocError>
+#[tactic(auto, using(crate::proofs::Answers::device_is_local, crate::proofs::Leaving::device_call_leaves))]
+fn act<S: Source>(source: &mut S, top: &mut Top, accepted: AcceptedCall) -> Result<Next, AllocError>
     requires { MayPay top.old }
-    ensures { Acts (event.effect_of top.old accepted) result top.old top.new }
+    ensures acts { Acts (event.effect_of top.old accepted) result top.old top.new }
+    ensures agrees { S.agrees source.old (view_of top.old.memory) → S.agrees source.new (view_of top.new.memory) }
 {
     let call = accepted.call();
+    prepare(source, &call);
     match call {
         Call::Ret { value } => ret(top, value),
         Call::File(call) => file_call(top, call)?,
@@ -42,12 +62,17 @@ fn act(top: &mut Top, accepted: AcceptedCall) -> Result<Next, AllocError>
 }
 
 // As `act`, of what registers say, which may fail a test.
-fn act_as_read(top: &mut Top, reading: Result<AcceptedCall, Badcall>) -> Result<Next, AllocError>
+fn act_as_read<S: Source>(
+    source: &mut S,
+    top: &mut Top,
+    reading: Result<AcceptedCall, Badcall>,
+) -> Result<Next, AllocError>
     requires { MayPay top.old }
-    ensures { Acts (event.by_reading top.old reading) result top.old top.new }
+    ensures acts { Acts (event.by_reading top.old reading) result top.old top.new }
+    ensures agrees { S.agrees source.old (view_of top.old.memory) → S.agrees source.new (view_of top.new.memory) }
 {
     match reading {
-        Ok(accepted) => act(top, accepted),
+        Ok(accepted) => act(source, top, accepted),
         Err(Badcall(test)) => {
             top.trap(Refusal {
                 cause: Cause::Badcall,
@@ -62,12 +87,13 @@ fn act_as_read(top: &mut Top, reading: Result<AcceptedCall, Badcall>) -> Result<
 /// call that meets a child, which is left to do.
 #[inline(never)]
 #[tactic(auto, using(crate::proofs::CallEvents::call_steps))]
-pub(crate) fn call(top: &mut Top, depth: u8) -> Result<Next, AllocError>
+pub(crate) fn call<S: Source>(source: &mut S, top: &mut Top, depth: u8) -> Result<Next, AllocError>
     requires depth { depth ≤ greatest_depth }
     requires may_pay { MayPay top.old }
     requires calls { outcome (view_of top.old.memory) top.old.registers ≡ calls }
-    ensures { Steps (levels_below depth) result top.old top.new }
+    ensures steps { Steps (levels_below depth) result top.old top.new }
+    ensures agrees { S.agrees source.old (view_of top.old.memory) → S.agrees source.new (view_of top.new.memory) }
 {
     let reading = read_call(&top.registers.x, top.has_devices(), depth);
-    act_as_read(top, reading)
+    act_as_read(source, top, reading)
 }

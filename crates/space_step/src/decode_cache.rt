@@ -1,43 +1,48 @@
-ghost use Rattle.std.specs.Prelude.{◌≡◌, ℕ, ◌+◌, ◌*◌, ◌/◌, ◌%◌, ◌^◌, ◌<◌, length, IfErr, IsOk, IsTrue};
+ghost use Rattle.std.specs.Prelude.{◌≡◌, ℕ, ◌+◌, ◌-◌, ◌*◌, ◌/◌, ◌%◌, ◌^◌, ◌<◌, ◌≤◌, true, false, IsTrue};
 ghost use Rattle.instruction_model.specs.Form.{HasFields};
 ghost use Rattle.instruction_model.specs.Outcome.{View, view_of};
-ghost use Rattle.space_step.specs.Source.{IsKnown, TrapsAt};
-ghost use Rattle.space_step.specs.Cache.{Agrees, Hits, Lacks, place};
+ghost use Rattle.space_step.specs.Source.{IsKnown, HasNone};
+ghost use Rattle.space_step.specs.Cache.{Agrees, Hits, IsBounded, Lacks, place};
 
-use crate::source::{Source, Trap, decoded_at};
+use crate::source::{Source, Trap, decoded_at, trap_at};
 use rv_decode::{Instr, Instruction};
 use space_mem::Mem;
+use std::alloc::{AllocError, Global};
+use std::marker::Model;
 
 /// How many entries a cache has. Words whose addresses are a multiple of four times as many apart share an entry.
-pub(crate) const ENTRIES: usize = 1024;
+pub(crate) const ENTRIES: usize = 16384;
 
-// The tag of an entry that keeps nothing: no instruction stands at this address.
-const EMPTY: u32 = 1;
+// How many keys a generation has: one for each address.
+const KEYS: u64 = 4294967296;
 
-/// A decoded instruction, and its tag: the address of its word.
+// The key of an entry that keeps nothing: it is of no generation.
+const EMPTY: u64 = 0;
+
+/// A decoded instruction, and its key: the generation in which it was decoded, and the address of its word.
 #[derive(Clone, Copy)]
 pub(crate) struct Entry {
-    tag: u32,
+    key: u64,
     instr: Instr,
 }
 
 impl Entry {
     /// An entry that keeps nothing.
-    #[inline(always)]
     pub(crate) fn empty() -> Entry
-        ensures { result.tag % 4 ≡ 1 }
+        ensures { result.key ≡ 0 }
     {
         Entry {
-            tag: EMPTY,
+            key: EMPTY,
             instr: Instr::new(Instruction::Fence),
         }
     }
 }
 
-/// A direct-mapped cache of decoded instructions.
+/// A direct-mapped table of decoded instructions. What it keeps is what it has learnt in the present generation, whose keys begin at `first`.
 #[derive(Drop)]
-pub(crate) struct DecodeCache {
-    pub(crate) entries: [Entry; ENTRIES],
+pub(crate) struct Table {
+    first: u64,
+    entries: [Entry; ENTRIES],
 }
 
 // The place of the entry for the word of an address.
@@ -48,51 +53,72 @@ fn place_of(at: u32) -> usize
     (at / 4) as usize % ENTRIES
 }
 
-impl DecodeCache {
+impl Table {
+    // A table that keeps nothing.
+    #[inline(never)]
+    fn empty() -> Table
+        ensures bounded { IsBounded result.first result.entries }
+        ensures nothing { (v : View) → Agrees v result }
+    {
+        Table {
+            first: KEYS,
+            entries: [Entry::empty(); ENTRIES],
+        }
+    }
+
+    // The key of an address in this generation.
+    #[inline(always)]
+    fn key_of(&self, at: u32) -> u64
+        ensures { self.now.first ≤ 2 ^ 64 - 2 ^ 32 → result ≡ self.now.first + at }
+    {
+        self.first.wrapping_add(u64::from(at))
+    }
+
     // Whether the instruction at an address is kept.
     #[inline(always)]
     fn hits(&self, at: u32) -> bool
-        ensures { IsTrue result → Hits self.now.entries at }
+        ensures { self.now.first ≤ 2 ^ 64 - 2 ^ 32 → IsTrue result → Hits self.now at }
     {
-        at % 4 == 0 && self.entries[place_of(at)].tag == at
+        self.entries[place_of(at)].key == self.key_of(at)
     }
 
     // The instruction at an address, where it is kept.
     #[inline(always)]
     fn kept(&self, at: u32) -> Instruction
         ensures fields { HasFields result }
-        ensures known { (v : View) → Agrees v self.now.entries → Hits self.now.entries at → IsKnown v at result }
+        ensures known { (v : View) → Agrees v self.now → Hits self.now at → (at % 4 ≡ 0) × IsKnown v at result }
     {
         self.entries[place_of(at)].instr.instruction()
     }
 
-    // Keeps the instruction at an address, unless a trap stands there.
+    // Keeps the instruction at an address, if one stands there.
     #[inline(never)]
-    fn learn(&mut self, memory: &Mem, at: u32) -> Result<(), Trap>
-        requires { Agrees (view_of memory.now.memory) self.old.entries }
-        ensures agrees { Agrees (view_of memory.now.memory) self.new.entries }
-        ensures learnt { IsOk result → Hits self.new.entries at }
-        ensures trap { IfErr result (λ t. TrapsAt (view_of memory.now.memory) at t.number t.value) }
+    fn learn(&mut self, memory: &Mem, at: u32) -> bool
+        requires { Agrees (view_of memory.now.memory) self.old }
+        ensures agrees { Agrees (view_of memory.now.memory) self.new }
+        ensures learnt { result ≡ true → Hits self.new at }
+        ensures none { result ≡ false → HasNone (view_of memory.now.memory) at }
     {
         match decoded_at(memory, at) {
             Ok(instr) => {
-                self.entries[place_of(at)] = Entry { tag: at, instr };
-                Ok(())
+                let key = self.key_of(at);
+                self.entries[place_of(at)] = Entry { key, instr };
+                true
             }
-            Err(trap) => Err(trap),
+            Err(_) => false,
         }
     }
 
-    // Has the instruction at an address kept, unless a trap stands there.
+    // Has the instruction at an address kept, if one stands there.
     #[inline(always)]
-    fn find(&mut self, memory: &Mem, at: u32) -> Result<(), Trap>
-        requires { Agrees (view_of memory.now.memory) self.old.entries }
-        ensures agrees { Agrees (view_of memory.now.memory) self.new.entries }
-        ensures found { IsOk result → Hits self.new.entries at }
-        ensures trap { IfErr result (λ t. TrapsAt (view_of memory.now.memory) at t.number t.value) }
+    fn find(&mut self, memory: &Mem, at: u32) -> bool
+        requires { Agrees (view_of memory.now.memory) self.old }
+        ensures agrees { Agrees (view_of memory.now.memory) self.new }
+        ensures found { result ≡ true → Hits self.new at }
+        ensures none { result ≡ false → HasNone (view_of memory.now.memory) at }
     {
         if self.hits(at) {
-            return Ok(());
+            return true;
         }
         self.learn(memory, at)
     }
@@ -100,32 +126,81 @@ impl DecodeCache {
     // Keeps the word of an address no longer.
     #[inline(always)]
     fn invalidate(&mut self, at: u32)
-        ensures agrees { (v : View) → Agrees v self.old.entries → Agrees v self.new.entries }
-        ensures lacks { (v : View) → Agrees v self.old.entries → Lacks self.new.entries at }
+        ensures agrees { (v : View) → Agrees v self.old → Agrees v self.new }
+        ensures lacks { (v : View) → Agrees v self.old → Lacks self.new at }
     {
         let place = place_of(at);
-        if self.entries[place].tag == at / 4 * 4 {
-            self.entries[place].tag = EMPTY;
+        if self.entries[place].key == self.key_of(at / 4 * 4) {
+            self.entries[place].key = EMPTY;
+        }
+    }
+
+    // Empties all entries.
+    #[inline(never)]
+    fn clear(&mut self)
+        ensures { (v : View) → Agrees v self.new }
+    {
+        *self = Table::empty();
+    }
+
+    /// Begins a new generation, in which nothing is kept yet.
+    pub(crate) fn renew(&mut self)
+        ensures { IsBounded self.old.first self.old.entries → (v : View) → Agrees v self.new }
+    {
+        if self.first < u64::MAX - 2 * KEYS {
+            self.first += KEYS;
+        } else {
+            self.clear();
         }
     }
 }
 
-impl Source for DecodeCache {
+impl Source for Table {
     ghost use Rattle.space_step.specs.Cache.{Agrees};
 
-    ghost agrees = { λ s v. Agrees v s.entries };
+    ghost agrees = { λ s v. Agrees v s };
 
     #[inline(always)]
     #[tactic(auto, using(crate::proofs::Caching::known_stands))]
     fn instruction_at(&mut self, memory: &Mem, at: u32) -> Result<Instruction, Trap> {
-        match self.find(memory, at) {
-            Ok(()) => Ok(self.kept(at)),
-            Err(trap) => Err(trap),
+        if self.find(memory, at) {
+            Ok(self.kept(at))
+        } else {
+            Err(trap_at(memory, at))
         }
     }
 
     #[inline(always)]
     fn forget(&mut self, at: u32) {
         self.invalidate(at);
+    }
+
+    fn forget_all(&mut self) {
+        self.renew();
+    }
+}
+
+/// Decoded instructions of the memory of one space: what a word decodes to is kept until a store, or an event that may write memory otherwise.
+/// Each `advance` begins with nothing kept, so one cache serves any spaces in turn.
+#[derive(Drop)]
+pub struct DecodeCache {
+    pub(crate) table: Box<Table, Global>,
+}
+
+impl Model for DecodeCache {
+    ghost use Rattle.space_step.specs.Cache.{IsBounded};
+
+    ghost Value = { Unit {0} };
+
+    ghost view = { λ c. tt };
+
+    ghost invariant = { λ c. IsBounded c.table.value.first c.table.value.entries };
+}
+
+impl DecodeCache {
+    /// A cache that keeps nothing, of some 256 KB. Its one error is want of memory.
+    pub fn new(alloc: Global) -> Result<DecodeCache, AllocError> {
+        let table = Box::new(alloc, Table::empty())?;
+        Ok(DecodeCache { table })
     }
 }

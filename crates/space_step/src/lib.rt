@@ -13,6 +13,7 @@ mod source;
 mod stepping;
 mod stretch;
 
+pub use decode_cache::DecodeCache;
 pub use event::{Advance, Next};
 pub use peeking::peek;
 pub use run::{Run, run_local};

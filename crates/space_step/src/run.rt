@@ -4,6 +4,7 @@ ghost use Rattle.space_model.specs.Event.{next, IsNotLocal};
 ghost use Rattle.space_model.specs.Sound.{IsSoundTop};
 ghost use Rattle.space_step.specs.Run.{IsRun};
 
+use crate::decode_cache::DecodeCache;
 use crate::event::Advance;
 use crate::running::advance;
 use space_tree::{Top, copy_top};
@@ -81,7 +82,12 @@ impl Run {
 /// Runs a space at a depth of at most 8: at most as many local events as the quantum, which is at least 1, and fewer only where
 /// what is next is no local event. The run's start is a copy. Its one error is want of memory, for the copy or for an event.
 #[tactic(auto, using(crate::proofs::Advancing::ended_within, crate::proofs::Advancing::ended_early))]
-pub fn run_local(mut top: Top, depth: u8, quantum: u32) -> Result<Run, AllocError>
+pub fn run_local(
+    mut top: Top,
+    depth: u8,
+    quantum: u32,
+    cache: &mut DecodeCache,
+) -> Result<Run, AllocError>
     requires depth { depth ≤ greatest_depth }
     requires quantum { 1 ≤ quantum }
     ensures depth { IfOk result (λ r. r.depth ≡ depth) }
@@ -92,7 +98,7 @@ pub fn run_local(mut top: Top, depth: u8, quantum: u32) -> Result<Run, AllocErro
     ensures sound { (fuel : ℕ) (root : Bool) → IsSoundTop fuel root top → IfOk result (λ r. IsSoundTop fuel root r.top) }
 {
     let start = copy_top(&mut top)?;
-    let Advance { ran, next } = advance(&mut top, depth, quantum)?;
+    let Advance { ran, next } = advance(&mut top, depth, quantum, cache)?;
     match next {
         Some(_) => Ok(Run {
             depth,

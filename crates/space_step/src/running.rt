@@ -8,8 +8,10 @@ ghost use Rattle.space_step.specs.Running.{Advances, Goes};
 ghost use Rattle.space_step.specs.Steps.{Steps, IsNextLocal};
 
 use crate::calling::call;
+use crate::decode_cache::DecodeCache;
 use crate::event::{Advance, Next};
 use crate::paying::{budget, run_out};
+use crate::source::{Source, Uncached};
 use crate::stretch::{End, Stretch, execute};
 use space_model::{Refusal, Status};
 use space_tree::Top;
@@ -30,7 +32,8 @@ pub(crate) enum Progress {
 fn trap(top: &mut Top, number: u8, value: u32)
     requires may_pay { MayPay top.old }
     requires traps { outcome (view_of top.old.memory) top.old.registers ≡ traps number value }
-    ensures { (levels : ℕ) → next levels top.old ≡ moves top.new }
+    ensures next { (levels : ℕ) → next levels top.old ≡ moves top.new }
+    ensures memory { top.new.memory ≡ top.old.memory }
 {
     top.trap(Refusal {
         cause: cause_of(u32::from(number)),
@@ -40,31 +43,35 @@ fn trap(top: &mut Top, number: u8, value: u32)
 
 // Instructions of a space that can pay for so many, up to a call or a trap, paid for.
 #[tactic(auto, using(space_mem::proofs::Dirty::covers_in_after))]
-fn execute_paid(top: &mut Top, budget: u32) -> Stretch
+fn execute_paid<S: Source>(source: &mut S, top: &mut Top, budget: u32) -> Stretch
+    requires agrees { S.agrees source.old (view_of top.old.memory) }
     requires running { top.old.status ≡ Status.Running }
     requires pays { Pays budget top.old }
     ensures within { result.count ≤ budget }
     ensures follows { (levels : ℕ) → Follows levels result.count top.old top.new }
     ensures may_pay { result.count < budget → MayPay top.new }
     ensures end { Ends result.end result.count budget (outcome (view_of top.new.memory) top.new.registers) }
+    ensures agrees { S.agrees source.new (view_of top.new.memory) }
 {
-    let stretch = execute(&mut top.registers, &mut top.memory, budget);
+    let stretch = execute(source, &mut top.registers, &mut top.memory, budget);
     top.pay(stretch.count);
     stretch
 }
 
 // Local events of a space that can pay for so many, at least one: instructions, and the call or the trap that ends them.
-fn run_stretch(top: &mut Top, depth: u8, budget: u32) -> Progress
+fn run_stretch<S: Source>(source: &mut S, top: &mut Top, depth: u8, budget: u32) -> Progress
+    requires agrees { S.agrees source.old (view_of top.old.memory) }
     requires depth { depth ≤ greatest_depth }
     requires some { 1 ≤ budget }
     requires running { top.old.status ≡ Status.Running }
     requires pays { Pays budget top.old }
-    ensures { Goes (levels_below depth) budget result top.old top.new }
+    ensures goes { Goes (levels_below depth) budget result top.old top.new }
+    ensures agrees { S.agrees source.new (view_of top.new.memory) }
 {
-    let Stretch { count, end } = execute_paid(top, budget);
+    let Stretch { count, end } = execute_paid(source, top, budget);
     match end {
         End::Budget => Progress::Went(count),
-        End::Call => match call(top, depth) {
+        End::Call => match call(source, top, depth) {
             Ok(Next::Local) => Progress::Went(count + 1),
             Ok(next) => Progress::Blocked(count, Some(next)),
             Err(_) => Progress::Blocked(count, None),
@@ -78,10 +85,12 @@ fn run_stretch(top: &mut Top, depth: u8, budget: u32) -> Progress
 }
 
 // Local events of a space at a depth, at most so many: at least one, unless something blocks the first.
-fn proceed(top: &mut Top, depth: u8, quantum: u32) -> Progress
+fn proceed<S: Source>(source: &mut S, top: &mut Top, depth: u8, quantum: u32) -> Progress
+    requires agrees { S.agrees source.old (view_of top.old.memory) }
     requires depth { depth ≤ greatest_depth }
     requires quantum { 1 ≤ quantum }
-    ensures { Goes (levels_below depth) quantum result top.old top.new }
+    ensures goes { Goes (levels_below depth) quantum result top.old top.new }
+    ensures agrees { S.agrees source.new (view_of top.new.memory) }
 {
     if top.is_stopped() {
         return Progress::Blocked(0, Some(Next::Stopped));
@@ -91,17 +100,19 @@ fn proceed(top: &mut Top, depth: u8, quantum: u32) -> Progress
         run_out(top);
         return Progress::Went(1);
     }
-    run_stretch(top, depth, budget)
+    run_stretch(source, top, depth, budget)
 }
 
 // Local events of a space at a depth, as many as the quantum, unless something blocks it.
-fn go_on(top: &mut Top, depth: u8, quantum: u32) -> Advance
+fn go_on<S: Source>(source: &mut S, top: &mut Top, depth: u8, quantum: u32) -> Advance
+    requires agrees { S.agrees source.old (view_of top.old.memory) }
     requires depth { depth ≤ greatest_depth }
-    ensures { Advances (levels_below depth) quantum result top.old top.new }
+    ensures advances { Advances (levels_below depth) quantum result top.old top.new }
+    ensures agrees { S.agrees source.new (view_of top.new.memory) }
 {
     let mut ran = 0;
     'stretches: while ran < quantum {
-        match proceed(top, depth, quantum - ran) {
+        match proceed(source, top, depth, quantum - ran) {
             Progress::Went(events) => ran += events,
             Progress::Blocked(events, next) => {
                 return Advance {
@@ -119,8 +130,13 @@ fn go_on(top: &mut Top, depth: u8, quantum: u32) -> Advance
 
 /// Local events of a space at a depth of at most 8: as many as the quantum, which is at least 1, and fewer only where what is
 /// next is no local event, or a local event for which there was no memory. Its one error is want of memory for the first event,
-/// a local one, and then nothing has changed.
-pub fn advance(top: &mut Top, depth: u8, quantum: u32) -> Result<Advance, AllocError>
+/// a local one, and then nothing has changed. What the cache kept before does not matter.
+pub fn advance(
+    top: &mut Top,
+    depth: u8,
+    quantum: u32,
+    cache: &mut DecodeCache,
+) -> Result<Advance, AllocError>
     requires depth { depth ≤ greatest_depth }
     requires quantum { 1 ≤ quantum }
     ensures ok { IfOk result (λ a. Advances (levels_below depth) quantum a top.old top.new) }
@@ -129,7 +145,9 @@ pub fn advance(top: &mut Top, depth: u8, quantum: u32) -> Result<Advance, AllocE
     ensures local { OnErr result (IsNextLocal (levels_below depth) top.old) }
     ensures sound { (fuel : ℕ) (root : Bool) → IsSoundTop fuel root top.old → IsSoundTop fuel root top.new }
 {
-    let advance = go_on(top, depth, quantum);
+    let table = &mut *cache.table;
+    table.renew();
+    let advance = go_on(table, top, depth, quantum);
     if advance.ran == 0 && advance.next.is_none() {
         return Err(AllocError);
     }
@@ -143,5 +161,5 @@ pub fn next(top: &mut Top, depth: u8) -> Result<Next, AllocError>
     ensures steps { Steps (levels_below depth) result top.old top.new }
     ensures sound { (fuel : ℕ) (root : Bool) → IsSoundTop fuel root top.old → IsSoundTop fuel root top.new }
 {
-    go_on(top, depth, 1).next.ok_or(AllocError)
+    go_on(&mut Uncached, top, depth, 1).next.ok_or(AllocError)
 }

@@ -3,7 +3,7 @@ ghost use Rattle.memory_model.specs.Memory.{Memory, width_bytes, with_number};
 ghost use Rattle.memory_model.specs.declared.Width.{Width};
 ghost use Rattle.instruction_model.specs.Form.{HasFields};
 ghost use Rattle.instruction_model.specs.Outcome.{View, view_of};
-ghost use Rattle.space_step.specs.Source.{IsKnown, StandsAt, TrapsAt};
+ghost use Rattle.space_step.specs.Source.{IsKnown, HasNone, StandsAt, TrapsAt};
 
 use rv_decode::{Instr, Instruction, decode};
 use space_mem::Mem;
@@ -22,6 +22,7 @@ pub(crate) fn decoded_at(memory: &Mem, at: u32) -> Result<Instr, Trap>
     ensures aligned { IsOk result → at % 4 ≡ 0 }
     ensures known { IfOk result (λ i. IsKnown (view_of memory.now.memory) at i) }
     ensures trap { IfErr result (λ t. TrapsAt (view_of memory.now.memory) at t.number t.value) }
+    ensures none { IfErr result (λ _. HasNone (view_of memory.now.memory) at) }
 {
     if at % 4 != 0 {
         return Err(Trap {
@@ -44,6 +45,18 @@ pub(crate) fn decoded_at(memory: &Mem, at: u32) -> Result<Instr, Trap>
     }
 }
 
+/// The trap that stands at an address, where no instruction does.
+#[inline(never)]
+pub(crate) fn trap_at(memory: &Mem, at: u32) -> Trap
+    requires { HasNone (view_of memory.now.memory) at }
+    ensures { TrapsAt (view_of memory.now.memory) at result.number result.value }
+{
+    match decoded_at(memory, at) {
+        Ok(_) => unreachable!(),
+        Err(trap) => trap,
+    }
+}
+
 /// Where a stretch takes its instructions from.
 pub(crate) trait Source {
     // whether what the source keeps is so of a memory that is seen like this
@@ -61,6 +74,10 @@ pub(crate) trait Source {
     fn forget(&mut self, at: u32)
         ensures before { (v : View) → agrees self.old v → agrees self.new v }
         ensures after { (m : Memory) (w : Width) (value : ℕ) → at % width_bytes w ≡ 0 → agrees self.old (view_of m) → agrees self.new (view_of (with_number m at w value)) };
+
+    /// Keeps nothing any longer, so that memory may change in any way.
+    fn forget_all(&mut self)
+        ensures { (u v : View) → agrees self.old u → agrees self.new v };
 }
 
 /// Each instruction is decoded each time.
@@ -85,4 +102,7 @@ impl Source for Uncached {
     fn forget(&mut self, at: u32) {
         let _at = at;
     }
+
+    #[inline(always)]
+    fn forget_all(&mut self) {}
 }

@@ -7,7 +7,7 @@ use Rattle.space_step.proofs.Following.{stretch_follows, reached, pays_for_part}
 use Rattle.space_step.proofs.running.execute_paid.Goals as goal
 
 pub returns-clause-follows : goal.returns-clause-follows
-returns-clause-follows c = λ levels.
+returns-clause-follows g c = λ levels.
     let n = c.execute-stretch.result.count in
     let r = c.execute-stretch.new.registers in
     let m = c.execute-stretch.new.memory.memory in

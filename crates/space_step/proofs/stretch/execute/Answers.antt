@@ -1,6 +1,6 @@
 use Rattle.space_mem.proofs.Dirty.{marks_then}
 use Rattle.space_step.proofs.Stretches.{executes_more}
-use Rattle.space_step.proofs.stretch.execute_from.Goals as goal
+use Rattle.space_step.proofs.stretch.execute.Goals as goal
 
 pub loop-count-preserved : goal.loop-count-preserved
 loop-count-preserved g c = record {

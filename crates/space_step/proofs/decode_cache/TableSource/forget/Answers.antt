@@ -1,6 +1,6 @@
 use Rattle.instruction_model.specs.Outcome.{view_of}
 use Rattle.space_step.proofs.Caching.{stored_agrees}
-use Rattle.space_step.proofs.decode_cache.DecodeCacheSource.forget.Goals as goal
+use Rattle.space_step.proofs.decode_cache.TableSource.forget.Goals as goal
 
 pub returns-clause-after : goal.returns-clause-after
 returns-clause-after c = λ m w value aligned agrees.
