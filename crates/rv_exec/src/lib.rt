@@ -3,10 +3,12 @@
 
 mod arithmetic;
 mod bus;
+mod flat;
 mod regs;
 mod stepping;
 
 pub use bus::{Bus, Fault, StoreFault};
+pub use flat::{FlatInstruction, flat_of};
 pub use regs::Regs;
 pub use rv_decode::Width;
 pub use stepping::{Stepped, perform, step};

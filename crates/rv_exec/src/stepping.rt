@@ -1,13 +1,16 @@
 ghost use Rattle.std.specs.Prelude.{◌≡◌, ℕ, ◌<◌, ◌%◌, ◌^◌};
 ghost use Rattle.instruction_model.specs.Form.{HasFields, IsRegister};
+ghost use Rattle.instruction_model.specs.Arithmetic as arithmetic;
 ghost use Rattle.instruction_model.specs.Outcome as outcome;
 ghost use Rattle.instruction_model.specs.Outcome.{Outcome, goes};
+ghost use Rattle.rv_exec.specs.Flat.{meaning};
 ghost use Rattle.rv_exec.specs.Steps.{Moves, Steps};
 
 use crate::arithmetic::{compares, extension_of, loaded_width, operation_result, width_bytes};
 use crate::bus::{Bus, StoreFault};
+use crate::flat::{FlatInstruction, flat_of};
 use crate::regs::Regs;
-use rv_decode::{Instruction, LoadKind, Width, decode};
+use rv_decode::{Comparison, LoadKind, Operation, Width, decode};
 use std::alloc::AllocError;
 
 /// What a step did.
@@ -118,40 +121,113 @@ fn finish(regs: &mut Regs, rd: u8, value: u32) -> Result<Stepped, AllocError>
     Ok(Stepped::Next)
 }
 
+// A branch by a comparison of two registers.
+#[inline(always)]
+fn branch_by(
+    regs: &mut Regs,
+    comparison: Comparison,
+    rs1: u8,
+    rs2: u8,
+    immediate: u32,
+) -> Result<Stepped, AllocError>
+    requires first { rs1 < 32 }
+    requires second { rs2 < 32 }
+    ensures { Moves (outcome.branches (arithmetic.compares comparison (outcome.register regs.old rs1) (outcome.register regs.old rs2)) regs.old (outcome.offset regs.old.pc immediate)) result regs.old regs.new }
+{
+    let taken = compares(comparison, regs.register(rs1), regs.register(rs2));
+    branch(regs, taken, immediate)
+}
+
+// An operation on a register and an immediate.
+#[inline(always)]
+fn operate_immediate(
+    regs: &mut Regs,
+    operation: Operation,
+    rd: u8,
+    rs1: u8,
+    immediate: u32,
+) -> Result<Stepped, AllocError>
+    requires result { rd < 32 }
+    requires first { rs1 < 32 }
+    ensures { Moves (goes (outcome.results regs.old rd (arithmetic.operation_result operation (outcome.register regs.old rs1) immediate))) result regs.old regs.new }
+{
+    let value = operation_result(operation, regs.register(rs1), immediate);
+    finish(regs, rd, value)
+}
+
+// An operation on two registers.
+#[inline(always)]
+fn operate(
+    regs: &mut Regs,
+    operation: Operation,
+    rd: u8,
+    rs1: u8,
+    rs2: u8,
+) -> Result<Stepped, AllocError>
+    requires result { rd < 32 }
+    requires first { rs1 < 32 }
+    requires second { rs2 < 32 }
+    ensures { Moves (goes (outcome.results regs.old rd (arithmetic.operation_result operation (outcome.register regs.old rs1) (outcome.register regs.old rs2)))) result regs.old regs.new }
+{
+    let value = operation_result(operation, regs.register(rs1), regs.register(rs2));
+    finish(regs, rd, value)
+}
+
 /// What an instruction does where pc stands, as `step` does it that has fetched and decoded it.
 #[inline(always)]
 pub fn perform<B: Bus>(
     regs: &mut Regs,
     bus: &mut B,
-    instruction: Instruction,
+    instruction: FlatInstruction,
 ) -> Result<Stepped, AllocError>
-    requires { HasFields instruction }
-    ensures { Steps B.stored (B.takes_memory bus.old) (outcome.perform instruction (B.view bus.old) regs.old) result regs.old bus.old regs.new bus.new }
+    requires { HasFields (meaning instruction) }
+    ensures { Steps B.stored (B.takes_memory bus.old) (outcome.perform (meaning instruction) (B.view bus.old) regs.old) result regs.old bus.old regs.new bus.new }
 {
     match instruction {
-        Instruction::Lui { rd, immediate } => finish(regs, rd, immediate),
-        Instruction::Auipc { rd, immediate } => {
+        FlatInstruction::Lui { rd, immediate } => finish(regs, rd, immediate),
+        FlatInstruction::Auipc { rd, immediate } => {
             let value = regs.pc.wrapping_add(immediate);
             finish(regs, rd, value)
         }
-        Instruction::Jal { rd, immediate } => {
+        FlatInstruction::Jal { rd, immediate } => {
             let target = regs.pc.wrapping_add(immediate);
             jump(regs, rd, target)
         }
-        Instruction::Jalr { rd, rs1, immediate } => {
+        FlatInstruction::Jalr { rd, rs1, immediate } => {
             let target = regs.register(rs1).wrapping_add(immediate);
             jump(regs, rd, target - target % 2)
         }
-        Instruction::Branch {
-            comparison,
+        FlatInstruction::Beq {
             rs1,
             rs2,
             immediate,
-        } => {
-            let taken = compares(comparison, regs.register(rs1), regs.register(rs2));
-            branch(regs, taken, immediate)
-        }
-        Instruction::Load {
+        } => branch_by(regs, Comparison::Beq, rs1, rs2, immediate),
+        FlatInstruction::Bne {
+            rs1,
+            rs2,
+            immediate,
+        } => branch_by(regs, Comparison::Bne, rs1, rs2, immediate),
+        FlatInstruction::Blt {
+            rs1,
+            rs2,
+            immediate,
+        } => branch_by(regs, Comparison::Blt, rs1, rs2, immediate),
+        FlatInstruction::Bge {
+            rs1,
+            rs2,
+            immediate,
+        } => branch_by(regs, Comparison::Bge, rs1, rs2, immediate),
+        FlatInstruction::Bltu {
+            rs1,
+            rs2,
+            immediate,
+        } => branch_by(regs, Comparison::Bltu, rs1, rs2, immediate),
+        FlatInstruction::Bgeu {
+            rs1,
+            rs2,
+            immediate,
+        } => branch_by(regs, Comparison::Bgeu, rs1, rs2, immediate),
+        FlatInstruction::Load {
             kind,
             rd,
             rs1,
@@ -160,7 +236,7 @@ pub fn perform<B: Bus>(
             let at = regs.register(rs1).wrapping_add(immediate);
             load(regs, bus, kind, rd, at)
         }
-        Instruction::Store {
+        FlatInstruction::Store {
             width,
             rs1,
             rs2,
@@ -170,30 +246,85 @@ pub fn perform<B: Bus>(
             let value = regs.register(rs2);
             store(regs, bus, width, at, value)
         }
-        Instruction::OperateImmediate {
-            operation,
+        FlatInstruction::Addi { rd, rs1, immediate } => operate_immediate(
+            regs,
+            Operation::Add,
             rd,
             rs1,
             immediate,
-        } => {
-            let value = operation_result(operation, regs.register(rs1), immediate);
-            finish(regs, rd, value)
-        }
-        Instruction::Operate {
-            operation,
+        ),
+        FlatInstruction::Slli { rd, rs1, immediate } => operate_immediate(
+            regs,
+            Operation::Sll,
             rd,
             rs1,
-            rs2,
-        } => {
-            let value = operation_result(operation, regs.register(rs1), regs.register(rs2));
-            finish(regs, rd, value)
-        }
-        Instruction::Fence => {
+            immediate,
+        ),
+        FlatInstruction::Slti { rd, rs1, immediate } => operate_immediate(
+            regs,
+            Operation::Slt,
+            rd,
+            rs1,
+            immediate,
+        ),
+        FlatInstruction::Sltiu { rd, rs1, immediate } => operate_immediate(
+            regs,
+            Operation::Sltu,
+            rd,
+            rs1,
+            immediate,
+        ),
+        FlatInstruction::Xori { rd, rs1, immediate } => operate_immediate(
+            regs,
+            Operation::Xor,
+            rd,
+            rs1,
+            immediate,
+        ),
+        FlatInstruction::Srli { rd, rs1, immediate } => operate_immediate(
+            regs,
+            Operation::Srl,
+            rd,
+            rs1,
+            immediate,
+        ),
+        FlatInstruction::Srai { rd, rs1, immediate } => operate_immediate(
+            regs,
+            Operation::Sra,
+            rd,
+            rs1,
+            immediate,
+        ),
+        FlatInstruction::Ori { rd, rs1, immediate } => operate_immediate(
+            regs,
+            Operation::Or,
+            rd,
+            rs1,
+            immediate,
+        ),
+        FlatInstruction::Andi { rd, rs1, immediate } => operate_immediate(
+            regs,
+            Operation::And,
+            rd,
+            rs1,
+            immediate,
+        ),
+        FlatInstruction::Add { rd, rs1, rs2 } => operate(regs, Operation::Add, rd, rs1, rs2),
+        FlatInstruction::Sub { rd, rs1, rs2 } => operate(regs, Operation::Sub, rd, rs1, rs2),
+        FlatInstruction::Sll { rd, rs1, rs2 } => operate(regs, Operation::Sll, rd, rs1, rs2),
+        FlatInstruction::Slt { rd, rs1, rs2 } => operate(regs, Operation::Slt, rd, rs1, rs2),
+        FlatInstruction::Sltu { rd, rs1, rs2 } => operate(regs, Operation::Sltu, rd, rs1, rs2),
+        FlatInstruction::Xor { rd, rs1, rs2 } => operate(regs, Operation::Xor, rd, rs1, rs2),
+        FlatInstruction::Srl { rd, rs1, rs2 } => operate(regs, Operation::Srl, rd, rs1, rs2),
+        FlatInstruction::Sra { rd, rs1, rs2 } => operate(regs, Operation::Sra, rd, rs1, rs2),
+        FlatInstruction::Or { rd, rs1, rs2 } => operate(regs, Operation::Or, rd, rs1, rs2),
+        FlatInstruction::And { rd, rs1, rs2 } => operate(regs, Operation::And, rd, rs1, rs2),
+        FlatInstruction::Fence => {
             regs.advance();
             Ok(Stepped::Next)
         }
-        Instruction::Ecall => Ok(Stepped::Call),
-        Instruction::Ebreak => trap(3, regs.pc),
+        FlatInstruction::Ecall => Ok(Stepped::Call),
+        FlatInstruction::Ebreak => trap(3, regs.pc),
     }
 }
 
@@ -210,7 +341,7 @@ pub fn step<B: Bus>(regs: &mut Regs, bus: &mut B) -> Result<Stepped, AllocError>
     }
     match bus.fetch(pc) {
         Ok(word) => match decode(word) {
-            Some(instr) => perform(regs, bus, instr.instruction()),
+            Some(instr) => perform(regs, bus, flat_of(instr)),
             None => trap(2, word),
         },
         Err(fault) => trap(fault.cause, fault.addr),

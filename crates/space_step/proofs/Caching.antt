@@ -10,13 +10,15 @@ use Rattle.memory_model.specs.Memory.{Memory, byte_at, number_from, width_bytes,
 use Rattle.instruction_model.specs.declared.Instruction.{Instruction}
 use Rattle.instruction_model.specs.Instruction.{instruction_of}
 use Rattle.instruction_model.specs.Outcome.{View, view_of, outcome}
+use Rattle.instruction_model.specs.Form.{HasFields}
+use Rattle.rv_exec.specs.Flat.{meaning}
 use Rattle.rv_exec.specs.Access.{stored_byte}
 use Rattle.space_mem.specs.Stored.{byte_stored, may_fetch_stored}
 use Rattle.space_step.specs.declared.decode_cache.Entry.{Entry}
 use Rattle.space_step.specs.declared.decode_cache.Table.{Table}
 use Rattle.space_step.specs.declared.decode_cache.TheConstants.{ENTRIES}
 use Rattle.space_step.specs.Source.{IsKnown, StandsAt}
-use Rattle.space_step.specs.Cache.{Agrees, Holds, IsBounded, Lacks, place}
+use Rattle.space_step.specs.Cache.{Agrees, Hits, Holds, IsBounded, Lacks, place}
 
 -- a byte of another word than that of a store stays
 other_byte : (byte : ℕ → ℕ) (a : ℕ) (w : Width) (v q : ℕ) → a % width_bytes w ≡ 0 → (q / 4 ≡ a / 4 → ⊥) → stored_byte byte a w v q ≡ byte q
@@ -42,7 +44,7 @@ stored_agrees m t a w v aligned agrees lacks = (
   agrees.0,
   λ k d h b is.
       let old = agrees.1 k d h b is in
-      (old.0, old.1, (may_fetch_stored m a w v b ∙ old.2.0, ap instruction_of (word_stays m a w v b aligned old.0 (λ e. lacks k d h (is ∙ ap (λ x. t.first + x) e))) ∙ old.2.1)),
+      (old.0, old.1, old.2, (may_fetch_stored m a w v b ∙ old.3.0, ap instruction_of (word_stays m a w v b aligned old.0 (λ e. lacks k d h (is ∙ ap (λ x. t.first + x) e))) ∙ old.3.1)),
 )
 
 -- an instruction that is known stands there
@@ -77,11 +79,11 @@ entry_put v t a p e at below holds agrees =
       after_set (Holds v t.first) t.entries p e within holds agrees.1,
     )
 
-pub learnt_agrees : (v : View) (t : Table) (a p : ℕ) (e : Entry) → p ≡ place a → a < 2 ^ 32 → a % 4 ≡ 0 → IsKnown v a e.instr → e.key ≡ t.first + a → Agrees v t
+pub learnt_agrees : (v : View) (t : Table) (a p : ℕ) (e : Entry) → p ≡ place a → a < 2 ^ 32 → a % 4 ≡ 0 → HasFields (meaning e.instruction) → IsKnown v a (meaning e.instruction) → e.key ≡ t.first + a → Agrees v t
     → Agrees v (record t { entries = slice_set t.entries p e })
-learnt_agrees v t a p e at small whole known key agrees = entry_put v t a p e at (omega (arith, key, small)) (λ b is.
+learnt_agrees v t a p e at small whole fields known key agrees = entry_put v t a p e at (omega (arith, key, small)) (λ b is.
     let equal : a ≡ b = omega (arith, key, is) in
-    subst (λ (n : ℕ). (n % 4 ≡ 0) × (place n ≡ p) × IsKnown v n e.instr) equal (whole, sym at, known)) agrees
+    subst (λ (n : ℕ). (n % 4 ≡ 0) × (place n ≡ p) × HasFields (meaning e.instruction) × IsKnown v n (meaning e.instruction)) equal (whole, sym at, fields, known)) agrees
 
 -- an entry that keeps nothing is put in place
 pub dropped_agrees : (v : View) (t : Table) (a p : ℕ) (e : Entry) → p ≡ place a → e.key ≡ 0 → Agrees v t → Agrees v (record t { entries = slice_set t.entries p e })
@@ -105,6 +107,13 @@ dropped_lacks v t a p e at empty agrees =
     let some = agrees.0.0 in
     lacking v (record t { entries = slice_set t.entries p e }) a p e at (dropped_agrees v t a p e at empty agrees)
     (λ is. let zero : e.key ≡ t.first + 4 * (a / 4) = ap (λ (x : Entry). x.key) (sym (get_or-set_same t.entries p e e within)) ∙ is in omega (arith, zero, empty, some))
+
+-- an entry with the key of an address has the instruction there
+pub hit_holds : (v : View) (t : Table) (a p : ℕ) (e : Entry) → p ≡ place a → Agrees v t → Hits t a
+    → (a % 4 ≡ 0) × HasFields (meaning ((slice_index_or t.entries p e).instruction)) × IsKnown v a (meaning ((slice_index_or t.entries p e).instruction))
+hit_holds v t a p e at agrees hits =
+    let holds = agrees.1 p e (rw at (place_within a)) a (rw at (hits e)) in
+    (holds.0, holds.2, holds.3)
 
 -- in the next generation nothing is kept
 pub next_keeps_nothing : (v : View) (t u : Table) → IsBounded t.first t.entries → u.entries ≡ t.entries → u.first ≡ t.first + 2 ^ 32 → u.first ≤ 2 ^ 64 - 2 ^ 32 → Agrees v u

@@ -1,7 +1,9 @@
 -- A direct-mapped cache of decoded instructions: what it keeps of a memory.
 -- Our choice: how the code keeps decoded instructions.
 use Rattle.std.specs.Prelude.{◌≡◌, ℕ, ◌+◌, ◌-◌, ◌*◌, ◌/◌, ◌%◌, ◌^◌, ◌<◌, ◌≤◌, List, length, slice_index_or}
+use Rattle.instruction_model.specs.Form.{HasFields}
 use Rattle.instruction_model.specs.Outcome.{View}
+use Rattle.rv_exec.specs.Flat.{meaning}
 use Rattle.space_step.specs.declared.decode_cache.Entry.{Entry}
 use Rattle.space_step.specs.declared.decode_cache.Table.{Table}
 use Rattle.space_step.specs.declared.decode_cache.TheConstants.{ENTRIES}
@@ -18,7 +20,7 @@ IsBounded first es = (2 ^ 32 ≤ first) × (first ≤ 2 ^ 64 - 2 ^ 32) × (lengt
 
 -- an entry that has the key of an address in this generation stands at the place of the address, and its instruction is the one there
 abbrev pub Holds : View → ℕ → ℕ → Entry → Type 0
-Holds v first k e = (a : ℕ) → e.key ≡ first + a → (a % 4 ≡ 0) × (place a ≡ k) × IsKnown v a e.instr
+Holds v first k e = (a : ℕ) → e.key ≡ first + a → (a % 4 ≡ 0) × (place a ≡ k) × HasFields (meaning e.instruction) × IsKnown v a (meaning e.instruction)
 
 abbrev pub Agrees : View → Table → Type 0
 Agrees v t = IsBounded t.first t.entries × ((k : ℕ) (d : Entry) → k < ENTRIES → Holds v t.first k (slice_index_or t.entries k d))

@@ -1,11 +1,12 @@
 ghost use Rattle.std.specs.Prelude.{◌≡◌, ℕ, ◌+◌, ◌-◌, ◌*◌, ◌/◌, ◌%◌, ◌^◌, ◌<◌, ◌≤◌, true, false, IsTrue};
 ghost use Rattle.instruction_model.specs.Form.{HasFields};
 ghost use Rattle.instruction_model.specs.Outcome.{View, view_of};
+ghost use Rattle.rv_exec.specs.Flat.{meaning};
 ghost use Rattle.space_step.specs.Source.{IsKnown, HasNone};
 ghost use Rattle.space_step.specs.Cache.{Agrees, Hits, IsBounded, Lacks, place};
 
 use crate::source::{Source, Trap, decoded_at, trap_at};
-use rv_decode::{Instr, Instruction};
+use rv_exec::{FlatInstruction, flat_of};
 use space_mem::Mem;
 use std::alloc::{AllocError, Global};
 use std::marker::Model;
@@ -23,7 +24,7 @@ const EMPTY: u64 = 0;
 #[derive(Clone, Copy)]
 pub(crate) struct Entry {
     key: u64,
-    instr: Instr,
+    instruction: FlatInstruction,
 }
 
 impl Entry {
@@ -33,7 +34,7 @@ impl Entry {
     {
         Entry {
             key: EMPTY,
-            instr: Instr::new(Instruction::Fence),
+            instruction: FlatInstruction::Fence,
         }
     }
 }
@@ -84,11 +85,10 @@ impl Table {
 
     // The instruction at an address, where it is kept.
     #[inline(always)]
-    fn kept(&self, at: u32) -> Instruction
-        ensures fields { HasFields result }
-        ensures known { (v : View) → Agrees v self.now → Hits self.now at → (at % 4 ≡ 0) × IsKnown v at result }
+    fn kept(&self, at: u32) -> FlatInstruction
+        ensures { (v : View) → Agrees v self.now → Hits self.now at → (at % 4 ≡ 0) × HasFields (meaning result) × IsKnown v at (meaning result) }
     {
-        self.entries[place_of(at)].instr.instruction()
+        self.entries[place_of(at)].instruction
     }
 
     // Keeps the instruction at an address, if one stands there.
@@ -102,7 +102,8 @@ impl Table {
         match decoded_at(memory, at) {
             Ok(instr) => {
                 let key = self.key_of(at);
-                self.entries[place_of(at)] = Entry { key, instr };
+                let instruction = flat_of(instr);
+                self.entries[place_of(at)] = Entry { key, instruction };
                 true
             }
             Err(_) => false,
@@ -162,7 +163,7 @@ impl Source for Table {
 
     #[inline(always)]
     #[tactic(auto, using(crate::proofs::Caching::known_stands))]
-    fn instruction_at(&mut self, memory: &Mem, at: u32) -> Result<Instruction, Trap> {
+    fn instruction_at(&mut self, memory: &Mem, at: u32) -> Result<FlatInstruction, Trap> {
         if self.find(memory, at) {
             Ok(self.kept(at))
         } else {

@@ -3,9 +3,11 @@ ghost use Rattle.memory_model.specs.Memory.{Memory, width_bytes, with_number};
 ghost use Rattle.memory_model.specs.declared.Width.{Width};
 ghost use Rattle.instruction_model.specs.Form.{HasFields};
 ghost use Rattle.instruction_model.specs.Outcome.{View, view_of};
+ghost use Rattle.rv_exec.specs.Flat.{meaning};
 ghost use Rattle.space_step.specs.Source.{IsKnown, HasNone, StandsAt, TrapsAt};
 
-use rv_decode::{Instr, Instruction, decode};
+use rv_decode::{Instr, decode};
+use rv_exec::{FlatInstruction, flat_of};
 use space_mem::Mem;
 
 /// A trap: its number and its value (RISC-V Privileged ISA, "Machine Cause").
@@ -63,11 +65,11 @@ pub(crate) trait Source {
     ghost agrees: { Self → View → Type 0 };
 
     /// The instruction at an address, or the trap that stands there.
-    fn instruction_at(&mut self, memory: &Mem, at: u32) -> Result<Instruction, Trap>
+    fn instruction_at(&mut self, memory: &Mem, at: u32) -> Result<FlatInstruction, Trap>
         requires { agrees self.old (view_of memory.now.memory) }
         ensures agrees { agrees self.new (view_of memory.now.memory) }
-        ensures fields { IfOk result (λ i. HasFields i) }
-        ensures instruction { IfOk result (λ i. StandsAt (view_of memory.now.memory) at i) }
+        ensures fields { IfOk result (λ i. HasFields (meaning i)) }
+        ensures instruction { IfOk result (λ i. StandsAt (view_of memory.now.memory) at (meaning i)) }
         ensures trap { IfErr result (λ t. TrapsAt (view_of memory.now.memory) at t.number t.value) };
 
     /// Keeps the word of an address no longer, so that a store there changes nothing that is kept.
@@ -91,9 +93,9 @@ impl Source for Uncached {
 
     #[inline(always)]
     #[tactic(auto, using(crate::proofs::Caching::known_stands))]
-    fn instruction_at(&mut self, memory: &Mem, at: u32) -> Result<Instruction, Trap> {
+    fn instruction_at(&mut self, memory: &Mem, at: u32) -> Result<FlatInstruction, Trap> {
         match decoded_at(memory, at) {
-            Ok(instr) => Ok(instr.instruction()),
+            Ok(instr) => Ok(flat_of(instr)),
             Err(trap) => Err(trap),
         }
     }

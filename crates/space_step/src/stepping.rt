@@ -2,24 +2,24 @@ ghost use Rattle.std.specs.Prelude.{◌≡◌, true};
 ghost use Rattle.memory_model.specs.Memory.{Memory, with_number};
 ghost use Rattle.instruction_model.specs.Form.{HasFields};
 ghost use Rattle.instruction_model.specs.Outcome.{View, view_of, outcome};
+ghost use Rattle.rv_exec.specs.Flat.{meaning};
 ghost use Rattle.rv_exec.specs.Steps.{Steps};
 ghost use Rattle.space_mem.specs.Held.{Marks};
 ghost use Rattle.space_step.specs.Source.{Outlives};
 
 use crate::source::Source;
-use rv_decode::Instruction;
-use rv_exec::{Regs, Stepped, perform};
+use rv_exec::{FlatInstruction, Regs, Stepped, perform};
 use space_mem::Mem;
 use std::alloc::AllocError;
 
 // Has the source forget the word that an instruction stores to, if it is a store.
 #[inline(always)]
-fn forget_stored<S: Source>(source: &mut S, regs: &Regs, instruction: Instruction)
-    requires { HasFields instruction }
+fn forget_stored<S: Source>(source: &mut S, regs: &Regs, instruction: FlatInstruction)
+    requires { HasFields (meaning instruction) }
     ensures before { (v : View) → S.agrees source.old v → S.agrees source.new v }
-    ensures after { (m : Memory) → S.agrees source.old (view_of m) → Outlives (S.agrees source.new) m regs.now instruction }
+    ensures after { (m : Memory) → S.agrees source.old (view_of m) → Outlives (S.agrees source.new) m regs.now (meaning instruction) }
 {
-    if let Instruction::Store { rs1, immediate, .. } = instruction {
+    if let FlatInstruction::Store { rs1, immediate, .. } = instruction {
         source.forget(regs.register(rs1).wrapping_add(immediate));
     }
 }

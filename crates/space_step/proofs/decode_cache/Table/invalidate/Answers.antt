@@ -10,7 +10,7 @@ returns-then-self-place-clause-lacks c = λ v agrees. dropped_lacks v c.args.sel
 
 pub returns-else-self-place-clause-lacks : goal.returns-else-self-place-clause-lacks
 returns-else-self-place-clause-lacks c = λ v agrees.
-    lacking v c.args.self.now c.args.at c.place_of-place.result c.index-self-place.result c.place_of-place.ensures agrees
+    lacking v c.args.self.now c.args.at c.place_of-place.result _ c.place_of-place.ensures agrees
     (λ is.
     let word : c.args.self.now.first + 4 * (c.args.at / 4) ≡ c.args.self.now.first + c.args.at / 4 * 4 = omega arith in
     c.if-self-place.false (is ∙ word ∙ sym (c.key_of.ensures agrees.0.1)))

@@ -1,0 +1,298 @@
+ghost use Rattle.std.specs.Prelude.{◌≡◌};
+ghost use Rattle.instruction_model.specs.Form.{HasFields};
+ghost use Rattle.instruction_model.specs.declared.Instruction.TheVariants as plain;
+ghost use Rattle.rv_exec.specs.Flat.{meaning};
+
+use rv_decode::{Comparison, Instr, Instruction, LoadKind, Operation, Width};
+
+/// An instruction by its own name where its format has several that compute or branch, so that one look says what is to be done (RISC-V
+/// Unprivileged ISA, RV32I instruction set listing). Registers are 0 to 31.
+#[derive(Clone, Copy)]
+pub enum FlatInstruction {
+    Lui {
+        rd: u8,
+        immediate: u32,
+    },
+    Auipc {
+        rd: u8,
+        immediate: u32,
+    },
+    Jal {
+        rd: u8,
+        immediate: u32,
+    },
+    Jalr {
+        rd: u8,
+        rs1: u8,
+        immediate: u32,
+    },
+    Beq {
+        rs1: u8,
+        rs2: u8,
+        immediate: u32,
+    },
+    Bne {
+        rs1: u8,
+        rs2: u8,
+        immediate: u32,
+    },
+    Blt {
+        rs1: u8,
+        rs2: u8,
+        immediate: u32,
+    },
+    Bge {
+        rs1: u8,
+        rs2: u8,
+        immediate: u32,
+    },
+    Bltu {
+        rs1: u8,
+        rs2: u8,
+        immediate: u32,
+    },
+    Bgeu {
+        rs1: u8,
+        rs2: u8,
+        immediate: u32,
+    },
+    Load {
+        kind: LoadKind,
+        rd: u8,
+        rs1: u8,
+        immediate: u32,
+    },
+    Store {
+        width: Width,
+        rs1: u8,
+        rs2: u8,
+        immediate: u32,
+    },
+    Addi {
+        rd: u8,
+        rs1: u8,
+        immediate: u32,
+    },
+    Slli {
+        rd: u8,
+        rs1: u8,
+        immediate: u32,
+    },
+    Slti {
+        rd: u8,
+        rs1: u8,
+        immediate: u32,
+    },
+    Sltiu {
+        rd: u8,
+        rs1: u8,
+        immediate: u32,
+    },
+    Xori {
+        rd: u8,
+        rs1: u8,
+        immediate: u32,
+    },
+    Srli {
+        rd: u8,
+        rs1: u8,
+        immediate: u32,
+    },
+    Srai {
+        rd: u8,
+        rs1: u8,
+        immediate: u32,
+    },
+    Ori {
+        rd: u8,
+        rs1: u8,
+        immediate: u32,
+    },
+    Andi {
+        rd: u8,
+        rs1: u8,
+        immediate: u32,
+    },
+    Add {
+        rd: u8,
+        rs1: u8,
+        rs2: u8,
+    },
+    Sub {
+        rd: u8,
+        rs1: u8,
+        rs2: u8,
+    },
+    Sll {
+        rd: u8,
+        rs1: u8,
+        rs2: u8,
+    },
+    Slt {
+        rd: u8,
+        rs1: u8,
+        rs2: u8,
+    },
+    Sltu {
+        rd: u8,
+        rs1: u8,
+        rs2: u8,
+    },
+    Xor {
+        rd: u8,
+        rs1: u8,
+        rs2: u8,
+    },
+    Srl {
+        rd: u8,
+        rs1: u8,
+        rs2: u8,
+    },
+    Sra {
+        rd: u8,
+        rs1: u8,
+        rs2: u8,
+    },
+    Or {
+        rd: u8,
+        rs1: u8,
+        rs2: u8,
+    },
+    And {
+        rd: u8,
+        rs1: u8,
+        rs2: u8,
+    },
+    Fence,
+    Ecall,
+    Ebreak,
+}
+
+fn flat_branch(comparison: Comparison, rs1: u8, rs2: u8, immediate: u32) -> FlatInstruction
+    ensures { meaning result ≡ plain.Branch comparison rs1 rs2 immediate }
+{
+    match comparison {
+        Comparison::Beq => FlatInstruction::Beq {
+            rs1,
+            rs2,
+            immediate,
+        },
+        Comparison::Bne => FlatInstruction::Bne {
+            rs1,
+            rs2,
+            immediate,
+        },
+        Comparison::Blt => FlatInstruction::Blt {
+            rs1,
+            rs2,
+            immediate,
+        },
+        Comparison::Bge => FlatInstruction::Bge {
+            rs1,
+            rs2,
+            immediate,
+        },
+        Comparison::Bltu => FlatInstruction::Bltu {
+            rs1,
+            rs2,
+            immediate,
+        },
+        Comparison::Bgeu => FlatInstruction::Bgeu {
+            rs1,
+            rs2,
+            immediate,
+        },
+    }
+}
+
+fn flat_immediate(operation: Operation, rd: u8, rs1: u8, immediate: u32) -> FlatInstruction
+    requires { HasFields (plain.OperateImmediate operation rd rs1 immediate) }
+    ensures { meaning result ≡ plain.OperateImmediate operation rd rs1 immediate }
+{
+    match operation {
+        Operation::Add => FlatInstruction::Addi { rd, rs1, immediate },
+        Operation::Sll => FlatInstruction::Slli { rd, rs1, immediate },
+        Operation::Slt => FlatInstruction::Slti { rd, rs1, immediate },
+        Operation::Sltu => FlatInstruction::Sltiu { rd, rs1, immediate },
+        Operation::Xor => FlatInstruction::Xori { rd, rs1, immediate },
+        Operation::Srl => FlatInstruction::Srli { rd, rs1, immediate },
+        Operation::Sra => FlatInstruction::Srai { rd, rs1, immediate },
+        Operation::Or => FlatInstruction::Ori { rd, rs1, immediate },
+        Operation::And => FlatInstruction::Andi { rd, rs1, immediate },
+        // no word spells it
+        Operation::Sub => unreachable!(),
+    }
+}
+
+fn flat_operation(operation: Operation, rd: u8, rs1: u8, rs2: u8) -> FlatInstruction
+    ensures { meaning result ≡ plain.Operate operation rd rs1 rs2 }
+{
+    match operation {
+        Operation::Add => FlatInstruction::Add { rd, rs1, rs2 },
+        Operation::Sub => FlatInstruction::Sub { rd, rs1, rs2 },
+        Operation::Sll => FlatInstruction::Sll { rd, rs1, rs2 },
+        Operation::Slt => FlatInstruction::Slt { rd, rs1, rs2 },
+        Operation::Sltu => FlatInstruction::Sltu { rd, rs1, rs2 },
+        Operation::Xor => FlatInstruction::Xor { rd, rs1, rs2 },
+        Operation::Srl => FlatInstruction::Srl { rd, rs1, rs2 },
+        Operation::Sra => FlatInstruction::Sra { rd, rs1, rs2 },
+        Operation::Or => FlatInstruction::Or { rd, rs1, rs2 },
+        Operation::And => FlatInstruction::And { rd, rs1, rs2 },
+    }
+}
+
+/// The flat instruction of an instruction.
+pub fn flat_of(instr: Instr) -> FlatInstruction
+    ensures meaning { meaning result ≡ instr }
+    ensures fields { HasFields (meaning result) }
+{
+    match instr.instruction() {
+        Instruction::Lui { rd, immediate } => FlatInstruction::Lui { rd, immediate },
+        Instruction::Auipc { rd, immediate } => FlatInstruction::Auipc { rd, immediate },
+        Instruction::Jal { rd, immediate } => FlatInstruction::Jal { rd, immediate },
+        Instruction::Jalr { rd, rs1, immediate } => FlatInstruction::Jalr { rd, rs1, immediate },
+        Instruction::Branch {
+            comparison,
+            rs1,
+            rs2,
+            immediate,
+        } => flat_branch(comparison, rs1, rs2, immediate),
+        Instruction::Load {
+            kind,
+            rd,
+            rs1,
+            immediate,
+        } => FlatInstruction::Load {
+            kind,
+            rd,
+            rs1,
+            immediate,
+        },
+        Instruction::Store {
+            width,
+            rs1,
+            rs2,
+            immediate,
+        } => FlatInstruction::Store {
+            width,
+            rs1,
+            rs2,
+            immediate,
+        },
+        Instruction::OperateImmediate {
+            operation,
+            rd,
+            rs1,
+            immediate,
+        } => flat_immediate(operation, rd, rs1, immediate),
+        Instruction::Operate {
+            operation,
+            rd,
+            rs1,
+            rs2,
+        } => flat_operation(operation, rd, rs1, rs2),
+        Instruction::Fence => FlatInstruction::Fence,
+        Instruction::Ecall => FlatInstruction::Ecall,
+        Instruction::Ebreak => FlatInstruction::Ebreak,
+    }
+}
