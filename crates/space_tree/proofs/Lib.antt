@@ -1,6 +1,9 @@
-pub mod Entries
+pub mod Boxes
+pub mod Paths
 pub mod Values
 pub mod Heights
+pub mod Kept
 pub mod Copies
+pub mod Sizes
 pub mod Sounds
 pub mod Words

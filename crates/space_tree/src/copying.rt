@@ -1,8 +1,11 @@
 ghost use Rattle.std.specs.Prelude.{◌≡◌, map, IfOk};
-ghost use Rattle.std.specs.BTreeMap.{get, IsOrdered};
+ghost use Rattle.std.specs.BTreeMap.{IsOrdered};
 ghost use Rattle.std.specs.Ordering.{nat_cmp};
 ghost use Rattle.space_mem.specs.Held.{memory_in};
+ghost use Rattle.space_model.specs.Space.{find};
+ghost use Rattle.space_tree.specs.Kept.{children_in, unboxed};
 
+use crate::children::Children;
 use crate::space::Space;
 use crate::top::Top;
 use dev_script::Devices;
@@ -42,6 +45,19 @@ pub fn copy_tree(alloc: Global, space: &mut Space) -> Result<Space, AllocError>
     Ok(Space { top, children })
 }
 
+/// A copy of the child of that number, with all below it; of a missing one there is none. The children are as they were, and as much is
+/// known of them. The one error is want of memory.
+pub fn copy_child(
+    alloc: Global,
+    children: &mut Children,
+    number: u16,
+) -> Result<Option<Space>, AllocError>
+    ensures equal { IfOk result (λ copy. copy ≡ find number children.old) }
+    ensures same { children.new ≡ children.old }
+{
+    copy_entry(alloc, &mut children.entries, number)
+}
+
 // An equal memory, where there is one.
 fn copy_snapshot(snapshot: &mut Option<Mem>) -> Result<Option<Mem>, AllocError>
     ensures equal { IfOk result (λ o. memory_in o ≡ memory_in snapshot.old) }
@@ -64,24 +80,24 @@ fn copy_devices(devices: &Option<Devices>) -> Result<Option<Devices>, AllocError
 }
 
 // The numbers of the children, in rising order.
-fn numbers(alloc: Global, children: &BTreeMap<u16, Space>) -> Result<Vec<u16>, AllocError>
-    ensures numbers { IfOk result (λ numbers. numbers.items ≡ map (λ e. e.0) children.now.entries) }
-    ensures rising { IsOrdered nat_cmp children.now }
+fn numbers(alloc: Global, entries: &BTreeMap<u16, Box<Space>>) -> Result<Vec<u16>, AllocError>
+    ensures numbers { IfOk result (λ numbers. numbers.items ≡ map (λ e. e.0) entries.now.entries) }
+    ensures rising { IsOrdered nat_cmp entries.now }
 {
-    children.keys().copied().collect(alloc)
+    entries.keys().copied().collect(alloc)
 }
 
 // A copy of the child of that number, where there is one.
 #[cycle(copy)]
-fn copy_child(
+fn copy_entry(
     alloc: Global,
-    children: &mut BTreeMap<u16, Space>,
+    entries: &mut BTreeMap<u16, Box<Space>>,
     number: u16,
 ) -> Result<Option<Space>, AllocError>
-    ensures equal { IfOk result (λ o. o ≡ get nat_cmp children.old number) }
-    ensures same { children.new.entries ≡ children.old.entries }
+    ensures equal { IfOk result (λ o. o ≡ find number (children_in entries.old.entries)) }
+    ensures same { unboxed entries.new.entries ≡ unboxed entries.old.entries }
 {
-    match children.get_mut(&number) {
+    match entries.get_mut(&number) {
         Some(child) => Ok(Some(copy_tree(alloc, child)?)),
         None => Ok(None),
     }
@@ -89,19 +105,33 @@ fn copy_child(
 
 // Copies of the children, with all below them, under the same numbers.
 #[cycle(copy)]
-fn copy_children(
+fn copy_entries(
     alloc: Global,
-    children: &mut BTreeMap<u16, Space>,
-) -> Result<BTreeMap<u16, Space>, AllocError>
-    ensures equal { IfOk result (λ copies. copies.entries ≡ children.old.entries) }
-    ensures same { children.new.entries ≡ children.old.entries }
+    entries: &mut BTreeMap<u16, Box<Space>>,
+) -> Result<BTreeMap<u16, Box<Space>>, AllocError>
+    ensures equal { IfOk result (λ copies. unboxed copies.entries ≡ unboxed entries.old.entries) }
+    ensures same { unboxed entries.new.entries ≡ unboxed entries.old.entries }
 {
-    let numbers = numbers(alloc, children)?;
+    let numbers = numbers(alloc, entries)?;
     let mut copies = BTreeMap::new(alloc);
     for number in &numbers {
-        if let Some(copy) = copy_child(alloc, children, *number)? {
-            copies.insert(*number, copy)?;
+        if let Some(copy) = copy_entry(alloc, entries, *number)? {
+            copies.insert(*number, Box::new(alloc, copy)?)?;
         }
     }
     Ok(copies)
+}
+
+// Copies of the children, of which as much is known.
+#[cycle(copy)]
+fn copy_children(alloc: Global, children: &mut Children) -> Result<Children, AllocError>
+    ensures equal { IfOk result (λ copies. copies ≡ children.old) }
+    ensures same { children.new ≡ children.old }
+{
+    let entries = copy_entries(alloc, &mut children.entries)?;
+    Ok(Children {
+        entries,
+        settled: children.settled,
+        levels: children.levels,
+    })
 }

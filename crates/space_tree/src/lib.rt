@@ -1,6 +1,7 @@
 //! Spaces: the state of a space without its children, and a tree of them.
 #![tactic(auto)]
 
+mod children;
 mod copying;
 mod levels;
 mod path;
@@ -10,7 +11,8 @@ mod settled;
 mod space;
 mod top;
 
-pub use copying::{copy_top, copy_tree};
+pub use children::Children;
+pub use copying::{copy_child, copy_top, copy_tree};
 pub use dev_script::Devices;
 pub use levels::height;
 pub use path::{Path, at, put_at, swap_top};

@@ -8,7 +8,7 @@ ghost use Rattle.space_model.specs.Sound.{IsSoundTop, IsSoundAt};
 use crate::space::Space;
 use crate::top::Top;
 use arrayvec::ArrayVec;
-use std::alloc::AllocError;
+use std::alloc::{AllocError, Global};
 use std::mem;
 
 /// The numbers of the children that lead to a space, from the root on: at most 8, since no space is deeper.
@@ -24,13 +24,13 @@ pub fn at<'a>(space: &'a Space, path: &Path) -> Option<&'a Space>
 
 /// Puts a space at a path, in the place of the one there or as a new child of one that is there. Its one error is want of
 /// memory; nothing changes then.
-pub fn put_at(space: &mut Space, path: &Path, new: Space) -> Result<(), AllocError>
+pub fn put_at(alloc: Global, space: &mut Space, path: &Path, new: Space) -> Result<(), AllocError>
     requires { HasParent path.now.items space.old }
     ensures ok { OnOk result (space.new ≡ with_space path.now.items new space.old) }
     ensures err { OnErr result (space.new ≡ space.old) }
     ensures sound { (fuel : ℕ) → IsSoundAt greatest_depth true fuel space.old → IsSoundAt (levels_below (length path.now.items)) (is_root true path.now.items) fuel new → IsSoundAt greatest_depth true fuel space.new }
 {
-    put(space, path, new)
+    put(alloc, space, path, new)
 }
 
 /// Gives the space at a path another state, and answers the one that it had. It needs no memory.
@@ -49,21 +49,20 @@ fn find<'a>(space: &'a Space, path: &[u16]) -> Option<&'a Space>
 {
     match path {
         [] => Some(space),
-        [number, rest @ ..] => find(space.children.get(number)?, rest),
+        [number, rest @ ..] => find(space.children.get(*number)?, rest),
     }
 }
 
 // Puts a child in the place of the one of its number, or as a new one.
-fn put_child(space: &mut Space, number: u16, child: Space) -> Result<(), AllocError>
+fn put_child(alloc: Global, space: &mut Space, number: u16, child: Space) -> Result<(), AllocError>
     ensures ok { OnOk result (space.new ≡ under (put_child number child) space.old) }
     ensures err { OnErr result (space.new ≡ space.old) }
 {
-    space.children.insert(number, child)?;
-    Ok(())
+    space.children.insert(alloc, number, child)
 }
 
 // Puts a space at a path whose last number names a child of a space that is there.
-fn put(space: &mut Space, path: &[u16], new: Space) -> Result<(), AllocError>
+fn put(alloc: Global, space: &mut Space, path: &[u16], new: Space) -> Result<(), AllocError>
     requires { HasParent path.now space.old }
     ensures ok { OnOk result (space.new ≡ with_space path.now new space.old) }
     ensures err { OnErr result (space.new ≡ space.old) }
@@ -74,9 +73,9 @@ fn put(space: &mut Space, path: &[u16], new: Space) -> Result<(), AllocError>
             *space = new;
             Ok(())
         }
-        [number] => put_child(space, *number, new),
-        [number, rest @ ..] => match space.children.get_mut(number) {
-            Some(child) => put(child, rest, new),
+        [number] => put_child(alloc, space, *number, new),
+        [number, rest @ ..] => match space.children.get_mut(*number) {
+            Some(child) => put(alloc, child, rest, new),
             None => Ok(()),
         },
     }
@@ -89,7 +88,7 @@ fn swap(space: &mut Space, path: &[u16], top: Top) -> Top
 {
     match path {
         [] => mem::replace(&mut space.top, top),
-        [number, rest @ ..] => match space.children.get_mut(number) {
+        [number, rest @ ..] => match space.children.get_mut(*number) {
             Some(child) => swap(child, rest, top),
             None => top,
         },

@@ -1,33 +1,35 @@
 ghost use Rattle.std.specs.Prelude.{◌≡◌};
 ghost use Rattle.space_model.specs.Space.{Space, space, none, top_of};
 
+use crate::children::Children;
 use crate::top::Top;
 use std::alloc::Global;
-use std::collections::BTreeMap;
 use std::marker::Model;
 
 /// A space: its state, and its children by their numbers (OSDI 2010, "Efficient System-Enforced Deterministic Parallelism",
 /// the section on the kernel interface: a tree of spaces).
+#[cycle(space)]
 #[derive(Drop)]
 pub struct Space {
     pub top: Top,
-    pub children: BTreeMap<u16, Space>,
+    pub children: Children,
 }
 
 impl Model for Space {
-    ghost use Rattle.space_model.specs.Space.{Space, space, children_from};
-    ghost use Rattle.space_model.specs.Encoding.{coded_space, size_of, most_le_sizes};
+    ghost use Rattle.space_model.specs.Space.{Space, space};
+    ghost use Rattle.space_model.specs.Encoding.{coded_space};
+    ghost use Rattle.space_tree.specs.Kept.{space_size, children_smaller};
     ghost use Rattle.std.proofs.Common.{arith};
 
     ghost Value = { Space };
 
     ghost coded = { coded_space };
 
-    ghost view = { λ s. space s.top (children_from s.children.entries) };
+    ghost view = { λ s. space s.top s.children };
 
-    ghost size = { size_of };
+    ghost size = { space_size };
 
-    ghost size_decreases = { λ a h. Prim.omega (arith, most_le_sizes a.top a.children.entries) };
+    ghost size_decreases = { λ s h. Prim.omega (arith, children_smaller s.top s.children) };
 }
 
 impl Space {
@@ -37,7 +39,7 @@ impl Space {
     {
         Space {
             top,
-            children: BTreeMap::new(alloc),
+            children: Children::new(alloc),
         }
     }
 

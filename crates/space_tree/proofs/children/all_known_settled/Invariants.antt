@@ -1,0 +1,8 @@
+use Rattle.std.proofs.Common.{◌≡◌}
+use Rattle.space_model.specs.Space.{are_settled}
+use Rattle.space_tree.specs.Kept.{children_in}
+use Rattle.space_tree.proofs.Values.{all_settled}
+use Rattle.space_tree.proofs.children.all_known_settled.Given as goal
+
+abbrev pub invariant-loop-child : goal.invariant-loop-child
+invariant-loop-child l = all_settled l.child-iterator ≡ are_settled (children_in l.entries.entries)
