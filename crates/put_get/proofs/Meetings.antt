@@ -1,16 +1,14 @@
 -- What Put and Get are of a caller that pays.
-use Rattle.std.proofs.Common.{◌≡◌, ℕ, ◌+◌, ◌<◌, List, [], ◌∷◌, Option, Some, None, refl, subst, sym, ◌∙◌, ap, nat_cmp}
+use Rattle.std.proofs.Common.{◌≡◌, ℕ, ◌+◌, ◌<◌, List, [], ◌∷◌, Option, Some, None, refl, subst, sym, ◌∙◌, ap}
 use Rattle.std.specs.Prelude.{Bool, true, false, option_map, Result, OnOk}
 use Rattle.std.proofs.lemmas.Result.{on_ok_weaker}
-use Rattle.std.specs.BTreeMap.{is_at}
-use Rattle.std.specs.Map.{lookup}
 use Rattle.call_model.specs.declared.Transfer.{Transfer}
 use Rattle.call_model.specs.declared.Call.{Call}
-use Rattle.call_model.specs.declared.Call.TheVariants.{Put, PutTree, Get, GetTree, Tjoin}
+use Rattle.call_model.specs.declared.Call.TheVariants.{Put, PutTree, Get, GetTree}
 use Rattle.call_model.specs.Options.{has}
 use Rattle.space_model.specs.declared.Refusal.{Refusal}
 use Rattle.space_model.specs.declared.Cause.TheVariants.{Conflict}
-use Rattle.space_model.specs.Space.{Space, space, Children, Top, top_of, children_of, find, children_from}
+use Rattle.space_model.specs.Space.{Space, space, Children, Top, top_of, children_of, find}
 use Rattle.space_model.specs.Change.{after_payment, stop, after_success}
 use Rattle.space_model.specs.Call.{Seen, edit, change, seen_of, apply_meeting}
 use Rattle.space_model.specs.Event.{MayPay}
@@ -19,7 +17,6 @@ use Rattle.space_model.specs.Refusals.{first_refusal}
 use Rattle.space_model.specs.Meeting.{or_fresh, awaits, refusals, action, unless_refused, meet}
 use Rattle.space_model.specs.Caller.{with_action}
 use Rattle.space_model.specs.Part.{Part, part_if, with_parts, get_parts, child_after, caller_after}
-use Rattle.space_model.proofs.Entries.{find_entries}
 use Rattle.space_model.proofs.Callers.{or_fresh-paid}
 use Rattle.put_get.specs.Meetings.{get_conflict, early_refusals, last_refusal, early_of, conflict_of, unless_conflict, acts_or_stops, IsPutOrGet}
 
@@ -27,22 +24,22 @@ use Rattle.put_get.specs.Meetings.{get_conflict, early_refusals, last_refusal, e
 abbrev pub with_taken : Transfer → Top → Option Space → Top
 with_taken x t o = caller_after x (or_fresh t (option_map top_of o)) t
 
-pub taken_there : (x : Transfer) (t u c : Top) (s : Space) (es : List (ℕ × Space)) → Some s ≡ lookup (is_at (nat_cmp x.child)) es → c ≡ top_of s → u ≡ caller_after x c t
-    → u ≡ with_taken x t (find x.child (children_from es))
-taken_there x t u c s es at top is = is ∙ ap (λ d. caller_after x d t) top ∙ ap (with_taken x t) (at ∙ find_entries x.child es)
+pub taken_there : (x : Transfer) (t u c : Top) (s : Space) (cs : Children) → Some s ≡ find x.child cs → c ≡ top_of s → u ≡ caller_after x c t
+    → u ≡ with_taken x t (find x.child cs)
+taken_there x t u c s cs at top is = is ∙ ap (λ d. caller_after x d t) top ∙ ap (with_taken x t) at
 
-pub taken_missing : (x : Transfer) (t u : Top) (es : List (ℕ × Space)) → None ≡ lookup (is_at (nat_cmp x.child)) es → u ≡ caller_after x (fresh_top (t.fuel + t.used)) t
-    → u ≡ with_taken x t (find x.child (children_from es))
-taken_missing x t u es at is = is ∙ ap (with_taken x t) (at ∙ find_entries x.child es)
+pub taken_missing : (x : Transfer) (t u : Top) (cs : Children) → None ≡ find x.child cs → u ≡ caller_after x (fresh_top (t.fuel + t.used)) t
+    → u ≡ with_taken x t (find x.child cs)
+taken_missing x t u cs at is = is ∙ ap (with_taken x t) at
 
 -- the conflict with a child that was found, or with a fresh one
-pub conflict_there : (x : Transfer) (t c : Top) (s : Space) (es : List (ℕ × Space)) → Some s ≡ lookup (is_at (nat_cmp x.child)) es → c ≡ top_of s
-    → get_conflict x t c ≡ get_conflict x t (or_fresh t (option_map top_of (find x.child (children_from es))))
-conflict_there x t c s es at top = ap (get_conflict x t) top ∙ ap (λ o. get_conflict x t (or_fresh t (option_map top_of o))) (at ∙ find_entries x.child es)
+pub conflict_there : (x : Transfer) (t c : Top) (s : Space) (cs : Children) → Some s ≡ find x.child cs → c ≡ top_of s
+    → get_conflict x t c ≡ get_conflict x t (or_fresh t (option_map top_of (find x.child cs)))
+conflict_there x t c s cs at top = ap (get_conflict x t) top ∙ ap (λ o. get_conflict x t (or_fresh t (option_map top_of o))) at
 
-pub conflict_missing : (x : Transfer) (t : Top) (es : List (ℕ × Space)) → None ≡ lookup (is_at (nat_cmp x.child)) es
-    → get_conflict x t (fresh_top (t.fuel + t.used)) ≡ get_conflict x t (or_fresh t (option_map top_of (find x.child (children_from es))))
-conflict_missing x t es at = ap (λ o. get_conflict x t (or_fresh t (option_map top_of o))) (at ∙ find_entries x.child es)
+pub conflict_missing : (x : Transfer) (t : Top) (cs : Children) → None ≡ find x.child cs
+    → get_conflict x t (fresh_top (t.fuel + t.used)) ≡ get_conflict x t (or_fresh t (option_map top_of (find x.child cs)))
+conflict_missing x t cs at = ap (λ o. get_conflict x t (or_fresh t (option_map top_of o))) at
 
 -- calls that merge nothing find no conflict
 pub put_free : (x : Transfer) (k : Call) (s : Space) → Put x ≡ k → conflict_of k s ≡ None

@@ -6,7 +6,7 @@ ghost use Rattle.space_model.specs.Event.{MayPay};
 ghost use Rattle.space_model.specs.Beginning.{fresh_top};
 ghost use Rattle.space_model.specs.Meeting.{or_fresh};
 ghost use Rattle.space_model.specs.Part.{part_if, block_part, merge_part, destination_page, page_count, caller_after};
-ghost use Rattle.space_model.specs.Space.{children_from, children_of, find, top_of};
+ghost use Rattle.space_model.specs.Space.{children_of, find, top_of};
 ghost use Rattle.space_model.specs.Caller.{with_action};
 ghost use Rattle.put_get.specs.Meetings.{get_conflict, conflict_of, MayStop};
 ghost use Rattle.put_get.specs.Ranges.{at_most_one, get_changes};
@@ -14,9 +14,8 @@ ghost use Rattle.put_get.specs.Ranges.{at_most_one, get_changes};
 use crate::options::{has_agree, has_copy, has_merge, has_perm, has_regs, has_zero};
 use crate::ranges::{destination, fill, permit, share};
 use snapshot::{MergeError, merge};
-use space_tree::{Space, Top};
+use space_tree::{Children, Space, Top};
 use std::alloc::{AllocError, Global};
-use std::collections::BTreeMap;
 use trap_ret::{Transfer, write_block};
 
 // Regs: the child's register block is written, whatever the permissions are, where that is asked for.
@@ -134,26 +133,26 @@ fn take_child(
     alloc: Global,
     x: &Transfer,
     caller: &mut Top,
-    children: &BTreeMap<u16, Space>,
+    children: &Children,
 ) -> Result<(), MergeError>
     requires { IsTransfer x.now }
-    ensures ok { let child = or_fresh caller.old (option_map top_of (find x.now.child (children_from children.now.entries))) in OnOk result (caller.new ≡ caller_after x.now child caller.old) }
-    ensures sure { let child = or_fresh caller.old (option_map top_of (find x.now.child (children_from children.now.entries))) in OnOk result (get_conflict x.now caller.old child ≡ None) }
-    ensures conflict { let child = or_fresh caller.old (option_map top_of (find x.now.child (children_from children.now.entries))) in IfErr result (MayStop (get_conflict x.now caller.old child)) }
+    ensures ok { let child = or_fresh caller.old (option_map top_of (find x.now.child children.now)) in OnOk result (caller.new ≡ caller_after x.now child caller.old) }
+    ensures sure { let child = or_fresh caller.old (option_map top_of (find x.now.child children.now)) in OnOk result (get_conflict x.now caller.old child ≡ None) }
+    ensures conflict { let child = or_fresh caller.old (option_map top_of (find x.now.child children.now)) in IfErr result (MayStop (get_conflict x.now caller.old child)) }
     ensures err { OnErr result (caller.new ≡ caller.old) }
 {
-    match children.get(&x.child) {
+    match children.get(x.child) {
         Some(child) => take_top(x, child.top(), caller),
         None => take_fresh(alloc, x, caller),
     }
 }
 
 // The pages that Copy takes from the child of that number become ones that can be shared. The children are as they were.
-fn share_in(x: &Transfer, children: &mut BTreeMap<u16, Space>) -> Result<(), AllocError>
+fn share_in(x: &Transfer, children: &mut Children) -> Result<(), AllocError>
     requires { IsTransfer x.now }
-    ensures same { children_from children.new.entries ≡ children_from children.old.entries }
+    ensures same { children.new ≡ children.old }
 {
-    match children.get_mut(&x.child) {
+    match children.get_mut(x.child) {
         Some(child) => share(x, child),
         None => Ok(()),
     }

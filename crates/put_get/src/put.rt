@@ -8,16 +8,15 @@ ghost use Rattle.space_model.specs.Event.{MayPay};
 ghost use Rattle.space_model.specs.Beginning.{fresh_top};
 ghost use Rattle.space_model.specs.Meeting.{or_fresh};
 ghost use Rattle.space_model.specs.Part.{part_if, with_parts, registers_part, snapshot_part, start_part, start_limit, child_after};
-ghost use Rattle.space_model.specs.Space.{space, none, children_from, children_of, find, top_of};
+ghost use Rattle.space_model.specs.Space.{space, none, children_of, find, top_of};
 ghost use Rattle.space_model.specs.Caller.{with_action};
 ghost use Rattle.put_get.specs.Ranges.{memory_parts, at_most_one, put_changes};
 
 use crate::options::{has_copy, has_limit, has_perm, has_regs, has_snap, has_start, has_zero};
 use crate::ranges::{fill, permit, share};
 use snapshot::take;
-use space_tree::{Space, Status, Top};
+use space_tree::{Children, Space, Status, Top};
 use std::alloc::{AllocError, Global};
-use std::collections::BTreeMap;
 use trap_ret::Transfer;
 
 // Regs: the child's registers become those of the caller's block, where that is asked for.
@@ -138,18 +137,17 @@ fn give_child(
     alloc: Global,
     x: &Transfer,
     caller: &Top,
-    children: &mut BTreeMap<u16, Space>,
+    children: &mut Children,
 ) -> Result<(), AllocError>
     requires { IsTransfer x.now }
-    ensures ok { let cs = children_from children.old.entries in OnOk result (children_from children.new.entries ≡ edit (change x.now.child (child_after x.now caller.now (or_fresh caller.now (option_map top_of (find x.now.child cs))))) cs) }
-    ensures err { OnErr result (children_from children.new.entries ≡ children_from children.old.entries) }
+    ensures ok { let cs = children.old in OnOk result (children.new ≡ edit (change x.now.child (child_after x.now caller.now (or_fresh caller.now (option_map top_of (find x.now.child cs))))) cs) }
+    ensures err { OnErr result (children.new ≡ children.old) }
 {
-    match children.get_mut(&x.child) {
+    match children.get_mut(x.child) {
         Some(child) => give_top(x, caller, child),
         None => {
             let child = made(alloc, x, caller)?;
-            children.insert(x.child, child)?;
-            Ok(())
+            children.insert(alloc, x.child, child)
         }
     }
 }

@@ -3,14 +3,13 @@ ghost use Rattle.call_model.specs.Limits.{greatest_depth, levels_below};
 ghost use Rattle.memory_model.specs.Memory.{may_read, may_write};
 ghost use Rattle.call_model.specs.Accepted.{IsTransfer};
 ghost use Rattle.space_model.specs.Meeting.{block_refusal, height_refusal};
-ghost use Rattle.space_model.specs.Space.{children_from, find};
+ghost use Rattle.space_model.specs.Space.{find};
 ghost use Rattle.space_model.specs.declared.Cause.TheVariants.{LoadFault, StoreFault};
 ghost use Rattle.put_get.specs.Meetings.{early_of, early_get, snapshot_in, IsPutOrGet};
 
 use crate::options::{has_merge, has_regs};
 use space_model::Refusal;
-use space_tree::{Cause, Space, Top, height, no_snapshot, too_deep};
-use std::collections::BTreeMap;
+use space_tree::{Cause, Children, Space, Top, height, no_snapshot, too_deep};
 use trap_ret::limits::{BLOCK_SIZE, GREATEST_DEPTH};
 use trap_ret::{AcceptedCall, Call, Transfer};
 
@@ -47,10 +46,10 @@ fn unwritable_block(x: &Transfer, caller: &Top) -> Option<Refusal>
 }
 
 // Test 5: whether the child of that number lacks a snapshot; one that is missing does.
-fn lacks_snapshot(children: &BTreeMap<u16, Space>, number: u16) -> bool
-    ensures { result ≡ is_none (snapshot_in (find number (children_from children.now.entries))) }
+fn lacks_snapshot(children: &Children, number: u16) -> bool
+    ensures { result ≡ is_none (snapshot_in (find number children.now)) }
 {
-    match children.get(&number) {
+    match children.get(number) {
         Some(child) => child.top.snapshot.is_none(),
         None => true,
     }
@@ -68,11 +67,11 @@ fn get_refusal(x: &Transfer, caller: &Space) -> Option<Refusal>
 }
 
 // Test 8 of a space that is copied to a child's child of a caller at this depth.
-fn tree_refusal(children: &BTreeMap<u16, Space>, from: u16, depth: u8) -> Option<Refusal>
+fn tree_refusal(children: &Children, from: u16, depth: u8) -> Option<Refusal>
     requires { depth ≤ greatest_depth }
-    ensures { result ≡ height_refusal (levels_below depth) (find from (children_from children.now.entries)) }
+    ensures { result ≡ height_refusal (levels_below depth) (find from children.now) }
 {
-    let copied = children.get(&from)?;
+    let copied = children.get(from)?;
     if height(copied).saturating_add(2) > GREATEST_DEPTH - depth {
         return Some(too_deep());
     }

@@ -3,54 +3,42 @@ ghost use Rattle.call_model.specs.declared.Call.TheVariants.{PutTree, GetTree};
 ghost use Rattle.space_model.specs.Call.{edit, copy_to, place, below};
 ghost use Rattle.space_model.specs.Event.{MayPay};
 ghost use Rattle.space_model.specs.Meeting.{space_or_fresh, with_copy};
-ghost use Rattle.space_model.specs.Space.{space, none, children_from, children_of, find, top_of};
+ghost use Rattle.space_model.specs.Space.{space, none, children_of, find, top_of};
 ghost use Rattle.space_model.specs.Caller.{with_action};
 
-use space_tree::{Space, Top, copy_tree};
+use space_tree::{Children, Space, Top, copy_child};
 use std::alloc::{AllocError, Global};
-use std::collections::BTreeMap;
-
-// A copy of the child of that number, with all below it; of a missing one there is none. The children are as they were.
-fn copy_child(
-    alloc: Global,
-    children: &mut BTreeMap<u16, Space>,
-    number: u16,
-) -> Result<Option<Space>, AllocError>
-    ensures ok { IfOk result (λ copy. copy ≡ find number (children_from children.old.entries)) }
-    ensures same { children_from children.new.entries ≡ children_from children.old.entries }
-{
-    match children.get_mut(&number) {
-        Some(child) => Ok(Some(copy_tree(alloc, child)?)),
-        None => Ok(None),
-    }
-}
 
 // The child of that number becomes this copy; where there is none, it goes. At an error the children are as they were.
 fn place_copy(
-    children: &mut BTreeMap<u16, Space>,
+    alloc: Global,
+    children: &mut Children,
     number: u16,
     copy: Option<Space>,
 ) -> Result<(), AllocError>
-    ensures ok { OnOk result (children_from children.new.entries ≡ edit (copy_to number copy) (children_from children.old.entries)) }
-    ensures err { OnErr result (children_from children.new.entries ≡ children_from children.old.entries) }
+    ensures ok { OnOk result (children.new ≡ edit (copy_to number copy) children.old) }
+    ensures err { OnErr result (children.new ≡ children.old) }
 {
     match copy {
-        Some(space) => {
-            children.insert(number, space)?;
-        }
+        Some(space) => children.insert(alloc, number, space),
         None => {
-            children.remove(&number);
+            children.remove(number);
+            Ok(())
         }
     }
-    Ok(())
 }
 
 // As `place_copy`, of a child's children.
-fn place_below(child: &mut Space, number: u16, copy: Option<Space>) -> Result<(), AllocError>
+fn place_below(
+    alloc: Global,
+    child: &mut Space,
+    number: u16,
+    copy: Option<Space>,
+) -> Result<(), AllocError>
     ensures ok { OnOk result (child.new ≡ with_copy number copy child.old) }
     ensures err { OnErr result (child.new ≡ child.old) }
 {
-    place_copy(&mut child.children, number, copy)
+    place_copy(alloc, &mut child.children, number, copy)
 }
 
 // The child that Put with Tree makes, with the copy as its child.
@@ -63,7 +51,7 @@ fn make_child(
     ensures { IfOk result (λ made. made ≡ with_copy number copy (space_or_fresh caller.now None)) }
 {
     let mut made = Space::alone(alloc, Top::fresh(alloc, caller.total_fuel()));
-    place_below(&mut made, number, copy)?;
+    place_below(alloc, &mut made, number, copy)?;
     Ok(made)
 }
 
@@ -71,20 +59,19 @@ fn make_child(
 fn place_in_child(
     alloc: Global,
     caller: &Top,
-    children: &mut BTreeMap<u16, Space>,
+    children: &mut Children,
     child: u16,
     to: u16,
     copy: Option<Space>,
 ) -> Result<(), AllocError>
-    ensures ok { let cs = children_from children.old.entries in OnOk result (children_from children.new.entries ≡ edit (place child (with_copy to copy (space_or_fresh caller.now (find child cs)))) cs) }
-    ensures err { OnErr result (children_from children.new.entries ≡ children_from children.old.entries) }
+    ensures ok { let cs = children.old in OnOk result (children.new ≡ edit (place child (with_copy to copy (space_or_fresh caller.now (find child cs)))) cs) }
+    ensures err { OnErr result (children.new ≡ children.old) }
 {
-    match children.get_mut(&child) {
-        Some(there) => place_below(there, to, copy),
+    match children.get_mut(child) {
+        Some(there) => place_below(alloc, there, to, copy),
         None => {
             let made = make_child(alloc, caller, to, copy)?;
-            children.insert(child, made)?;
-            Ok(())
+            children.insert(alloc, child, made)
         }
     }
 }
@@ -110,14 +97,14 @@ pub fn put_tree(
 // A copy of child `from` of the child of that number, with all below it. The children are as they were.
 fn copy_grandchild(
     alloc: Global,
-    children: &mut BTreeMap<u16, Space>,
+    children: &mut Children,
     number: u16,
     from: u16,
 ) -> Result<Option<Space>, AllocError>
-    ensures ok { IfOk result (λ copy. copy ≡ find from (below (find number (children_from children.old.entries)))) }
-    ensures same { children_from children.new.entries ≡ children_from children.old.entries }
+    ensures ok { IfOk result (λ copy. copy ≡ find from (below (find number children.old))) }
+    ensures same { children.new ≡ children.old }
 {
-    match children.get_mut(&number) {
+    match children.get_mut(number) {
         Some(child) => copy_below(alloc, child, from),
         None => Ok(None),
     }
@@ -144,7 +131,7 @@ pub fn get_tree(
     ensures err { OnErr result (space.new ≡ space.old) }
 {
     let copy = copy_grandchild(alloc, &mut space.children, child, from)?;
-    place_copy(&mut space.children, to, copy)?;
+    place_copy(alloc, &mut space.children, to, copy)?;
     space.top.pay_and_succeed();
     Ok(())
 }

@@ -6,8 +6,8 @@ use Rattle.put_get.proofs.refusal.lacks_snapshot.Goals as goal
 
 pub returns-in-Some : goal.returns-in-Some
 returns-in-Some c =
-    lacking c.args.number c.in-Some.child.now c.is_none.result c.args.children.now.entries c.in-Some.ensures.value
+    lacking c.args.number c.in-Some.child.now c.is_none.result c.args.children.now c.in-Some.ensures
     (no_memory_in _ c.is_none.result c.is_none.ensures ∙ ap (λ i. is_none i.top.snapshot) c.child-inside.view_is ∙ ap (λ s. is_none (snapshot_in (Some s))) c.child.view_is)
 
 pub returns-in-None : goal.returns-in-None
-returns-in-None c = missing_lacks c.args.number c.args.children.now.entries c.in-None.ensures.value
+returns-in-None c = missing_lacks c.args.number c.args.children.now c.in-None.ensures
