@@ -7,16 +7,15 @@ ghost use Rattle.space_model.specs.Event.{MayPay};
 ghost use Rattle.space_model.specs.Files.{with_file_bases};
 ghost use Rattle.space_model.specs.Meeting.{or_fresh};
 ghost use Rattle.space_model.specs.Runtime as runtime;
-ghost use Rattle.space_model.specs.Space.{space, none, children_from, children_of, find, top_of};
+ghost use Rattle.space_model.specs.Space.{space, none, children_of, find, top_of};
 ghost use Rattle.space_mem.specs.Held.{all_pages};
 ghost use Rattle.user_runtime.specs.Calls.{Suits, after_fork_of, fork_call, forked_memory, memory_of};
 
 use memory_files::mark_base;
 use rv_exec::Regs;
 use snapshot::take;
-use space_tree::{Mem, Space, Status, Top};
+use space_tree::{Children, Mem, Space, Status, Top};
 use std::alloc::{AllocError, Global};
-use std::collections::BTreeMap;
 
 // The registers of a child that is forked: it goes on behind the call, with a0 = 1.
 fn fork_registers(caller: &Regs) -> Regs
@@ -83,23 +82,22 @@ fn give_child(
     caller: &Top,
     memory: Mem,
     snapshot: Option<Mem>,
-    children: &mut BTreeMap<u16, Space>,
+    children: &mut Children,
 ) -> Result<(), AllocError>
     requires copy { memory.memory ≡ forked_memory (is_some snapshot) caller.now.memory }
     requires kept { IfSome snapshot (λ s. s.memory ≡ caller.now.memory) }
     requires suits { Suits memory snapshot }
-    ensures ok { let cs = children_from children.old.entries in OnOk result (children_from children.new.entries ≡ edit (change number (after_fork_of (is_some snapshot) caller.now (or_fresh caller.now (option_map top_of (find number cs))))) cs) }
-    ensures err { OnErr result (children_from children.new.entries ≡ children_from children.old.entries) }
+    ensures ok { let cs = children.old in OnOk result (children.new ≡ edit (change number (after_fork_of (is_some snapshot) caller.now (or_fresh caller.now (option_map top_of (find number cs))))) cs) }
+    ensures err { OnErr result (children.new ≡ children.old) }
 {
-    match children.get_mut(&number) {
+    match children.get_mut(number) {
         Some(child) => {
             give_top(caller, memory, snapshot, child);
             Ok(())
         }
         None => {
             let child = make_child(alloc, caller, memory, snapshot);
-            children.insert(number, child)?;
-            Ok(())
+            children.insert(alloc, number, child)
         }
     }
 }

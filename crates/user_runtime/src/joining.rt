@@ -3,15 +3,14 @@ ghost use Rattle.call_model.specs.declared.Call.TheVariants.{Tjoin};
 ghost use Rattle.space_model.specs.Caller.{MayCall, met_by, StaysSound};
 ghost use Rattle.space_model.specs.Event.{MayPay};
 ghost use Rattle.space_model.specs.Meeting.{or_fresh};
-ghost use Rattle.space_model.specs.Space.{children_from, children_of, find, top_of};
+ghost use Rattle.space_model.specs.Space.{children_of, find, top_of};
 ghost use Rattle.space_mem.specs.Held.{Covers, Marks, memory_in};
 ghost use Rattle.user_runtime.specs.Joins.{IsShared, shared_conflict, shared_merge, join_refusal, with_merge_unless, with_join, after_call};
 
 use snapshot::{MergeError, merge};
 use space_model::Refusal;
-use space_tree::{Mem, Pages, Space, Top, conflict, no_snapshot};
+use space_tree::{Children, Mem, Pages, Space, Top, conflict, no_snapshot};
 use std::alloc::{AllocError, Global};
-use std::collections::BTreeMap;
 
 // The pages that threads share: those below the address 0xC0000000.
 const SHARED_PAGES: u32 = 0xC0000;
@@ -78,12 +77,12 @@ fn join_child(child: &Top, caller: &mut Top) -> Result<(), AllocError>
 }
 
 // As `join_child`, by the child's number; one that is missing has no snapshot.
-fn join(number: u16, caller: &mut Top, children: &BTreeMap<u16, Space>) -> Result<(), AllocError>
+fn join(number: u16, caller: &mut Top, children: &Children) -> Result<(), AllocError>
     requires { MayPay caller.old }
-    ensures ok { OnOk result (caller.new ≡ with_join (or_fresh caller.old (option_map top_of (find number (children_from children.now.entries)))) caller.old) }
+    ensures ok { OnOk result (caller.new ≡ with_join (or_fresh caller.old (option_map top_of (find number children.now))) caller.old) }
     ensures err { OnErr result (caller.new ≡ caller.old) }
 {
-    match children.get(&number) {
+    match children.get(number) {
         Some(child) => join_child(child.top(), caller),
         None => {
             caller.trap(no_snapshot());

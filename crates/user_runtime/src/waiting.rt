@@ -5,12 +5,11 @@ ghost use Rattle.space_model.specs.Call.{edit, take_away};
 ghost use Rattle.space_model.specs.Caller.{MayCall, met_by, StaysSound};
 ghost use Rattle.space_model.specs.Meeting.{or_fresh};
 ghost use Rattle.space_model.specs.Runtime.{files_part, after_wait};
-ghost use Rattle.space_model.specs.Space.{children_from, find, top_of};
+ghost use Rattle.space_model.specs.Space.{find, top_of};
 
 use memory_files::reconcile;
-use space_tree::{FRESH, Space, Top};
+use space_tree::{Children, FRESH, Space, Top};
 use std::alloc::{AllocError, Global};
-use std::collections::BTreeMap;
 
 // The caller takes over what a child changed in its files; a3 is how many of them found no free slot. At an error it is as it was.
 #[tactic(auto, using(space_mem::proofs::Dirty::covers_in_after))]
@@ -46,12 +45,12 @@ fn wait_missing(caller: &mut Top)
 fn wait_number(
     number: u16,
     caller: &mut Top,
-    children: &BTreeMap<u16, Space>,
+    children: &Children,
 ) -> Result<(), AllocError>
-    ensures ok { OnOk result (caller.new ≡ after_wait (or_fresh caller.old (option_map top_of (find number (children_from children.now.entries)))) caller.old) }
+    ensures ok { OnOk result (caller.new ≡ after_wait (or_fresh caller.old (option_map top_of (find number children.now))) caller.old) }
     ensures err { OnErr result (caller.new ≡ caller.old) }
 {
-    match children.get(&number) {
+    match children.get(number) {
         Some(child) => wait_child(child.top(), caller),
         None => {
             wait_missing(caller);
@@ -61,10 +60,10 @@ fn wait_number(
 }
 
 // The child of that number goes, with all below it.
-fn take_away(children: &mut BTreeMap<u16, Space>, number: u16)
-    ensures { children_from children.new.entries ≡ edit (take_away number) (children_from children.old.entries) }
+fn take_away(children: &mut Children, number: u16)
+    ensures { children.new ≡ edit (take_away number) children.old }
 {
-    children.remove(&number);
+    children.remove(number);
 }
 
 /// Wait for a process (OSDI 2010, "Efficient System-Enforced Deterministic Parallelism", the section on emulating high-level abstractions), of a

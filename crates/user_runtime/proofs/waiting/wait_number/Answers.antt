@@ -7,10 +7,10 @@ use Rattle.user_runtime.proofs.waiting.wait_number.Goals as goal
 pub returns-in-Some-clause-ok : goal.returns-in-Some-clause-ok
 returns-in-Some-clause-ok c =
     let t = c.args.caller.now in
-    let read = read_there c.args.number t c.top.result.now c.in-Some.child.now c.args.children.now.entries c.in-Some.ensures.value c.top.ensures in
+    let read = read_there c.args.number t c.top.result.now c.in-Some.child.now c.args.children.now c.in-Some.ensures c.top.ensures in
     on_ok_weaker c.wait_child.result (λ e. e ∙ ap (λ d. after_wait d t) read) c.wait_child.ensures.ok
 
 pub returns-in-None-clause-ok : goal.returns-in-None-clause-ok
 returns-in-None-clause-ok c =
     let t = c.args.caller.now in
-    c.wait_missing.ensures (t.fuel + t.used) ∙ ap (λ d. after_wait d t) (read_missing c.args.number t c.args.children.now.entries c.in-None.ensures.value)
+    c.wait_missing.ensures (t.fuel + t.used) ∙ ap (λ d. after_wait d t) (read_missing c.args.number t c.args.children.now c.in-None.ensures)
