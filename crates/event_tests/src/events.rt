@@ -45,7 +45,7 @@ fn after_events(rt: &impl Abort, alloc: Global) -> Result<Space, Fail> {
 }
 
 fn child_of<'a>(rt: &impl Abort, tree: &'a Space) -> &'a Top {
-    match tree.children.get(&5) {
+    match tree.children.get(5) {
         Some(child) => child.top(),
         None => panic!(rt; "no child"),
     }

@@ -1,6 +1,6 @@
 ghost use Rattle.std.specs.Prelude.{◌≤◌};
 
-use space_step::{Advance, Next, Run, advance, next, peek, run_local};
+use space_step::{Advance, DecodeCache, Next, Run, advance, next, peek, run_local};
 use space_tree::{Cause, Devices, Mem, Pages, Status, Top};
 use std::alloc::{AllocError, Global};
 use std::process::Abort;
@@ -48,7 +48,8 @@ fn after_run(alloc: Global, quantum: u32, limit: Option<u32>) -> Result<Ran, All
 {
     let mut top = root(alloc, COUNTS, 100)?;
     top.limit = limit;
-    let run = run_local(top, 0, quantum)?;
+    let mut cache = DecodeCache::new(alloc)?;
+    let run = run_local(top, 0, quantum, &mut cache)?;
     let top = run.top();
     Ok(Ran {
         ran: run.ran(),
@@ -110,12 +111,25 @@ fn root_of(rt: &impl Abort, alloc: Global, words: [u32; 4], fuel: u32) -> Top
     }
 }
 
+fn cache_of(rt: &impl Abort, alloc: Global) -> DecodeCache {
+    match DecodeCache::new(alloc) {
+        Ok(cache) => cache,
+        Err(_) => panic!(rt; "no memory"),
+    }
+}
+
 // How far a space goes on, for at most `quantum` events.
-fn advanced(rt: &impl Abort, top: &mut Top, depth: u8, quantum: u32) -> Advance
+fn advanced(
+    rt: &impl Abort,
+    cache: &mut DecodeCache,
+    top: &mut Top,
+    depth: u8,
+    quantum: u32,
+) -> Advance
     requires depth { depth ≤ 8 }
     requires quantum { 1 ≤ quantum }
 {
-    match advance(top, depth, quantum) {
+    match advance(top, depth, quantum, cache) {
         Ok(advance) => advance,
         Err(_) => panic!(rt; "no memory"),
     }
@@ -131,11 +145,12 @@ fn next_of(rt: &impl Abort, top: &mut Top, depth: u8) -> Next
     }
 }
 
-fn run_of(rt: &impl Abort, top: Top, depth: u8, quantum: u32) -> Run
+fn run_of(rt: &impl Abort, alloc: Global, top: Top, depth: u8, quantum: u32) -> Run
     requires depth { depth ≤ 8 }
     requires quantum { 1 ≤ quantum }
 {
-    match run_local(top, depth, quantum) {
+    let mut cache = cache_of(rt, alloc);
+    match run_local(top, depth, quantum, &mut cache) {
         Ok(run) => run,
         Err(_) => panic!(rt; "no memory"),
     }
@@ -152,10 +167,11 @@ fn assert_stands(rt: &impl Abort, top: &Top, status: Status, pc: u32, used: u32)
 fn fuel_ends_at_a_call(rt: HostRuntime) -> Result<(), Fail> {
     let mut top = root_of(&rt, rt.alloc(), COUNTS, 3);
     top.limit = Some(3);
-    let ran = advanced(&rt, &mut top, 0, 100).ran;
+    let mut cache = cache_of(&rt, rt.alloc());
+    let ran = advanced(&rt, &mut cache, &mut top, 0, 100).ran;
     assert_eq!(rt; (ran, top.fuel), (4, 0));
     assert_stands(&rt, &top, stopped(Cause::Fuel, 0), 0x100c, 3);
-    let stays = advanced(&rt, &mut top, 0, 100);
+    let stays = advanced(&rt, &mut cache, &mut top, 0, 100);
     assert_eq!(rt; stays.ran, 0);
     assert_eq!(rt; stays.next, Some(Next::Stopped));
     let next = next_of(&rt, &mut top, 0);
@@ -179,7 +195,8 @@ fn put_meets_a_child(rt: HostRuntime) -> Result<(), Fail> {
     assert!(rt; is_put(peek(&top, 7)));
     let next = next_of(&rt, &mut top, 7);
     assert!(rt; is_put(next));
-    let ran = advanced(&rt, &mut top, 7, 5).ran;
+    let mut cache = cache_of(&rt, rt.alloc());
+    let ran = advanced(&rt, &mut cache, &mut top, 7, 5).ran;
     assert_eq!(rt; ran, 0);
     Ok(())
 }
@@ -190,7 +207,7 @@ fn refused(rt: &impl Abort, alloc: Global) -> Run {
     let next = next_of(rt, &mut top, 7);
     assert_eq!(rt; next, Next::Local);
     assert_eq!(rt; peek(&top, 8), Next::Local);
-    run_of(rt, top, 8, 5)
+    run_of(rt, alloc, top, 8, 5)
 }
 
 #[test]

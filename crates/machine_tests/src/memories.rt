@@ -1,4 +1,4 @@
-use memory_model::Width;
+use memory_model::{PAGES, Width};
 use page_store::PageRef;
 use snapshot::take;
 use space_mem::{Mem, Pages};
@@ -92,14 +92,14 @@ fn with_own_pages(alloc: Global) -> Result<Mem, AllocError> {
     let mut mem = Mem::new(alloc);
     mem.own(Pages { first: 9, count: 1 })?;
     let mut page = PageRef::zeros(alloc)?;
-    page.write_byte(alloc, 1, 7)?;
+    page.write_own_byte(1, 7);
     mem.put_page(10, page)?;
     mem.mark(64)?;
     Ok(mem)
 }
 
 fn assert_own_pages(rt: &impl Abort, mem: &Mem) {
-    let kept = [mem.next_kept(0), mem.next_kept(11)];
+    let kept = [mem.next_kept(0, PAGES), mem.next_kept(11, PAGES)];
     let dirty = [mem.next_dirty(10), mem.next_dirty(11)];
     assert_eq!(rt; [kept, dirty], [[Some(9), None], [Some(10), Some(64)]]);
     assert_eq!(rt; mem.byte(0xa001), 7);

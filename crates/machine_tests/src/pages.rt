@@ -4,10 +4,12 @@ use std::alloc::{AllocError, Global};
 use std::process::Abort;
 use std::test::Fail;
 
-fn write(alloc: Global, page: &mut PageRef) -> Result<(), AllocError> {
-    page.write_byte(alloc, 4095, 1)?;
-    page.write_number(alloc, 8, Width::Four, 0x0403_0201)?;
-    page.write_bytes(alloc, 100, b"page")
+fn write(page: &mut PageRef) {
+    if page.is_own() {
+        page.write_own_byte(4095, 1);
+        page.write_own_number(8, Width::Four, 0x0403_0201);
+        page.write_own_bytes(100, b"page");
+    }
 }
 
 // What stands in a page after `write`, and not in its copy from before.
@@ -24,19 +26,18 @@ fn pages(rt: HostRuntime) -> Result<(), Fail> {
     let alloc = rt.alloc();
     let mut page = PageRef::zeros(alloc)?;
     assert!(rt; page.is_zero());
-    let mut other = page.share(alloc)?;
-    other.own(alloc)?;
-    write(alloc, &mut page)?;
+    let other = page.share(alloc)?.own(alloc)?;
+    write(&mut page);
     assert_written(&rt, &page, &other);
     Ok(())
 }
 
 // Two holders of a page of zeros, after 1 was written at 0 by the first.
 fn shared_then_written(alloc: Global) -> Result<(PageRef, PageRef), AllocError> {
-    let mut page = PageRef::zeros(alloc)?;
-    page.freeze(alloc)?;
+    let page = PageRef::zeros(alloc)?.freeze(alloc)?;
     let other = page.share(alloc)?;
-    page.write_byte(alloc, 0, 1)?;
+    let mut page = page.own(alloc)?;
+    page.write_own_byte(0, 1);
     Ok((page, other))
 }
 
@@ -48,10 +49,11 @@ fn assert_apart(rt: &impl Abort, page: &PageRef, other: &PageRef) {
 #[test]
 fn shared_pages(rt: HostRuntime) -> Result<(), Fail> {
     let alloc = rt.alloc();
-    let (mut page, mut other) = shared_then_written(alloc)?;
+    let (page, other) = shared_then_written(alloc)?;
     assert_apart(&rt, &page, &other);
-    page.own(alloc)?;
-    other.own(alloc)?;
+    let page = page.own(alloc)?;
+    assert!(rt; page.is_own() && !page.is_zero());
+    let other = other.own(alloc)?;
     assert!(rt; other.is_own() && other.is_zero());
     Ok(())
 }
