@@ -1,7 +1,9 @@
 -- Children that settle one after another, by their numbers.
 use Rattle.std.proofs.Common.{◌≡◌, ℕ, zero, suc, pred, ◌+◌, ◌≤◌, ◌<◌, Bool, false, List, [], ◌∷◌, map, length, get_or, drop, refl, sym, ap, ◌∙◌, subst, drop-cons, add-one}
 use Rattle.std.proofs.lemmas.List.{drop_all}
-use Rattle.space_model.specs.Space.{Space, space, Top, Children, none, child, top_of, children_of, over, children_from}
+use Rattle.std.specs.declared.boxed.Box.{Box}
+use Rattle.std.specs.declared.alloc.Global.{Global}
+use Rattle.space_model.specs.Space.{Space, space, Top, Children, none, child, top_of, children_of, over}
 use Rattle.space_model.specs.Sound.{IsSoundAt, AreSound}
 use Rattle.space_model.specs.Path.{under}
 use Rattle.space_model.specs.declared.Reach.TheVariants.{Whole}
@@ -9,7 +11,8 @@ use Rattle.space_model.proofs.Sound.{over_sound, no_children}
 use Rattle.run_model.specs.Demand.{Meaning, wait_for, everyone, settle, run, meaning, no_events, of_children}
 use Rattle.run_model.proofs.Run.{wait_for-first}
 use Rattle.run_model.proofs.Sound.{run_sound, settle_sound}
-use Rattle.demand_eval.specs.Turns.{IsSoundBelow, with_everyone}
+use Rattle.space_tree.specs.Kept.{children_in}
+use Rattle.demand_eval.specs.Turns.{IsSoundBelow, numbers_of, with_everyone}
 
 -- the children of these numbers become f of them, one after another
 abbrev pub over_all : (Space → Space) → List ℕ → Space → Space
@@ -24,14 +27,13 @@ over_all-more f ns i s r h is = rw (is, add-one, drop-cons ns i 0) refl
 pub over_all-done : (f : Space → Space) (ns : List ℕ) (i : ℕ) (s : Space) → length ns ≤ i → over_all f (drop i ns) s ≡ s
 over_all-done f ns i s h = let none : drop i ns ≡ [] = drop_all i ns h in rw none refl
 
--- the numbers of children
-abbrev numbers_of : Children → List ℕ
-numbers_of none = []
-numbers_of (child n s rest) = n ∷ numbers_of rest
-
-numbers_from : (es : List (ℕ × Space)) → numbers_of (children_from es) ≡ map (λ e. e.0) es
-numbers_from [] = refl
-numbers_from (e ∷ es) = ap (λ ns. e.0 ∷ ns) (numbers_from es)
+-- as a map tells them
+pub numbers_in : (es : List (ℕ × Box Space Global)) (ns : List ℕ) (cs : Children) → children_in es ≡ cs → ns ≡ map (λ e. e.0) es → ns ≡ numbers_of cs
+numbers_in es ns cs is told = told ∙ sym (told_by es) ∙ ap numbers_of is
+  where
+    told_by : (fs : List (ℕ × Box Space Global)) → numbers_of (children_in fs) ≡ map (λ e. e.0) fs
+    told_by [] = refl
+    told_by (e ∷ fs) = ap (λ xs. e.0 ∷ xs) (told_by fs)
 
 -- to wait for everyone is to wait for each by its number
 wait_all : (f : Meaning) (t : Top) (cs ds : Children) → space t (wait_for f (everyone cs) ds).children ≡ over_all (λ c. (f Whole c).space) (numbers_of cs) (space t ds)
@@ -45,17 +47,15 @@ settles_at : (levels : ℕ) (root : Bool) (fuel : ℕ) (t : Top) (cs : Children)
 settles_at zero root fuel t cs ok = let empty : cs ≡ none = no_children fuel 0 cs ok.1 in rw empty refl
 settles_at (suc levels) root fuel t cs ok = refl
 
-everyone_settles : (levels : ℕ) (t : Top) (es : List (ℕ × Space)) (ns : List ℕ) → IsSoundBelow levels (space t (children_from es)) → ns ≡ map (λ e. e.0) es → over_all (settle (pred levels)) ns (space t (children_from es)) ≡ with_everyone levels (space t (children_from es))
-everyone_settles levels t es ns ok is =
-    ap (λ xs. over_all (settle (pred levels)) xs (space t (children_from es))) (is ∙ sym (numbers_from es))
-    ∙ sym (settles_at levels ok.root ok.fuel t (children_from es) ok.sound)
-    ∙ sym (wait_all (of_children levels) t (children_from es) (children_from es))
+everyone_settles : (levels : ℕ) (t : Top) (cs : Children) (ns : List ℕ) → IsSoundBelow levels (space t cs) → ns ≡ numbers_of cs → over_all (settle (pred levels)) ns (space t cs) ≡ with_everyone levels (space t cs)
+everyone_settles levels t cs ns ok is =
+    ap (λ xs. over_all (settle (pred levels)) xs (space t cs)) is ∙ sym (settles_at levels ok.root ok.fuel t cs ok.sound) ∙ sym (wait_all (of_children levels) t cs cs)
 
--- each child by its number, as a map tells the numbers
-pub settled_all : (levels : ℕ) (t : Top) (s : Space) (es : List (ℕ × Space)) (ns : List ℕ) → IsSoundBelow levels s → space t (children_from es) ≡ s → ns ≡ map (λ e. e.0) es → over_all (settle (pred levels)) ns s ≡ with_everyone levels s
-settled_all levels t s es ns ok is numbers =
-    let here : IsSoundBelow levels (space t (children_from es)) = subst (IsSoundBelow levels) (sym is) ok in
-    subst (λ x. over_all (settle (pred levels)) ns x ≡ with_everyone levels x) is (everyone_settles levels t es ns here numbers)
+-- each child by its number
+pub settled_all : (levels : ℕ) (t : Top) (s : Space) (cs : Children) (ns : List ℕ) → IsSoundBelow levels s → space t cs ≡ s → ns ≡ numbers_of cs → over_all (settle (pred levels)) ns s ≡ with_everyone levels s
+settled_all levels t s cs ns ok is numbers =
+    let here : IsSoundBelow levels (space t cs) = subst (IsSoundBelow levels) (sym is) ok in
+    subst (λ x. over_all (settle (pred levels)) ns x ≡ with_everyone levels x) is (everyone_settles levels t cs ns here numbers)
 
 -- a child that settles leaves its parent sound
 pub one_settled : (levels n : ℕ) (s r : Space) → IsSoundBelow levels s → r ≡ under (over n (settle (pred levels))) s → IsSoundBelow levels r

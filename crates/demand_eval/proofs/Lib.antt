@@ -2,3 +2,4 @@ pub mod Children
 pub mod Turns
 pub mod Everyone
 pub mod Awaited
+pub mod Settled

@@ -1,9 +1,9 @@
 -- What a run does to a space, turn by turn.
 -- Our choice: a restatement for proofs.
-use Rattle.std.specs.Prelude.{◌≡◌, ℕ, ◌<◌, Bool, true, false}
+use Rattle.std.specs.Prelude.{◌≡◌, ℕ, ◌<◌, List, [], ◌∷◌, Bool, true, false}
 use Rattle.call_model.specs.declared.Call.{Call}
 use Rattle.space_model.specs.declared.Reach.{Reach}
-use Rattle.space_model.specs.Space.{Space, top_of}
+use Rattle.space_model.specs.Space.{Space, Children, none, child, top_of}
 use Rattle.space_model.specs.Sound.{IsSoundAt}
 use Rattle.space_model.specs.Path.{under}
 use Rattle.space_model.specs.Meeting.{awaits}
@@ -14,6 +14,11 @@ pub record IsSoundBelow (levels : ℕ) (s : Space) : Type 0 where
   pub root : Bool
   pub fuel : ℕ
   pub sound : IsSoundAt levels root fuel s
+
+-- the numbers of children
+abbrev pub numbers_of : Children → List ℕ
+numbers_of none = []
+numbers_of (child n s rest) = n ∷ numbers_of rest
 
 -- what becomes of a space that is waited for, itself or whole
 abbrev pub end_of : ℕ → Reach → Space → Space

@@ -6,11 +6,11 @@ ghost use Rattle.space_model.specs.Change.{after_payment};
 ghost use Rattle.space_model.specs.Path.{under};
 ghost use Rattle.space_model.specs.Event as event;
 ghost use Rattle.run_model.specs.Demand.{run, settle_tree};
-ghost use Rattle.demand_eval.specs.Turns.{IsSoundBelow, GoesOn, Turned, end_of, with_awaited, with_everyone};
+ghost use Rattle.demand_eval.specs.Turns.{IsSoundBelow, GoesOn, Turned, end_of, numbers_of, with_awaited, with_everyone};
 
 use space_model::Reach;
 use space_step::{Next, advance};
-use space_tree::Space;
+use space_tree::{Children, Space};
 use std::alloc::{AllocError, Global};
 use std::collections::BTreeMap;
 use trap_ret::{AcceptedCall, Call, awaits};
@@ -31,7 +31,7 @@ fn wait_for_child(
     requires sound { IsSoundBelow (levels_below depth) space.old }
     ensures { OnOk result (space.new ≡ under (over number (end_of (pred (levels_below depth)) reach)) space.old) }
 {
-    match space.children.get_mut(&number) {
+    match space.children.get_mut(number) {
         Some(child) => finish(alloc, child, reach, depth + 1),
         None => Ok(()),
     }
@@ -97,16 +97,23 @@ fn run(alloc: Global, space: &mut Space, depth: u8) -> Result<(), AllocError>
     }
 }
 
-// The numbers of the children, in rising order.
-fn numbers(alloc: Global, children: &BTreeMap<u16, Space>) -> Result<Vec<u16>, AllocError>
-    ensures { IfOk result (λ numbers. numbers.items ≡ map (λ e. e.0) children.now.entries) }
+// The numbers under which children stand in a map, in rising order.
+fn keys(alloc: Global, entries: &BTreeMap<u16, Box<Space>>) -> Result<Vec<u16>, AllocError>
+    ensures { IfOk result (λ numbers. numbers.items ≡ map (λ e. e.0) entries.now.entries) }
 {
-    children.keys().copied().collect(alloc)
+    entries.keys().copied().collect(alloc)
+}
+
+// The numbers of the children, in rising order.
+fn numbers(alloc: Global, children: &Children) -> Result<Vec<u16>, AllocError>
+    ensures { IfOk result (λ numbers. numbers.items ≡ numbers_of children.now) }
+{
+    keys(alloc, children.entries())
 }
 
 // Every child settles, in the order of their numbers.
 #[cycle(settle)]
-fn settle_children(alloc: Global, space: &mut Space, depth: u8) -> Result<(), AllocError>
+fn settle_each(alloc: Global, space: &mut Space, depth: u8) -> Result<(), AllocError>
     requires depth { depth ≤ greatest_depth }
     requires sound { IsSoundBelow (levels_below depth) space.old }
     ensures { OnOk result (space.new ≡ with_everyone (levels_below depth) space.old) }
@@ -115,6 +122,28 @@ fn settle_children(alloc: Global, space: &mut Space, depth: u8) -> Result<(), Al
     for number in &numbers {
         wait_for_child(alloc, space, *number, Reach::Whole, depth)?;
     }
+    Ok(())
+}
+
+// It is kept from now on that all below have settled.
+fn remember(space: &mut Space)
+    ensures { space.new ≡ space.old }
+{
+    space.children.remember();
+}
+
+// Every child settles, unless it is known that all have.
+#[cycle(settle)]
+fn settle_children(alloc: Global, space: &mut Space, depth: u8) -> Result<(), AllocError>
+    requires depth { depth ≤ greatest_depth }
+    requires sound { IsSoundBelow (levels_below depth) space.old }
+    ensures { OnOk result (space.new ≡ with_everyone (levels_below depth) space.old) }
+{
+    if space.children.are_known_settled() {
+        return Ok(());
+    }
+    settle_each(alloc, space, depth)?;
+    remember(space);
     Ok(())
 }
 

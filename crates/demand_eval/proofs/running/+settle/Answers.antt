@@ -1,28 +1,29 @@
-use Rattle.std.proofs.Common.{◌-◌, pred, arith, Some, ap, sym, ◌∙◌}
+use Rattle.std.proofs.Common.{◌-◌, pred, arith, Some, refl, ap, sym, ◌∙◌}
+use Rattle.space_model.specs.Space.{over}
 use Rattle.std.proofs.lemmas.Result.{on_ok_weaker}
 use Rattle.demand_eval.specs.Turns.{end_of, with_awaited}
 use Rattle.demand_eval.proofs.Children.{child_below, child_becomes, child_missing, one_below}
 use Rattle.demand_eval.proofs.Turns.{may_meet, may_pay, met, told_local, told_meet, told_stopped, advanced_sound, advanced, advanced_then, advanced_stopped}
 use Rattle.demand_eval.proofs.Everyone.{over_all-more, over_all-done, settled_all, one_settled, run_then, ran_sound}
 use Rattle.demand_eval.proofs.Awaited.{over_awaited-more, over_awaited-done, awaited_all, one_awaited}
+use Rattle.demand_eval.proofs.Settled.{stays}
 use Rattle.demand_eval.proofs.running.+settle.Goals as goal
 use Rattle.demand_eval.proofs.running.+settle.Goals.{wait_for_child-in-Some, wait_for_child-in-None}
 
 pub wait_for_child-finish-requires : goal.wait_for_child-finish-requires
 wait_for_child-finish-requires t c =
-    let below = child_below c.args.depth c.args.number c.space.inside.top c.args.space.now c.in-Some.child.now c.space.inside.children.entries c.requires.sound c.space.view_is c.in-Some.ensures.value in
+    let below = child_below c.args.depth c.args.number c.space.inside.top c.args.space.now c.in-Some.child.now c.space.inside.children c.requires.sound c.space.view_is c.in-Some.ensures.value in
     (omega arith, below)
 
 pub wait_for_child-returns : goal.wait_for_child-returns
 wait_for_child-returns t c = elim c.match-get_mut.branch [
   | wait_for_child-in-Some w ↦
       rw (w.result-is, w.space-inside-is)
-      (on_ok_weaker w.finish.result (λ h. child_becomes c.args.number (end_of (pred (8 - c.args.depth)) c.args.reach) c.space.inside.top c.args.space.now w.in-Some.child.now w.finish.new.space c.space.inside.children.entries
-      (c.get_mut.follows.lender w.finish.new.space).entries c.space.view_is w.in-Some.ensures.value (h ∙ ap (λ k. end_of k c.args.reach w.in-Some.child.now) (one_below c.args.depth)) (c.get_mut.follows.holds w.finish.new.space).0)
+      (on_ok_weaker w.finish.result (λ h. child_becomes c.args.number (end_of (pred (8 - c.args.depth)) c.args.reach) c.space.inside.top c.args.space.now w.in-Some.child.now w.finish.new.space c.space.inside.children
+      (over c.args.number (λ _. w.finish.new.space) c.space.inside.children) c.space.view_is w.in-Some.ensures.value (h ∙ ap (λ k. end_of k c.args.reach w.in-Some.child.now) (one_below c.args.depth)) refl)
       w.finish.ensures)
   | wait_for_child-in-None w ↦ rw (w.result-is, w.space-inside-is)
-      (child_missing c.args.number (end_of (pred (8 - c.args.depth)) c.args.reach) c.space.inside.top c.args.space.now c.space.inside.children.entries c.get_mut.follows.lender-at-none.entries
-      c.space.view_is w.in-None.ensures.value (ap (λ m. m.entries) c.get_mut.follows.holds-at-none))
+      (child_missing c.args.number (end_of (pred (8 - c.args.depth)) c.args.reach) c.space.inside.top c.args.space.now c.space.inside.children c.space.view_is w.in-None.ensures.value)
 ]
 
 pub wait_for-loop-index-preserved : goal.wait_for-loop-index-preserved
@@ -68,16 +69,20 @@ turn-returns-in-Stopped t c =
     let ran = c.in_ok-reached.ensures.ok in
     advanced_stopped _ _ _ _ _ _ c.space.view_is ran.follows (told_stopped _ _ _ _ _ ran.ended (c.in_ok-ok_or.ensures.ok_part ∙ ap Some c.in-Stopped.is))
 
-pub settle_children-loop-number-preserved : goal.settle_children-loop-number-preserved
-settle_children-loop-number-preserved t c = record {
+pub settle_each-loop-number-preserved : goal.settle_each-loop-number-preserved
+settle_each-loop-number-preserved t c = record {
   same = over_all-more _ _ _ _ _ c.loop-number-test.true c.in_ok-wait_for_child.ensures ∙ c.loop-number.invariant.same;
   sound = one_settled _ _ _ _ c.loop-number.invariant.sound c.in_ok-wait_for_child.ensures;
 }
 
-pub settle_children-returns : goal.settle_children-returns
-settle_children-returns t c =
+pub settle_each-returns : goal.settle_each-returns
+settle_each-returns t c =
     sym (over_all-done _ _ _ _ c.loop-number-test.false) ∙ c.loop-number.invariant.same
     ∙ settled_all _ _ _ _ _ c.requires.sound c.space.view_is (c.deref-number-items.ensures.value ∙ c.in_ok-numbers.ensures)
+
+pub settle_children-returns-then-are_known_settled : goal.settle_children-returns-then-are_known_settled
+settle_children-returns-then-are_known_settled t c =
+    stays (8 - c.args.depth) c.space.inside.top c.args.space.now c.space.inside.children c.requires.sound c.space.view_is (c.are_known_settled.ensures c.if-are_known_settled.true)
 
 pub finish-returns-in-Itself : goal.finish-returns-in-Itself
 finish-returns-in-Itself t c = c.in_ok-run.ensures ∙ ap (λ r. end_of (8 - c.args.depth) r c.args.space.now) (sym c.in-Itself.is)

@@ -22,7 +22,10 @@ abbrev pub decreases-wait_for : goal.decreases-wait_for
 decreases-wait_for l = 6 * (9 - l.depth) + 1
 
 abbrev pub decreases-settle_children : goal.decreases-settle_children
-decreases-settle_children l = 6 * (9 - l.depth) + 1
+decreases-settle_children l = 6 * (9 - l.depth) + 2
+
+abbrev pub decreases-settle_each : goal.decreases-settle_each
+decreases-settle_each l = 6 * (9 - l.depth) + 1
 
 abbrev pub decreases-wait_for_child : goal.decreases-wait_for_child
 decreases-wait_for_child l = 6 * (9 - l.depth)
@@ -42,8 +45,8 @@ invariant-wait_for-loop-index l = record {
   sound : IsSoundBelow (8 - l.depth) l.space;
 }
 
-abbrev pub invariant-settle_children-loop-number : goal.invariant-settle_children-loop-number
-invariant-settle_children-loop-number l = record {
+abbrev pub invariant-settle_each-loop-number : goal.invariant-settle_each-loop-number
+invariant-settle_each-loop-number l = record {
   same : over_all (settle (pred (8 - l.depth))) (drop l.number-index l.number-items) l.space ≡ over_all (settle (pred (8 - l.depth))) l.number-items l.fn.space;
   sound : IsSoundBelow (8 - l.depth) l.space;
 }
