@@ -9,7 +9,7 @@ ghost use Rattle.run_model.specs.Demand.{run, settle_tree};
 ghost use Rattle.demand_eval.specs.Turns.{IsSoundBelow, GoesOn, Turned, end_of, numbers_of, with_awaited, with_everyone};
 
 use space_model::Reach;
-use space_step::{Next, advance};
+use space_step::{DecodeCache, Next, advance};
 use space_tree::{Children, Space};
 use std::alloc::{AllocError, Global};
 use std::collections::BTreeMap;
@@ -18,10 +18,17 @@ use trap_ret::{AcceptedCall, Call, awaits};
 // For how many events a space runs before it is asked again what is next.
 const STRETCH: u32 = 1 << 20;
 
+// What one space after the other runs by: where memory comes from, and the decoded instructions.
+#[derive(Drop)]
+struct Runner {
+    alloc: Global,
+    cache: DecodeCache,
+}
+
 // The child of that number, where it is there, runs until it stops, or settles.
 #[cycle(settle)]
 fn wait_for_child(
-    alloc: Global,
+    runner: &mut Runner,
     space: &mut Space,
     number: u16,
     reach: Reach,
@@ -32,14 +39,14 @@ fn wait_for_child(
     ensures { OnOk result (space.new ≡ under (over number (end_of (pred (levels_below depth)) reach)) space.old) }
 {
     match space.children.get_mut(number) {
-        Some(child) => finish(alloc, child, reach, depth + 1),
+        Some(child) => finish(runner, child, reach, depth + 1),
         None => Ok(()),
     }
 }
 
 // What a call waits for is ready: each child that it names, one after the other, has run until it stopped, or settled.
 #[cycle(settle)]
-fn wait_for(alloc: Global, call: Call, space: &mut Space, depth: u8) -> Result<(), AllocError>
+fn wait_for(runner: &mut Runner, call: Call, space: &mut Space, depth: u8) -> Result<(), AllocError>
     requires depth { depth ≤ greatest_depth }
     requires sound { IsSoundBelow (levels_below depth) space.old }
     ensures { OnOk result (space.new ≡ with_awaited (levels_below depth) call space.old) }
@@ -47,35 +54,35 @@ fn wait_for(alloc: Global, call: Call, space: &mut Space, depth: u8) -> Result<(
     let all = awaits(call);
     for index in 0..all.len() {
         let awaited = all.get(index);
-        wait_for_child(alloc, space, awaited.number, awaited.reach, depth)?;
+        wait_for_child(runner, space, awaited.number, awaited.reach, depth)?;
     }
     Ok(())
 }
 
 // The call that is next, once what it waits for is ready.
 #[cycle(settle)]
-fn meet(alloc: Global, call: AcceptedCall, space: &mut Space, depth: u8) -> Result<(), AllocError>
+fn meet(runner: &mut Runner, call: AcceptedCall, space: &mut Space, depth: u8) -> Result<(), AllocError>
     requires depth { depth ≤ greatest_depth }
     requires sound { IsSoundBelow (levels_below depth) space.old }
     requires next { event.next (levels_below depth) (top_of space.old) ≡ event.meets call (after_payment (top_of space.old) (top_of space.old)) }
     ensures { OnOk result (GoesOn (levels_below depth) space.old space.new) }
 {
-    wait_for(alloc, call.call(), space, depth)?;
+    wait_for(runner, call.call(), space, depth)?;
     user_runtime::meet(alloc, call, depth, space)
 }
 
 // Local events, and then the call that is next, if there is one. It says whether the space has stopped.
 #[cycle(settle)]
-fn turn(alloc: Global, space: &mut Space, depth: u8) -> Result<bool, AllocError>
+fn turn(runner: &mut Runner, space: &mut Space, depth: u8) -> Result<bool, AllocError>
     requires depth { depth ≤ greatest_depth }
     requires sound { IsSoundBelow (levels_below depth) space.old }
     ensures { IfOk result (λ stopped. Turned (levels_below depth) stopped space.old space.new) }
 {
-    let reached = advance(&mut space.top, depth, STRETCH)?;
+    let reached = advance(&mut space.top, depth, STRETCH, &mut runner.cache)?;
     match reached.next.ok_or(AllocError)? {
         Next::Local => Ok(false),
         Next::Meet(call) => {
-            meet(alloc, call, space, depth)?;
+            meet(runner, call, space, depth)?;
             Ok(false)
         }
         Next::Stopped => Ok(true),
@@ -84,13 +91,13 @@ fn turn(alloc: Global, space: &mut Space, depth: u8) -> Result<bool, AllocError>
 
 // A space at a depth of at most 8 runs until it stops. At an error it is somewhere on its way.
 #[cycle(settle)]
-fn run(alloc: Global, space: &mut Space, depth: u8) -> Result<(), AllocError>
+fn run(runner: &mut Runner, space: &mut Space, depth: u8) -> Result<(), AllocError>
     requires depth { depth ≤ greatest_depth }
     requires sound { IsSoundBelow (levels_below depth) space.old }
     ensures { OnOk result (space.new ≡ run (levels_below depth) space.old) }
 {
     'turns: loop {
-        let stopped = turn(alloc, space, depth)?;
+        let stopped = turn(runner, space, depth)?;
         if stopped {
             return Ok(());
         }
@@ -113,14 +120,14 @@ fn numbers(alloc: Global, children: &Children) -> Result<Vec<u16>, AllocError>
 
 // Every child settles, in the order of their numbers.
 #[cycle(settle)]
-fn settle_each(alloc: Global, space: &mut Space, depth: u8) -> Result<(), AllocError>
+fn settle_each(runner: &mut Runner, space: &mut Space, depth: u8) -> Result<(), AllocError>
     requires depth { depth ≤ greatest_depth }
     requires sound { IsSoundBelow (levels_below depth) space.old }
     ensures { OnOk result (space.new ≡ with_everyone (levels_below depth) space.old) }
 {
-    let numbers = numbers(alloc, &space.children)?;
+    let numbers = numbers(runner.alloc, &space.children)?;
     for number in &numbers {
-        wait_for_child(alloc, space, *number, Reach::Whole, depth)?;
+        wait_for_child(runner, space, *number, Reach::Whole, depth)?;
     }
     Ok(())
 }
@@ -134,7 +141,7 @@ fn remember(space: &mut Space)
 
 // Every child settles, unless it is known that all have.
 #[cycle(settle)]
-fn settle_children(alloc: Global, space: &mut Space, depth: u8) -> Result<(), AllocError>
+fn settle_children(runner: &mut Runner, space: &mut Space, depth: u8) -> Result<(), AllocError>
     requires depth { depth ≤ greatest_depth }
     requires sound { IsSoundBelow (levels_below depth) space.old }
     ensures { OnOk result (space.new ≡ with_everyone (levels_below depth) space.old) }
@@ -142,22 +149,22 @@ fn settle_children(alloc: Global, space: &mut Space, depth: u8) -> Result<(), Al
     if space.children.are_known_settled() {
         return Ok(());
     }
-    settle_each(alloc, space, depth)?;
+    settle_each(runner, space, depth)?;
     remember(space);
     Ok(())
 }
 
 // A space at a depth of at most 8 runs until it stops; waited for whole, each of its children settles then.
 #[cycle(settle)]
-fn finish(alloc: Global, space: &mut Space, reach: Reach, depth: u8) -> Result<(), AllocError>
+fn finish(runner: &mut Runner, space: &mut Space, reach: Reach, depth: u8) -> Result<(), AllocError>
     requires depth { depth ≤ greatest_depth }
     requires sound { IsSoundBelow (levels_below depth) space.old }
     ensures { OnOk result (space.new ≡ end_of (levels_below depth) reach space.old) }
 {
-    run(alloc, space, depth)?;
+    run(runner, space, depth)?;
     match reach {
         Reach::Itself => Ok(()),
-        Reach::Whole => settle_children(alloc, space, depth),
+        Reach::Whole => settle_children(runner, space, depth),
     }
 }
 
@@ -170,6 +177,8 @@ pub fn settle(alloc: Global, mut space: Space) -> Result<Space, AllocError>
     ensures settled { IfOk result (λ s. is_settled s ≡ true) }
     ensures sound { IfOk result IsSound }
 {
-    finish(alloc, &mut space, Reach::Whole, 0)?;
+    let cache = DecodeCache::new(alloc)?;
+    let mut runner = Runner { alloc, cache };
+    finish(&mut runner, &mut space, Reach::Whole, 0)?;
     Ok(space)
 }
