@@ -1,4 +1,4 @@
-use Rattle.std.proofs.Common.{ℕ, ◌/◌, ◌%◌, arith, get_or}
+use Rattle.std.proofs.Common.{◌/◌, ◌%◌, arith, get_or}
 use Rattle.page_tree.specs.BranchRefs.{limb_row}
 use Rattle.page_tree.specs.Trees.{tree_row}
 use Rattle.page_tree.specs.Blockwise.{IsBlockOf}
