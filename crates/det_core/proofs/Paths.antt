@@ -1,15 +1,12 @@
 -- The space at a path: what may happen there, and what an event there does to the whole.
-use Rattle.std.proofs.Common.{◌≡◌, ◌-◌, ◌≤◌, ℕ, suc, Bool, true, false, cond, List, [], ◌∷◌, length, get_or, Option, Some, None, refl, sym, ap, ◌∙◌, subst, arith, nat_cmp}
+use Rattle.std.proofs.Common.{◌≡◌, ◌-◌, ◌≤◌, ℕ, suc, Bool, true, false, cond, List, [], ◌∷◌, length, get_or, Option, Some, None, refl, sym, ap, ◌∙◌, subst, arith}
 use Rattle.std.specs.Prelude.{pred, option_and_then, Result, Ok, Err, OnOk, OnErr}
-use Rattle.std.specs.BTreeMap.{is_at}
-use Rattle.std.specs.Map.{lookup, set_value}
-use Rattle.space_model.specs.Space.{Space, space, Top, Children, top_of, children_of, children_from, find, over}
+use Rattle.space_model.specs.Space.{Space, space, Top, Children, top_of, children_of, find, over}
 use Rattle.space_model.specs.Path.{at}
 use Rattle.space_model.specs.Event.{next}
 use Rattle.space_model.specs.Sound.{IsSoundAt}
 use Rattle.space_model.proofs.Children.{over-at, over_itself}
-use Rattle.space_model.proofs.Entries.{find_entries, over_entries}
-use Rattle.space_tree.proofs.Entries.{onward, path_is}
+use Rattle.space_tree.proofs.Paths.{onward, path_is}
 use Rattle.run_model.specs.Schedule.{may_happen, on_child, is_enabled, step, try_step}
 use Rattle.run_model.proofs.Sound.{try_step_sound}
 
@@ -48,52 +45,43 @@ child_steps n p levels u c cs is =
     by_test true = ap (space u) (over-at n (λ d. step p (pred levels) c) (step p (pred levels)) c cs is refl)
     by_test false = ap (space u) (over_itself n c cs is)
 
--- a space whose entries have at the first number of a path the child c, or none
-pub record HasFirst (p : List ℕ) (u : Top) (s : Space) (es : List (ℕ × Space)) (o : Option Space) : Type 0 where
+-- a space that has at the first number of a path the child c, or none
+pub record HasFirst (p : List ℕ) (u : Top) (s : Space) (cs : Children) (o : Option Space) : Type 0 where
   pub long : 1 ≤ length p
-  pub is : space u (children_from es) ≡ s
-  pub found : o ≡ lookup (is_at (nat_cmp (get_or p 0 0))) es
+  pub is : space u cs ≡ s
+  pub found : o ≡ find (get_or p 0 0) cs
 
-first_is : (p : List ℕ) (u : Top) (s : Space) (es : List (ℕ × Space)) (o : Option Space) → HasFirst p u s es o → find (get_or p 0 0) (children_from es) ≡ o
-first_is p u s es o h = sym (h.found ∙ find_entries (get_or p 0 0) es)
-
-pub enabled_child : (p : List ℕ) (levels below : ℕ) (u : Top) (s c : Space) (es : List (ℕ × Space)) → below ≡ pred levels → HasFirst p u s es (Some c) → is_enabled (onward p) below c ≡ is_enabled p levels s
-enabled_child p levels below u s c es e h =
+pub enabled_child : (p : List ℕ) (levels below : ℕ) (u : Top) (s c : Space) (cs : Children) → below ≡ pred levels → HasFirst p u s cs (Some c) → is_enabled (onward p) below c ≡ is_enabled p levels s
+enabled_child p levels below u s c cs e h =
     ap (λ k. is_enabled (onward p) k c) e
-    ∙ ap (on_child (is_enabled (onward p) (pred levels))) (sym (first_is p u s es (Some c) h))
-    ∙ ap (λ x. is_enabled x levels (space u (children_from es))) (sym (path_is p h.long))
+    ∙ ap (on_child (is_enabled (onward p) (pred levels))) h.found
+    ∙ ap (λ x. is_enabled x levels (space u cs)) (sym (path_is p h.long))
     ∙ ap (is_enabled p levels) h.is
 
-pub enabled_none : (p : List ℕ) (levels : ℕ) (u : Top) (s : Space) (es : List (ℕ × Space)) → HasFirst p u s es None → false ≡ is_enabled p levels s
-enabled_none p levels u s es h =
-    ap (on_child (is_enabled (onward p) (pred levels))) (sym (first_is p u s es None h))
-    ∙ ap (λ x. is_enabled x levels (space u (children_from es))) (sym (path_is p h.long))
+pub enabled_none : (p : List ℕ) (levels : ℕ) (u : Top) (s : Space) (cs : Children) → HasFirst p u s cs None → false ≡ is_enabled p levels s
+enabled_none p levels u s cs h =
+    ap (on_child (is_enabled (onward p) (pred levels))) h.found
+    ∙ ap (λ x. is_enabled x levels (space u cs)) (sym (path_is p h.long))
     ∙ ap (is_enabled p levels) h.is
 
-pub stepped_child : (p : List ℕ) (levels below : ℕ) (u : Top) (s c w : Space) (es fs : List (ℕ × Space)) → below ≡ pred levels → HasFirst p u s es (Some c) → w ≡ try_step (onward p) below c
-    → fs ≡ set_value (is_at (nat_cmp (get_or p 0 0))) es w → space u (children_from fs) ≡ try_step p levels s
-stepped_child p levels below u s c w es fs e h done written =
+pub stepped_child : (p : List ℕ) (levels below : ℕ) (u : Top) (s c w : Space) (cs : Children) → below ≡ pred levels → HasFirst p u s cs (Some c) → w ≡ try_step (onward p) below c
+    → space u (over (get_or p 0 0) (λ _. w) cs) ≡ try_step p levels s
+stepped_child p levels below u s c w cs e h done =
     let n = get_or p 0 0 in
     let q = onward p in
-    let at_n = first_is p u s es (Some c) h in
-    ap (λ x. space u (children_from x)) (written ∙ ap (set_value (is_at (nat_cmp n)) es) (done ∙ ap (λ k. try_step q k c) e))
-    ∙ ap (space u) (over_entries n (λ d. try_step q (pred levels) c) c es at_n)
-    ∙ child_steps n q levels u c (children_from es) at_n
-    ∙ ap (λ x. try_step x levels (space u (children_from es))) (sym (path_is p h.long))
+    ap (λ x. space u (over n (λ _. x) cs)) (done ∙ ap (λ k. try_step q k c) e)
+    ∙ child_steps n q levels u c cs (sym h.found)
+    ∙ ap (λ x. try_step x levels (space u cs)) (sym (path_is p h.long))
     ∙ ap (try_step p levels) h.is
 
-pub stepped_none : (p : List ℕ) (levels : ℕ) (u : Top) (s : Space) (es fs : List (ℕ × Space)) → HasFirst p u s es None → fs ≡ es → space u (children_from fs) ≡ try_step p levels s
-stepped_none p levels u s es fs h same =
-    ap (λ x. space u (children_from x)) same ∙ h.is ∙ ap (λ b. cond b (step p levels s) s) (enabled_none p levels u s es h)
+pub stepped_none : (p : List ℕ) (levels : ℕ) (u : Top) (s : Space) (cs : Children) → HasFirst p u s cs None → space u cs ≡ try_step p levels s
+stepped_none p levels u s cs h = h.is ∙ ap (λ b. cond b (step p levels s) s) (enabled_none p levels u s cs h)
 
 -- a child that has not changed
-pub same_child : (p : List ℕ) (u : Top) (s c w : Space) (es fs : List (ℕ × Space)) → HasFirst p u s es (Some c) → w ≡ c → fs ≡ set_value (is_at (nat_cmp (get_or p 0 0))) es w → space u (children_from fs) ≡ s
-same_child p u s c w es fs h same written =
+pub same_child : (p : List ℕ) (u : Top) (s c w : Space) (cs : Children) → HasFirst p u s cs (Some c) → w ≡ c → space u (over (get_or p 0 0) (λ _. w) cs) ≡ s
+same_child p u s c w cs h same =
     let n = get_or p 0 0 in
-    let at_n = first_is p u s es (Some c) h in
-    ap (λ x. space u (children_from x)) (written ∙ ap (set_value (is_at (nat_cmp n)) es) same)
-    ∙ ap (space u) (over_entries n (λ d. c) c es at_n ∙ over_itself n c (children_from es) at_n)
-    ∙ h.is
+    ap (λ x. space u (over n (λ _. x) cs)) same ∙ ap (space u) (over_itself n c cs (sym h.found)) ∙ h.is
 
 -- a step keeps a tree sound
 pub step_keeps : {T E : Type 0} (r : Result T E) (p : List ℕ) (fuel : ℕ) (old new : Space) → OnOk r (new ≡ try_step p 8 old) → OnErr r (new ≡ old) → IsSoundAt 8 true fuel old → IsSoundAt 8 true fuel new

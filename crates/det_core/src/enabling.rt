@@ -2,21 +2,19 @@ ghost use Rattle.std.specs.Prelude.{◌≡◌, ◌-◌, ◌≤◌};
 ghost use Rattle.call_model.specs.Limits.{greatest_depth, levels_below};
 ghost use Rattle.space_model.specs.Meeting.{awaits};
 ghost use Rattle.space_model.specs.Event.{next};
-ghost use Rattle.space_model.specs.Space.{top_of, children_of, children_from, find};
+ghost use Rattle.space_model.specs.Space.{top_of, children_of, find};
 ghost use Rattle.run_model.specs.Schedule.{is_ready, are_ready, may_happen, is_enabled};
 
 use space_model::{Await, Reach};
 use space_step::{AcceptedCall, Next, peek};
-use space_tree::{Path, Space, at, is_settled, is_stopped};
-use std::collections::BTreeMap;
+use space_tree::{Children, Path, Space, at, is_settled, is_stopped};
 use trap_ret::awaits;
 
 // Whether a child that a call waits for is missing, has stopped, or, where it is awaited whole, has settled.
-#[tactic(auto, using(space_model::proofs::Entries::find_entries))]
-fn is_ready(children: &BTreeMap<u16, Space>, awaited: Await) -> bool
-    ensures { result ≡ is_ready awaited.reach (find awaited.number (children_from children.now.entries)) }
+fn is_ready(children: &Children, awaited: Await) -> bool
+    ensures { result ≡ is_ready awaited.reach (find awaited.number children.now) }
 {
-    let Some(child) = children.get(&awaited.number) else {
+    let Some(child) = children.get(awaited.number) else {
         return true;
     };
     match awaited.reach {
@@ -26,8 +24,8 @@ fn is_ready(children: &BTreeMap<u16, Space>, awaited: Await) -> bool
 }
 
 /// Whether each child that a call waits for is ready.
-pub(crate) fn are_ready(call: AcceptedCall, children: &BTreeMap<u16, Space>) -> bool
-    ensures { result ≡ are_ready (awaits call) (children_from children.now.entries) }
+pub(crate) fn are_ready(call: AcceptedCall, children: &Children) -> bool
+    ensures { result ≡ are_ready (awaits call) children.now }
 {
     let all = awaits(call.call());
     for index in 0..all.len() {

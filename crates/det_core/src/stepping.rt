@@ -55,7 +55,7 @@ fn try_step(alloc: Global, space: &mut Space, path: &[u16], depth: u8) -> Result
     match path {
         [] => try_event(alloc, space, depth),
         [number, rest @ ..] => {
-            let Some(child) = space.children.get_mut(number) else {
+            let Some(child) = space.children.get_mut(*number) else {
                 return Ok(false);
             };
             try_step(alloc, child, rest, depth + 1)
