@@ -27,7 +27,7 @@ fn push_report(
     ensures { OnOk result ((path : List ℕ) → steps.now ≡ steps_of path → text.new.items ≡ text.old.items ++ report_of digest path space.now) }
 {
     push_line(alloc, steps, &space.top, digest, text)?;
-    for (number, child) in &space.children {
+    for (number, child) in space.children.entries() {
         let steps = steps_of_child(alloc, steps, *number)?;
         push_report(alloc, &steps, child, digest, text)?;
     }

@@ -19,9 +19,10 @@ fn sums_of(space: &Space) -> Sums
     ensures spaces { result.spaces ≡ length (tops_of space.now) % 2 ^ 64 }
     ensures used { result.used ≡ sum_by (λ t. t.used) (tops_of space.now) % 2 ^ 64 }
 {
+    let entries = space.children.entries();
     let mut spaces: u64 = 1;
     let mut used = u64::from(space.top.used);
-    for child in space.children.values() {
+    for child in entries.values() {
         let below = sums_of(child);
         spaces = spaces.wrapping_add(below.spaces);
         used = used.wrapping_add(below.used);
@@ -35,7 +36,7 @@ pub fn summary(alloc: Global, space: &Space) -> Result<Vec<u8>, AllocError>
     requires { is_settled space.now ≡ true }
     ensures { IfOk result (λ v. v.items ≡ summary space.now) }
 {
-    let threads = space.children.len();
+    let threads = space.children.entries().len();
     let Sums { spaces, used } = sums_of(space);
     let console = space.top.console().len();
     let root = stop_text(alloc, space.top.status)?;
