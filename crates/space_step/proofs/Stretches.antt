@@ -1,14 +1,11 @@
 -- A stretch of instructions, one instruction after another.
-use Rattle.std.proofs.Common.{◌≡◌, ℕ, zero, suc, ◌+◌, ◌-◌, ◌≤◌, Bool, true, Ok, Err, refl, add-one, arith}
-use Rattle.std.proofs.Math.Nat.{add-suc, add-zero}
+use Rattle.std.proofs.Common.{◌≡◌, ℕ, ◌+◌, Bool, true, Ok, Err, refl, add-one}
 use Rattle.std.specs.declared.alloc.AllocError.{AllocError}
 use Rattle.memory_model.specs.Memory.{Memory, with_number}
 use Rattle.instruction_model.specs.Outcome.{Registers, Outcome, goes, stores, calls, traps, view_of, outcome}
 use Rattle.rv_exec.specs.declared.stepping.Stepped.TheVariants.{Next}
 use Rattle.rv_exec.specs.Steps.{Steps}
-use Rattle.space_step.specs.declared.stretch.End.{End}
-use Rattle.space_step.specs.declared.stretch.End.TheVariants as ends
-use Rattle.space_step.specs.Stretch.{is_store, IsDone, Executes, Ends}
+use Rattle.space_step.specs.Stretch.{is_store, IsDone, Executes}
 
 step_is_done : (takes : Bool) (o : Outcome) (r s : Registers) (m n : Memory) → Steps with_number takes o (Ok Next) r m s n → IsDone o m s n
 step_is_done takes (goes t) r s m n h = h

@@ -1,4 +1,4 @@
-use Rattle.std.proofs.Common.{◌≡◌, ℕ, ◌+◌, ◌*◌, ◌/◌, refl, sym, ◌∙◌, arith}
+use Rattle.std.proofs.Common.{◌≡◌, ◌+◌, ◌*◌, ◌/◌, refl, sym, ◌∙◌, arith}
 use Rattle.space_step.proofs.Caching.{dropped_agrees, dropped_lacks, lacking}
 use Rattle.space_step.proofs.decode_cache.Table.invalidate.Goals as goal
 

@@ -1,4 +1,3 @@
-use Rattle.std.proofs.Common.{sym, ◌∙◌}
 use Rattle.instruction_model.specs.Outcome.{view_of}
 use Rattle.rv_exec.specs.Flat.{meaning}
 use Rattle.space_step.proofs.Caching.{known_stands}
