@@ -1,5 +1,5 @@
 -- The events of the console, by what stops the space, or by what was told.
-use Rattle.std.proofs.Common.{◌≡◌, ℕ, List, length, take, drop, min, ◌≤◌, Option, Some, None, sym, ap, ◌∙◌, arith}
+use Rattle.std.proofs.Common.{◌≡◌, ℕ, List, length, take, drop, min, ◌≤◌, Some, None, sym, ap, ◌∙◌, arith}
 use Rattle.std.proofs.lemmas.List.{length-take}
 use Rattle.memory_model.specs.Memory.{may_read, may_write, bytes_from, first_without, with_bytes}
 use Rattle.device_model.specs.Devices.{Devices}
