@@ -4,7 +4,7 @@ use Rattle.std.specs.Prelude.{Bool, true, false, option_map, Result, OnOk, OnErr
 use Rattle.std.proofs.lemmas.Result.{on_ok_weaker, on_err_weaker}
 use Rattle.call_model.specs.declared.Call.{Call}
 use Rattle.call_model.specs.declared.Call.TheVariants.{Wait}
-use Rattle.space_model.specs.Space.{Space, space, Children, Top, top_of, children_of, find}
+use Rattle.space_model.specs.Space.{Space, space, Children, Top, top_of, find}
 use Rattle.space_model.specs.Change.{after_payment, after_success}
 use Rattle.space_model.specs.Call.{edit, change, take_away, seen_of, apply_meeting}
 use Rattle.space_model.specs.Caller.{with_action}

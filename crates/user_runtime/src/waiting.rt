@@ -42,11 +42,7 @@ fn wait_missing(caller: &mut Top)
 }
 
 // The caller has waited for the child of that number. At an error it is as it was.
-fn wait_number(
-    number: u16,
-    caller: &mut Top,
-    children: &Children,
-) -> Result<(), AllocError>
+fn wait_number(number: u16, caller: &mut Top, children: &Children) -> Result<(), AllocError>
     ensures ok { OnOk result (caller.new ≡ after_wait (or_fresh caller.old (option_map top_of (find number children.now))) caller.old) }
     ensures err { OnErr result (caller.new ≡ caller.old) }
 {
