@@ -1,6 +1,7 @@
 -- What a flat instruction means.
--- Our choice: one name for each instruction that computes or branches, in place of one for a format and another for what it does.
+-- Our choice: one name for each instruction that computes, branches or loads, in place of one for a format and another for what it does.
 use Rattle.instruction_model.specs.declared.Comparison.TheVariants as comparison
+use Rattle.instruction_model.specs.declared.LoadKind.TheVariants as kind
 use Rattle.instruction_model.specs.declared.Operation.TheVariants as operation
 use Rattle.instruction_model.specs.declared.Instruction.{Instruction}
 use Rattle.instruction_model.specs.declared.Instruction.TheVariants as plain
@@ -18,8 +19,12 @@ meaning (flat.Blt a b v) = plain.Branch comparison.Blt a b v
 meaning (flat.Bge a b v) = plain.Branch comparison.Bge a b v
 meaning (flat.Bltu a b v) = plain.Branch comparison.Bltu a b v
 meaning (flat.Bgeu a b v) = plain.Branch comparison.Bgeu a b v
-meaning (flat.Load k r a v) = plain.Load k r a v
-meaning (flat.Store w a b v) = plain.Store w a b v
+meaning (flat.Lb r a v) = plain.Load kind.Lb r a v
+meaning (flat.Lh r a v) = plain.Load kind.Lh r a v
+meaning (flat.Lw r a v) = plain.Load kind.Lw r a v
+meaning (flat.Lbu r a v) = plain.Load kind.Lbu r a v
+meaning (flat.Lhu r a v) = plain.Load kind.Lhu r a v
+meaning (flat.Store a b w v) = plain.Store w a b v
 meaning (flat.Addi r a v) = plain.OperateImmediate operation.Add r a v
 meaning (flat.Slli r a v) = plain.OperateImmediate operation.Sll r a v
 meaning (flat.Slti r a v) = plain.OperateImmediate operation.Slt r a v

@@ -5,7 +5,7 @@ ghost use Rattle.rv_exec.specs.Flat.{meaning};
 
 use rv_decode::{Comparison, Instr, Instruction, LoadKind, Operation, Width};
 
-/// An instruction by its own name where its format has several that compute or branch, so that one look says what is to be done (RISC-V
+/// An instruction by its own name where its format has several that compute, branch or load, so that one look says what is to be done (RISC-V
 /// Unprivileged ISA, RV32I instruction set listing). Registers are 0 to 31.
 #[derive(Clone, Copy)]
 pub enum FlatInstruction {
@@ -56,16 +56,35 @@ pub enum FlatInstruction {
         rs2: u8,
         immediate: u32,
     },
-    Load {
-        kind: LoadKind,
+    Lb {
+        rd: u8,
+        rs1: u8,
+        immediate: u32,
+    },
+    Lh {
+        rd: u8,
+        rs1: u8,
+        immediate: u32,
+    },
+    Lw {
+        rd: u8,
+        rs1: u8,
+        immediate: u32,
+    },
+    Lbu {
+        rd: u8,
+        rs1: u8,
+        immediate: u32,
+    },
+    Lhu {
         rd: u8,
         rs1: u8,
         immediate: u32,
     },
     Store {
-        width: Width,
         rs1: u8,
         rs2: u8,
+        width: Width,
         immediate: u32,
     },
     Addi {
@@ -205,6 +224,18 @@ fn flat_branch(comparison: Comparison, rs1: u8, rs2: u8, immediate: u32) -> Flat
     }
 }
 
+fn flat_load(kind: LoadKind, rd: u8, rs1: u8, immediate: u32) -> FlatInstruction
+    ensures { meaning result ≡ plain.Load kind rd rs1 immediate }
+{
+    match kind {
+        LoadKind::Lb => FlatInstruction::Lb { rd, rs1, immediate },
+        LoadKind::Lh => FlatInstruction::Lh { rd, rs1, immediate },
+        LoadKind::Lw => FlatInstruction::Lw { rd, rs1, immediate },
+        LoadKind::Lbu => FlatInstruction::Lbu { rd, rs1, immediate },
+        LoadKind::Lhu => FlatInstruction::Lhu { rd, rs1, immediate },
+    }
+}
+
 fn flat_immediate(operation: Operation, rd: u8, rs1: u8, immediate: u32) -> FlatInstruction
     requires { HasFields (plain.OperateImmediate operation rd rs1 immediate) }
     ensures { meaning result ≡ plain.OperateImmediate operation rd rs1 immediate }
@@ -262,12 +293,7 @@ pub fn flat_of(instr: Instr) -> FlatInstruction
             rd,
             rs1,
             immediate,
-        } => FlatInstruction::Load {
-            kind,
-            rd,
-            rs1,
-            immediate,
-        },
+        } => flat_load(kind, rd, rs1, immediate),
         Instruction::Store {
             width,
             rs1,

@@ -138,6 +138,24 @@ fn branch_by(
     branch(regs, taken, immediate)
 }
 
+// A load from an address that a register and an immediate make.
+#[inline(always)]
+fn load_by<B: Bus>(
+    regs: &mut Regs,
+    bus: &mut B,
+    kind: LoadKind,
+    rd: u8,
+    rs1: u8,
+    immediate: u32,
+) -> Result<Stepped, AllocError>
+    requires result { rd < 32 }
+    requires first { rs1 < 32 }
+    ensures { Steps B.stored (B.takes_memory bus.old) (outcome.loads kind (B.view bus.old) regs.old rd (outcome.offset (outcome.register regs.old rs1) immediate)) result regs.old bus.old regs.new bus.new }
+{
+    let at = regs.register(rs1).wrapping_add(immediate);
+    load(regs, bus, kind, rd, at)
+}
+
 // An operation on a register and an immediate.
 #[inline(always)]
 fn operate_immediate(
@@ -227,15 +245,46 @@ pub fn perform<B: Bus>(
             rs2,
             immediate,
         } => branch_by(regs, Comparison::Bgeu, rs1, rs2, immediate),
-        FlatInstruction::Load {
-            kind,
+        FlatInstruction::Lb { rd, rs1, immediate } => load_by(
+            regs,
+            bus,
+            LoadKind::Lb,
             rd,
             rs1,
             immediate,
-        } => {
-            let at = regs.register(rs1).wrapping_add(immediate);
-            load(regs, bus, kind, rd, at)
-        }
+        ),
+        FlatInstruction::Lh { rd, rs1, immediate } => load_by(
+            regs,
+            bus,
+            LoadKind::Lh,
+            rd,
+            rs1,
+            immediate,
+        ),
+        FlatInstruction::Lw { rd, rs1, immediate } => load_by(
+            regs,
+            bus,
+            LoadKind::Lw,
+            rd,
+            rs1,
+            immediate,
+        ),
+        FlatInstruction::Lbu { rd, rs1, immediate } => load_by(
+            regs,
+            bus,
+            LoadKind::Lbu,
+            rd,
+            rs1,
+            immediate,
+        ),
+        FlatInstruction::Lhu { rd, rs1, immediate } => load_by(
+            regs,
+            bus,
+            LoadKind::Lhu,
+            rd,
+            rs1,
+            immediate,
+        ),
         FlatInstruction::Store {
             width,
             rs1,
