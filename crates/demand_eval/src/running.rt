@@ -68,7 +68,7 @@ fn meet(runner: &mut Runner, call: AcceptedCall, space: &mut Space, depth: u8) -
     ensures { OnOk result (GoesOn (levels_below depth) space.old space.new) }
 {
     wait_for(runner, call.call(), space, depth)?;
-    user_runtime::meet(alloc, call, depth, space)
+    user_runtime::meet(runner.alloc, call, depth, space)
 }
 
 // Local events, and then the call that is next, if there is one. It says whether the space has stopped.
