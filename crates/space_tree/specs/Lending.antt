@@ -1,4 +1,5 @@
 -- What becomes of children of whom one is handed out to be changed.
+-- Our choice: a restatement for proofs.
 use Rattle.std.specs.Prelude.{ℕ, Option}
 use Rattle.std.specs.Borrow.{LendsIf, MutBor, Fml}
 use Rattle.space_model.specs.Space.{Space, Children, over}
