@@ -8,10 +8,10 @@ fn tree_of_three(alloc: Global) -> Result<(Space, u32), AllocError> {
     let mut tree = Space::alone(alloc, Top::fresh(alloc, 10));
     let mut path = Path::new();
     path.push(65_535);
-    put_at(&mut tree, &path, Space::alone(alloc, Top::fresh(alloc, 20)))?;
+    put_at(alloc, &mut tree, &path, Space::alone(alloc, Top::fresh(alloc, 20)))?;
     let former = swap_top(&mut tree, &path, Top::fresh(alloc, 30));
     path.push(7);
-    put_at(&mut tree, &path, Space::alone(alloc, Top::fresh(alloc, 40)))?;
+    put_at(alloc, &mut tree, &path, Space::alone(alloc, Top::fresh(alloc, 40)))?;
     Ok((tree, former.fuel))
 }
 
