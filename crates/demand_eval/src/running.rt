@@ -61,7 +61,12 @@ fn wait_for(runner: &mut Runner, call: Call, space: &mut Space, depth: u8) -> Re
 
 // The call that is next, once what it waits for is ready.
 #[cycle(settle)]
-fn meet(runner: &mut Runner, call: AcceptedCall, space: &mut Space, depth: u8) -> Result<(), AllocError>
+fn meet(
+    runner: &mut Runner,
+    call: AcceptedCall,
+    space: &mut Space,
+    depth: u8,
+) -> Result<(), AllocError>
     requires depth { depth ≤ greatest_depth }
     requires sound { IsSoundBelow (levels_below depth) space.old }
     requires next { event.next (levels_below depth) (top_of space.old) ≡ event.meets call (after_payment (top_of space.old) (top_of space.old)) }

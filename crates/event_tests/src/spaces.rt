@@ -4,14 +4,25 @@ use std::process::Abort;
 use std::test::Fail;
 
 // A tree whose root has 10 units of fuel, its child 65535 after a change 30, and that one's child 7 has 40; and the fuel of the former state.
-fn tree_of_three(alloc: Global) -> Result<(Space, u32), AllocError> {
+fn tree_of_three(rt: &impl Abort, alloc: Global) -> Result<(Space, u32), AllocError> {
     let mut tree = Space::alone(alloc, Top::fresh(alloc, 10));
     let mut path = Path::new();
     path.push(65_535);
-    put_at(alloc, &mut tree, &path, Space::alone(alloc, Top::fresh(alloc, 20)))?;
+    put_at(
+        alloc,
+        &mut tree,
+        &path,
+        Space::alone(alloc, Top::fresh(alloc, 20)),
+    )?;
     let former = swap_top(&mut tree, &path, Top::fresh(alloc, 30));
+    assert!(rt; at(&tree, &path).is_some());
     path.push(7);
-    put_at(alloc, &mut tree, &path, Space::alone(alloc, Top::fresh(alloc, 40)))?;
+    put_at(
+        alloc,
+        &mut tree,
+        &path,
+        Space::alone(alloc, Top::fresh(alloc, 40)),
+    )?;
     Ok((tree, former.fuel))
 }
 
@@ -34,7 +45,7 @@ fn fuel_on_the_way(tree: &Space) -> [Option<u32>; 4] {
 
 #[test]
 fn spaces_at_paths(rt: HostRuntime) -> Result<(), Fail> {
-    let (tree, former) = tree_of_three(rt.alloc())?;
+    let (tree, former) = tree_of_three(&rt, rt.alloc())?;
     let want = [Some(10), Some(30), Some(40), None];
     assert_eq!(rt; (fuel_on_the_way(&tree), former), (want, 20));
     Ok(())
