@@ -5,6 +5,7 @@ ghost use Rattle.run_model.specs.Replay.{replay};
 ghost use Rattle.det_core.specs.View.{path_views};
 
 use crate::stepping::step;
+use space_step::DecodeCache;
 use space_tree::{Path, Space};
 use std::alloc::{AllocError, Global};
 
@@ -14,8 +15,9 @@ pub fn walk(alloc: Global, mut space: Space, paths: &[Path]) -> Result<Space, Al
     ensures value { IfOk result (λ s. s ≡ replay (path_views paths.now) greatest_depth space) }
     ensures sound { IsSound space → IfOk result IsSound }
 {
+    let mut cache = DecodeCache::new(alloc)?;
     for path in paths {
-        step(alloc, &mut space, path)?;
+        step(alloc, &mut cache, &mut space, path)?;
     }
     Ok(space)
 }

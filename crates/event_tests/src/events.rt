@@ -1,7 +1,8 @@
 use det_core::{boot, enabled, step};
 use image_file::read_image;
+use space_step::DecodeCache;
 use space_tree::{Cause, Devices, Path, Space, Status, Top};
-use std::alloc::Global;
+use std::alloc::{AllocError, Global};
 use std::process::Abort;
 use std::test::*;
 
@@ -12,10 +13,16 @@ const IMAGE: [u8; 47] = [
     0x93, 0x08, 0x20, 0x00, 0x73, 0x00, 0x00, 0x00,
 ];
 
+// The event at a path, with a cache of its own.
+fn stepped(alloc: Global, tree: &mut Space, path: &Path) -> Result<bool, AllocError> {
+    let mut cache = DecodeCache::new(alloc)?;
+    step(alloc, &mut cache, tree, path)
+}
+
 // Tries the event at a path, which may happen, or may not.
 fn tries(rt: &impl Abort, alloc: Global, tree: &mut Space, path: &Path, may: bool) {
     assert_eq!(rt; enabled(tree, path), may);
-    match step(alloc, tree, path) {
+    match stepped(alloc, tree, path) {
         Ok(went) => assert_eq!(rt; went, may),
         Err(_) => panic!(rt; "no memory"),
     }

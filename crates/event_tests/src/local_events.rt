@@ -136,10 +136,10 @@ fn advanced(
 }
 
 // What is next of a space; a local event has happened then.
-fn next_of(rt: &impl Abort, top: &mut Top, depth: u8) -> Next
+fn next_of(rt: &impl Abort, cache: &mut DecodeCache, top: &mut Top, depth: u8) -> Next
     requires { depth ≤ 8 }
 {
-    match next(top, depth) {
+    match next(top, depth, cache) {
         Ok(next) => next,
         Err(_) => panic!(rt; "no memory"),
     }
@@ -174,7 +174,7 @@ fn fuel_ends_at_a_call(rt: HostRuntime) -> Result<(), Fail> {
     let stays = advanced(&rt, &mut cache, &mut top, 0, 100);
     assert_eq!(rt; stays.ran, 0);
     assert_eq!(rt; stays.next, Some(Next::Stopped));
-    let next = next_of(&rt, &mut top, 0);
+    let next = next_of(&rt, &mut cache, &mut top, 0);
     assert_eq!(rt; next, Next::Stopped);
     Ok(())
 }
@@ -190,12 +190,12 @@ fn is_put(next: Next) -> bool {
 fn put_meets_a_child(rt: HostRuntime) -> Result<(), Fail> {
     let mut top = root_of(&rt, rt.alloc(), PUTS, 100);
     assert_eq!(rt; peek(&top, 7), Next::Local);
-    let next = next_of(&rt, &mut top, 7);
+    let mut cache = cache_of(&rt, rt.alloc());
+    let next = next_of(&rt, &mut cache, &mut top, 7);
     assert_eq!(rt; next, Next::Local);
     assert!(rt; is_put(peek(&top, 7)));
-    let next = next_of(&rt, &mut top, 7);
+    let next = next_of(&rt, &mut cache, &mut top, 7);
     assert!(rt; is_put(next));
-    let mut cache = cache_of(&rt, rt.alloc());
     let ran = advanced(&rt, &mut cache, &mut top, 7, 5).ran;
     assert_eq!(rt; ran, 0);
     Ok(())
@@ -204,7 +204,8 @@ fn put_meets_a_child(rt: HostRuntime) -> Result<(), Fail> {
 // A run of a space at depth 8 that is about to make a child.
 fn refused(rt: &impl Abort, alloc: Global) -> Run {
     let mut top = root_of(rt, alloc, PUTS, 100);
-    let next = next_of(rt, &mut top, 7);
+    let mut cache = cache_of(rt, alloc);
+    let next = next_of(rt, &mut cache, &mut top, 7);
     assert_eq!(rt; next, Next::Local);
     assert_eq!(rt; peek(&top, 8), Next::Local);
     run_of(rt, alloc, top, 8, 5)

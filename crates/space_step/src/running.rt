@@ -11,7 +11,7 @@ use crate::calling::call;
 use crate::decode_cache::DecodeCache;
 use crate::event::{Advance, Next};
 use crate::paying::{budget, run_out};
-use crate::source::{Source, Uncached};
+use crate::source::Source;
 use crate::stretch::{End, Stretch, execute};
 use space_model::{Refusal, Status};
 use space_tree::Top;
@@ -155,11 +155,15 @@ pub fn advance(
 }
 
 /// The next event of a space at a depth of at most 8: a local event, which has happened, or a call that meets a child or
-/// nothing, and then nothing has changed. Its one error is want of memory for a local event, and then nothing has changed.
-pub fn next(top: &mut Top, depth: u8) -> Result<Next, AllocError>
+/// nothing, and then nothing has changed. Its one error is want of memory for a local event, and then nothing has changed. What the cache
+/// kept before does not matter.
+pub fn next(top: &mut Top, depth: u8, cache: &mut DecodeCache) -> Result<Next, AllocError>
     requires { depth ≤ greatest_depth }
     ensures steps { Steps (levels_below depth) result top.old top.new }
     ensures sound { (fuel : ℕ) (root : Bool) → IsSoundTop fuel root top.old → IsSoundTop fuel root top.new }
 {
-    go_on(&mut Uncached, top, depth, 1).next.ok_or(AllocError)
+    let table = &mut *cache.table;
+    table.renew();
+    let advance = go_on(table, top, depth, 1);
+    advance.next.ok_or(AllocError)
 }

@@ -81,30 +81,3 @@ pub(crate) trait Source {
     fn forget_all(&mut self)
         ensures { (u v : View) → agrees self.old u → agrees self.new v };
 }
-
-/// Each instruction is decoded each time.
-#[derive(Drop)]
-pub(crate) struct Uncached;
-
-impl Source for Uncached {
-    ghost use Rattle.std.specs.Prelude.{⊤};
-
-    ghost agrees = { λ s v. ⊤ };
-
-    #[inline(always)]
-    #[tactic(auto, using(crate::proofs::Caching::known_stands))]
-    fn instruction_at(&mut self, memory: &Mem, at: u32) -> Result<FlatInstruction, Trap> {
-        match decoded_at(memory, at) {
-            Ok(instr) => Ok(flat_of(instr)),
-            Err(trap) => Err(trap),
-        }
-    }
-
-    #[inline(always)]
-    fn forget(&mut self, at: u32) {
-        let _at = at;
-    }
-
-    #[inline(always)]
-    fn forget_all(&mut self) {}
-}
