@@ -28,7 +28,7 @@ use Rattle.run_model.specs.Demand.{settle}
 use Rattle.report_model.specs.Report.{console_of}
 use Rattle.run_model.proofs.Sound.{replay_sound}
 use Rattle.det_laws.specs.Tree.{IsPrefix}
-use Rattle.det_laws.proofs.Leading.{Leads}
+use Rattle.det_laws.specs.Leads.{Leads}
 use Rattle.det_laws.proofs.Reaching.{meaning_reached, replay_settles}
 
 -- what one top has written begins with what another has

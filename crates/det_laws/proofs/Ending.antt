@@ -8,7 +8,8 @@ use Rattle.run_model.specs.Demand.{settle, work}
 use Rattle.run_model.proofs.Sound.{step_sound, replay_sound}
 use Rattle.det_laws.specs.Tree.{MayAllHappen, NoneMayHappen, after, after_all, effective_steps, events_left}
 use Rattle.det_laws.proofs.Commutes.{settled_rests}
-use Rattle.det_laws.proofs.Leading.{Leads, settled_stays}
+use Rattle.det_laws.specs.Leads.{Leads}
+use Rattle.det_laws.proofs.Leading.{settled_stays}
 use Rattle.det_laws.proofs.Reaching.{meaning_reached, event_counts, replay_settles, never_stuck}
 
 -- a settled tree has no events left, and settles to itself

@@ -6,16 +6,8 @@ use Rattle.std.specs.Prelude.{option_map}
 use Rattle.space_model.specs.Space.{Top, Space, space, Children, find, over, is_settled}
 use Rattle.space_model.proofs.Children.{find-over_same, over-over_same, over_itself}
 use Rattle.run_model.specs.Schedule.{on_child, is_enabled, step}
+use Rattle.det_laws.specs.Leads.{Leads, Reaches}
 use Rattle.det_laws.proofs.Commutes.{pass_one_another, settled_rests}
-
--- the events at these paths, each of which may happen in its turn, lead from s to t
-abbrev pub Leads : ℕ → List (List ℕ) → Space → Space → Type 0
-Leads levels [] s t = s ≡ t
-Leads levels (p ∷ ps) s t = (is_enabled p levels s ≡ true) × Leads levels ps (step p levels s) t
-
--- so many events lead from s to t
-abbrev pub Reaches : ℕ → Space → ℕ → Space → Type 0
-Reaches levels s n t = (ps : List (List ℕ)) × (length ps ≡ n) × Leads levels ps s t
 
 cases_path : (p q : List ℕ) → (p ≡ q) ⊎ (p ≡ q → ⊥)
 cases_path [] [] = inl refl

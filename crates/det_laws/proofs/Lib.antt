@@ -5,3 +5,6 @@ pub mod Reaching
 pub mod Console
 pub mod Ending
 pub mod Paths
+pub mod Tops
+pub mod Local
+pub mod Moved

@@ -20,7 +20,8 @@ use Rattle.run_model.proofs.Run.{run-stops}
 use Rattle.run_model.proofs.Settled.{settle-settled}
 use Rattle.run_model.proofs.Sound.{next_meets_sound, run_for_sound, meaning_sound, step_sound, try_step_sound}
 use Rattle.det_laws.proofs.Commutes.{settled_stopped}
-use Rattle.det_laws.proofs.Leading.{Leads, Reaches, stays, goes_on, begins, child_reaches, settled_stays, bring_forward, one_end}
+use Rattle.det_laws.specs.Leads.{Leads, Reaches}
+use Rattle.det_laws.proofs.Leading.{stays, goes_on, begins, child_reaches, settled_stays, bring_forward, one_end}
 
 -- what becomes of a child that is awaited: it is sound and ready, and reached by so many events
 pub record IsReached (levels fuel : ℕ) (reach : Reach) (c : Space) (r : Ran) : Type 0 where

@@ -1,1 +1,4 @@
 pub mod Tree
+pub mod Leads
+pub mod Tops
+pub mod Moved

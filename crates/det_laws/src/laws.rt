@@ -1,10 +1,15 @@
-ghost use Rattle.std.specs.Prelude.{◌≡◌, ◌≢◌, ◌⊎◌, ℕ, suc, ◌+◌, ◌<◌, List, ◌∷◌, ◌++◌, length, Bool, true, false};
+ghost use Rattle.std.specs.Prelude.{◌≡◌, ◌≢◌, ◌⊎◌, ℕ, suc, ◌+◌, ◌-◌, ◌<◌, Some, List, ◌∷◌, ◌++◌, length, Bool, true, false};
 ghost use Rattle.std.specs.List.{flat_map};
-ghost use Rattle.space_model.specs.Space.{Space, is_settled};
+ghost use Rattle.call_model.specs.Limits.{greatest_depth};
+ghost use Rattle.space_model.specs.Space.{Space, Top, top_of, is_settled};
+ghost use Rattle.space_model.specs.Path.{at, with_top};
+ghost use Rattle.space_model.specs.Event.{Follows};
 ghost use Rattle.space_model.specs.PathOrder.{IsBefore, ArePaths};
 ghost use Rattle.space_model.specs.Sound.{IsSound};
 ghost use Rattle.run_model.specs.Demand.{settle_tree};
 ghost use Rattle.report_model.specs.Report.{console_of, report};
+ghost use Rattle.det_laws.specs.Leads.{in_a_row};
+ghost use Rattle.det_laws.specs.Tops.{top_at};
 ghost use Rattle.det_laws.specs.Tree.{MayHappen, MayAllHappen, NoneMayHappen, after, after_all, effective_steps, events_left, IsPrefix, line_at};
 
 /// Of two different events that may happen in a tree, each may still happen after the other, and both orders lead to one tree.
@@ -61,4 +66,22 @@ pub fn path_order()
 /// The report of a sound tree has one line for each path at which a space stands, in the order of paths.
 pub fn report_order()
     ensures { (digest : Bool) (s : Space) → IsSound s → (ps : List (List ℕ)) × ArePaths ps s × (report digest s ≡ flat_map (line_at digest s) ps) }
+{}
+
+/// Local events of the space at a path, one after the other, are steps of a schedule, each of which may happen in its turn. They give that space its
+/// last top, and change nothing else.
+pub fn local_events()
+    ensures may { (s c : Space) (p : List ℕ) (n : ℕ) (t : Top) → at p s ≡ Some c → Follows (greatest_depth - length p) n (top_of c) t → MayAllHappen (in_a_row n p) s }
+    ensures last { (s c : Space) (p : List ℕ) (n : ℕ) (t : Top) → at p s ≡ Some c → Follows (greatest_depth - length p) n (top_of c) t → after_all (in_a_row n p) s ≡ with_top p t s }
+{}
+
+/// Tops put at two different paths pass one another, and each leaves the top at the other path as it was.
+pub fn tops_at_different_paths()
+    ensures one_tree { (s : Space) (p q : List ℕ) (t u : Top) → p ≢ q → with_top p t (with_top q u s) ≡ with_top q u (with_top p t s) }
+    ensures other_stays { (s : Space) (p q : List ℕ) (t : Top) → p ≢ q → top_at p (with_top q t s) ≡ top_at p s }
+{}
+
+/// After a list of events each of which may happen in its turn there are as many fewer left in a sound tree.
+pub fn as_many_fewer()
+    ensures { (s : Space) (ps : List (List ℕ)) → IsSound s → MayAllHappen ps s → events_left s ≡ length ps + events_left (after_all ps s) }
 {}

@@ -5,6 +5,6 @@
 mod laws;
 
 pub use laws::{
-    commutation, confluence, console_prefix, never_stuck, one_length, path_order, report_order,
-    stays_sound,
+    as_many_fewer, commutation, confluence, console_prefix, local_events, never_stuck, one_length,
+    path_order, report_order, stays_sound, tops_at_different_paths,
 };
