@@ -9,6 +9,8 @@ use Rattle.space_model.proofs.Children.{over-at, over_itself}
 use Rattle.space_tree.proofs.Paths.{onward, path_is}
 use Rattle.run_model.specs.Schedule.{may_happen, on_child, is_enabled, step, try_step}
 use Rattle.run_model.proofs.Sound.{try_step_sound}
+use Rattle.call_model.specs.declared.Call.{Call}
+use Rattle.det_core.specs.Met.{IsMet}
 
 levels_below : (levels n : ℕ) → pred levels - n ≡ levels - suc n
 levels_below levels n = omega arith
@@ -87,3 +89,12 @@ same_child p u s c w cs h same =
 pub step_keeps : {T E : Type 0} (r : Result T E) (p : List ℕ) (fuel : ℕ) (old new : Space) → OnOk r (new ≡ try_step p 8 old) → OnErr r (new ≡ old) → IsSoundAt 8 true fuel old → IsSoundAt 8 true fuel new
 step_keeps (Ok x) p fuel old new ok err sound = subst (IsSoundAt 8 true fuel) (sym ok) (try_step_sound p 8 true fuel old sound)
 step_keeps (Err e) p fuel old new ok err sound = subst (IsSoundAt 8 true fuel) (sym err) sound
+
+-- a call of a child has met its children: it is an event of the space
+pub met_child : (p : List ℕ) (levels below : ℕ) (u : Top) (s c w : Space) (cs : Children) (o : Option Call) → below ≡ pred levels → HasFirst p u s cs (Some c)
+    → IsMet (onward p) below o c w → IsMet p levels o s (space u (over (get_or p 0 0) (λ _. w) cs))
+met_child p levels below u s c w cs None e h same = same_child p u s c w cs h same
+met_child p levels below u s c w cs (Some call) e h met =
+    let may = sym (enabled_child p levels below u s c cs e h) ∙ met.0 in
+    let tried : w ≡ try_step (onward p) below c = met.1 ∙ sym (ap (λ b. cond b (step (onward p) below c) c) met.0) in
+    (may, stepped_child p levels below u s c w cs e h tried ∙ ap (λ b. cond b (step p levels s) s) may)

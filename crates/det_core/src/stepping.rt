@@ -13,7 +13,7 @@ use std::alloc::{AllocError, Global};
 use user_runtime::meet;
 
 // A call of a space at this depth, where what it waits for is ready; else nothing.
-fn try_call(
+pub(crate) fn try_call(
     alloc: Global,
     call: AcceptedCall,
     space: &mut Space,
