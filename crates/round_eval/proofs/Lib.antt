@@ -1,0 +1,4 @@
+pub mod Jobs
+pub mod Later
+pub mod Onward
+pub mod Moves

@@ -1,0 +1,127 @@
+ghost use Rattle.std.specs.Prelude.{◌≤◌};
+
+use arrayvec::ArrayVec;
+use call_model::limits::GREATEST_DEPTH;
+use space_step::{AcceptedCall, Next};
+use space_tree::{Path, Space};
+use std::alloc::{AllocError, Global};
+use std::mem;
+use trap_ret::awaits;
+
+/// A space that ran when it was looked at last.
+#[derive(Drop)]
+pub(crate) struct Runner {
+    pub(crate) path: Path,
+    /// Whether it came through its last quantum.
+    pub(crate) came_through: bool,
+}
+
+/// A space that is to go on, and for how many events.
+#[derive(Drop)]
+pub(crate) struct Turn {
+    pub(crate) path: Path,
+    pub(crate) left: u32,
+    pub(crate) ghost some: { 1 ≤ left },
+}
+
+/// Where to look next: the spaces that run, and those whose calls may find ready what they wait for. What is missing here is found by a search of
+/// the tree, and what is here for nothing changes nothing; so no clause speaks of it.
+#[derive(Drop)]
+pub(crate) struct Hints {
+    alloc: Global,
+    pub(crate) running: Vec<Runner>,
+    pub(crate) calls: Vec<Path>,
+}
+
+impl Hints {
+    /// Nothing to look at.
+    pub(crate) fn new(alloc: Global) -> Hints {
+        Hints {
+            alloc,
+            running: Vec::new(alloc),
+            calls: Vec::new(alloc),
+        }
+    }
+
+    /// All spaces of a tree that run. The one error is want of memory.
+    pub(crate) fn search(alloc: Global, space: &Space) -> Result<Hints, AllocError> {
+        let mut hints = Hints::new(alloc);
+        hints.search_below(space, &ArrayVec::new(), GREATEST_DEPTH)?;
+        Ok(hints)
+    }
+
+    // Those of the space at a path, and of so many levels below it.
+    fn search_below(&mut self, space: &Space, path: &Path, levels: u8) -> Result<(), AllocError> {
+        if !space.top.is_stopped() {
+            self.runs(path.clone()?, false)?;
+        }
+        if levels == 0 || space.children.are_known_settled() {
+            return Ok(());
+        }
+        for (number, child) in space.children.entries() {
+            let mut below = path.clone()?;
+            if below.try_push(*number).is_ok() {
+                self.search_below(child, &below, levels - 1)?;
+            }
+        }
+        Ok(())
+    }
+
+    // A space runs.
+    fn runs(&mut self, path: Path, came_through: bool) -> Result<(), AllocError> {
+        self.running.push(Runner { path, came_through })?;
+        Ok(())
+    }
+
+    /// What is next of a space that has gone on: it came through its quantum; or its call may find ready what it waits for; or it has stopped, and
+    /// the calls of the spaces above it may.
+    pub(crate) fn note(&mut self, path: Path, next: Next) -> Result<(), AllocError> {
+        match next {
+            Next::Local => self.runs(path, true),
+            Next::Meet(_) => self.calls(path),
+            Next::Stopped => self.calls_above(&path),
+        }
+    }
+
+    // The call of a space may find ready what it waits for.
+    fn calls(&mut self, path: Path) -> Result<(), AllocError> {
+        self.calls.push(path)?;
+        Ok(())
+    }
+
+    // The calls of the spaces above one that has stopped.
+    fn calls_above(&mut self, path: &Path) -> Result<(), AllocError> {
+        for length in 0..path.len() {
+            let mut above = path.clone()?;
+            above.truncate(length);
+            self.calls(above)?;
+        }
+        Ok(())
+    }
+
+    /// A call has met its children: its caller goes on, and those that it waited for may run.
+    pub(crate) fn met(&mut self, path: Path, call: AcceptedCall) -> Result<(), AllocError> {
+        let all = awaits(call.call());
+        for index in 0..all.len() {
+            let awaited = all.get(index);
+            let mut child = path.clone()?;
+            if child.try_push(awaited.number).is_ok() {
+                self.runs(child, false)?;
+            }
+        }
+        self.runs(path, false)
+    }
+
+    /// The spaces that run; none are left.
+    pub(crate) fn take_running(&mut self) -> Vec<Runner> {
+        mem::replace(&mut self.running, Vec::new(self.alloc))
+    }
+
+    /// The paths of the calls, in their order, each once; none are left.
+    pub(crate) fn take_calls(&mut self) -> Vec<Path> {
+        let mut calls = mem::replace(&mut self.calls, Vec::new(self.alloc));
+        calls.sort_unstable();
+        calls.dedup();
+        calls
+    }
+}
