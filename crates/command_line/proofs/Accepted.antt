@@ -1,10 +1,12 @@
--- Where `clap` finds no fault at words, they have a line.
-use Rattle.std.proofs.Common.{◌≡◌, ◌&&◌, ℕ, Bool, true, false, cond, not, List, [], ◌∷◌, Option, Some, None, refl, sym, ap, subst, inl, inr, arith, codes}
+-- Where `clap` finds no fault at words, they have a line, or the name of an engine is none.
+use Rattle.std.proofs.Common.{◌≡◌, ◌⊎◌, ◌&&◌, ◌||◌, ℕ, Bool, true, false, cond, not, List, [], ◌∷◌, Option, Some, None, refl, sym, ap, subst, inl, inr, arith, codes}
 use Rattle.std.specs.Prelude.{find, is_some, IsSome, IsNone, option_and_then, option_map}
 use Rattle.std.specs.List.{AllByRecursion, list_any}
 use Rattle.std.specs.Option.{option_map_or}
 use Rattle.std.specs.Str.Parse.{digits_value, without_leading_plus}
 use Rattle.std.proofs.lemmas.Bool.{ne_eqb}
+use Rattle.std.specs.Str.{bytes_eq}
+use Rattle.std.proofs.lemmas.Slice.Eq.{bytes_eq-Decides}
 use Rattle.clap.specs.Facts.{explicit_source}
 use Rattle.clap.specs.Kinds.{Kinds, check_kinds}
 use Rattle.clap.specs.ValueTests.{accepts}
@@ -14,11 +16,14 @@ use Rattle.clap.specs.Takes.{is_given}
 use Rattle.clap.specs.Faults.{built_fault, check_fault, entered_fault, fault_of, level_fault, settle_fault, defaults_fault, walk_fault}
 use Rattle.clap.specs.declared.builder.value_parser.ValueParser.TheVariants as vp
 use Rattle.command_line.specs.declared.command.Command.{Command}
-use Rattle.command_line.specs.Line.{Engine, IsRefused, Line, asm, asm_app, bench, bench_app, command_line, demand, flag, fuel_of, fuel_rule, greatest_number, has_flag, line, line_of, number_in, number_of, program_app, required_rule, run_app, run_by, run_line, run_with, schedule, seed_of, seed_rule, walk_app, walk_line}
+use Rattle.command_line.specs.Line.{Engine, IsRefused, IsUnknown, Line, asm, asm_app, asm_line, bench_app, bench_line, bench_with, command_line, engine_in, engine_name_of, engine_named, engine_rule, flag, fuel_of, fuel_rule, greatest_number, has_flag, line, line_of, number_in, number_of, program_app, required_rule, run_app, run_by, run_line, run_with, schedule, seed_of, seed_rule, walk_app, walk_line}
 use Rattle.command_line.proofs.Complete.{HasValue, level_complete}
 use Rattle.command_line.proofs.Kept.{AreOurs, IsHelp, IsSet, found_is, or_else_none}
 
 -- ---- the commands, built
+
+abbrev engine_filled : Rule
+engine_filled = with_index 1 (filled engine_rule)
 
 abbrev fuel_filled : Rule
 fuel_filled = with_index 1 (filled fuel_rule)
@@ -40,7 +45,7 @@ abbrev built_shape : Text → List Rule → Shape
 built_shape name rules = record (new_shape name) { rules = rules; disable_help_subcommand = true; is_built = true }
 
 abbrev run_built : Shape
-run_built = built_shape (codes "run") (fuel_filled ∷ digest_filled ∷ name_filled 1 (codes "image") ∷ name_filled 2 (codes "script") ∷ help_filled 3 ∷ [])
+run_built = built_shape (codes "run") (engine_filled ∷ fuel_filled ∷ digest_filled ∷ name_filled 1 (codes "image") ∷ name_filled 2 (codes "script") ∷ help_filled 3 ∷ [])
 
 abbrev walk_built : Shape
 walk_built = built_shape (codes "walk") (fuel_filled ∷ name_filled 1 (codes "image") ∷ name_filled 2 (codes "script") ∷ name_filled 3 (codes "schedule") ∷ help_filled 4 ∷ [])
@@ -49,7 +54,7 @@ abbrev asm_built : Shape
 asm_built = built_shape (codes "asm") (name_filled 1 (codes "source") ∷ help_filled 2 ∷ [])
 
 abbrev bench_built : Shape
-bench_built = built_shape (codes "bench") (seed_filled ∷ help_filled 2 ∷ [])
+bench_built = built_shape (codes "bench") (engine_filled ∷ seed_filled ∷ help_filled 2 ∷ [])
 
 abbrev built_commands : List Shape
 built_commands = run_built ∷ walk_built ∷ asm_built ∷ bench_built ∷ []
@@ -62,13 +67,16 @@ name_is_set c n id found = record { set = inl refl; valued = inl refl; plainly =
 fuel_is_set : (c : List Rule) → arg_by_id c (codes "limit") ≡ Some fuel_filled → IsSet c fuel_filled
 fuel_is_set c found = record { set = inl refl; valued = inl refl; plainly = refl; found = found }
 
+engine_is_set : (c : List Rule) → arg_by_id c (codes "engine") ≡ Some engine_filled → IsSet c engine_filled
+engine_is_set c found = record { set = inl refl; valued = inl refl; plainly = refl; found = found }
+
 help_is_help : (n : ℕ) → IsHelp (help_filled n)
 help_is_help n = record { help = refl; optional = refl; plain = refl }
 
 run_is_ours : AreOurs run_built.rules
 run_is_ours =
     let digest : IsSet run_built.rules digest_filled = record { set = inr refl; valued = inr (omega arith); plainly = refl; found = refl } in
-    (inr (fuel_is_set _ refl), (inr digest, (inr (name_is_set _ 1 (codes "image") refl), (inr (name_is_set _ 2 (codes "script") refl), (inl (help_is_help 3), tt)))))
+    (inr (engine_is_set _ refl), (inr (fuel_is_set _ refl), (inr digest, (inr (name_is_set _ 1 (codes "image") refl), (inr (name_is_set _ 2 (codes "script") refl), (inl (help_is_help 3), tt))))))
 
 walk_is_ours : AreOurs walk_built.rules
 walk_is_ours =
@@ -80,7 +88,7 @@ asm_is_ours = (inr (name_is_set _ 1 (codes "source") refl), (inl (help_is_help 2
 bench_is_ours : AreOurs bench_built.rules
 bench_is_ours =
     let seed : IsSet bench_built.rules seed_filled = record { set = inl refl; valued = inl refl; plainly = refl; found = refl } in
-    (inr seed, (inl (help_is_help 2), tt))
+    (inr (engine_is_set _ refl), (inr seed, (inl (help_is_help 2), tt)))
 
 -- ---- what they have
 
@@ -107,41 +115,64 @@ run_there (Some n) d (Some e) None s a b c f = absurd cc
 run_there (Some n) d None i s a b c f = absurd cc
 run_there None d e i s a b c f = absurd cc
 
+bench_there : (engine : Engine) (seed : Option ℕ) → IsSome seed → IsSome (bench_with (Some engine) seed)
+bench_there e (Some n) a = refl
+bench_there e None a = absurd cc
+
 mapped_there : {A B : Type 0} (f : A → B) (o : Option A) → IsSome o → IsSome (option_map f o)
 mapped_there f None h = absurd cc
 mapped_there f (Some x) h = refl
 
 -- ---- each command
 
+-- such rows have a line, or the name of an engine in them is none
+abbrev IsDecided : Option (Text × List Row) → Type 0
+IsDecided o = IsSome (option_and_then command_line o) ⊎ IsUnknown (option_and_then engine_name_of o)
+
 abbrev IsAccepted : Shape → Type 0
-IsAccepted s = (words : List Text) → level_fault s [] nothing_held words false [] ≡ [] → IsSome (command_line (rows_at s words))
+IsAccepted s = (words : List Text) → level_fault s [] nothing_held words false [] ≡ [] → IsDecided (Some (rows_at s words))
+
+-- a line with an engine is there, or the name of the engine is none
+by_engine : (rows : List Row) (made : Option Engine → Option Line) → HasValue rows engine_filled → ((e : Engine) → IsSome (made (Some e)))
+    → IsSome (made (engine_in rows)) ⊎ IsUnknown (first_of (codes "engine") rows)
+by_engine rows made v there = subst (λ o. IsSome (made (option_and_then engine_named o)) ⊎ IsUnknown o) (sym v.1.first) (go (engine_named v.0) refl)
+  where
+    go : (o : Option Engine) → engine_named v.0 ≡ o → IsSome (made (engine_named v.0)) ⊎ (engine_named v.0 ≡ None)
+    go None is = inr is
+    go (Some e) is = inl (subst (λ (o : Option Engine). IsSome (made o)) (sym is) (there e))
 
 run_accepted : IsAccepted run_built
 unfolding run_line run_by
 run_accepted words e =
     let rows = rows_after run_built.rules [] words in
     let l = level_complete run_built words run_is_ours e in
-    run_there (fuel_of rows) (has_flag (codes "digest") rows) (Some demand) (first_of (codes "image") rows) (first_of (codes "script") rows)
-    (fuel_there rows (l.0 (inr (omega arith)))) refl (name_there 1 (codes "image") rows (l.1.1.0 (inl refl))) (name_there 2 (codes "script") rows (l.1.1.1.0 (inl refl)))
+    let fuel = fuel_there rows (l.1.0 (inr (omega arith))) in
+    let image = name_there 1 (codes "image") rows (l.1.1.1.0 (inl refl)) in
+    let script = name_there 2 (codes "script") rows (l.1.1.1.1.0 (inl refl)) in
+    let digest = has_flag (codes "digest") rows in
+    by_engine rows (λ o. run_with (fuel_of rows) digest o (first_of (codes "image") rows) (first_of (codes "script") rows)) (l.0 (inr (omega arith)))
+    (λ x. run_there (fuel_of rows) digest (Some x) (first_of (codes "image") rows) (first_of (codes "script") rows) fuel refl image script)
 
 walk_accepted : IsAccepted walk_built
 unfolding walk_line run_by
 walk_accepted words e =
     let rows = rows_after walk_built.rules [] words in
     let l = level_complete walk_built words walk_is_ours e in
-    run_there (fuel_of rows) false (option_map (λ name. schedule name) (first_of (codes "schedule") rows)) (first_of (codes "image") rows) (first_of (codes "script") rows)
+    inl (run_there (fuel_of rows) false (option_map (λ name. schedule name) (first_of (codes "schedule") rows)) (first_of (codes "image") rows) (first_of (codes "script") rows)
     (fuel_there rows (l.0 (inr (omega arith)))) (mapped_there (λ name. schedule name) (first_of (codes "schedule") rows) (name_there 3 (codes "schedule") rows (l.1.1.1.0 (inl refl))))
-    (name_there 1 (codes "image") rows (l.1.0 (inl refl))) (name_there 2 (codes "script") rows (l.1.1.0 (inl refl)))
+    (name_there 1 (codes "image") rows (l.1.0 (inl refl))) (name_there 2 (codes "script") rows (l.1.1.0 (inl refl))))
 
 asm_accepted : IsAccepted asm_built
 asm_accepted words e =
     let rows = rows_after asm_built.rules [] words in
-    mapped_there asm (first_of (codes "source") rows) (name_there 1 (codes "source") rows ((level_complete asm_built words asm_is_ours e).0 (inl refl)))
+    inl (mapped_there asm (first_of (codes "source") rows) (name_there 1 (codes "source") rows ((level_complete asm_built words asm_is_ours e).0 (inl refl))))
 
 bench_accepted : IsAccepted bench_built
 bench_accepted words e =
     let rows = rows_after bench_built.rules [] words in
-    mapped_there (λ seed. bench demand seed) (seed_of rows) (seed_there rows ((level_complete bench_built words bench_is_ours e).0 (inl refl)))
+    let l = level_complete bench_built words bench_is_ours e in
+    let seed = seed_there rows (l.1.0 (inl refl)) in
+    by_engine rows (λ o. bench_with o (seed_of rows)) (l.0 (inr (omega arith))) (λ x. bench_there x (seed_of rows) seed)
 
 all_accepted : AllByRecursion IsAccepted built_commands
 all_accepted = (run_accepted, (walk_accepted, (asm_accepted, (bench_accepted, tt))))
@@ -160,18 +191,18 @@ no_subcommand top rows required e =
     wanted x z (subst (λ (b : Bool). check_kinds x b z ≡ []) required e)
 
 accepted : (top : Shape) (stop : Option (Text × List Text)) (rows : List Row) → top.subcommand_required ≡ true → entered_fault (record { top = top; subs = built_commands }) stop ≡ []
-    → check_fault top rows (is_some (entered (record { top = top; subs = built_commands }) stop)) ≡ [] → IsSome (option_and_then command_line (entered (record { top = top; subs = built_commands }) stop))
+    → check_fault top rows (is_some (entered (record { top = top; subs = built_commands }) stop)) ≡ [] → IsDecided (entered (record { top = top; subs = built_commands }) stop)
 accepted top None rows required below checked = absurd (no_subcommand top rows required checked)
 accepted top (Some p) rows required below checked = go (find (λ s. answers_to p.0 (label_of s)) built_commands) refl below checked
   where
     go : (o : Option Shape) → find (λ s. answers_to p.0 (label_of s)) built_commands ≡ o → option_map_or (λ s. level_fault s [] nothing_held p.1 false []) o [] ≡ []
-        → check_fault top rows (is_some (option_map (λ s. rows_at s p.1) o)) ≡ [] → IsSome (option_and_then command_line (option_map (λ s. rows_at s p.1) o))
+        → check_fault top rows (is_some (option_map (λ s. rows_at s p.1) o)) ≡ [] → IsDecided (option_map (λ s. rows_at s p.1) o)
     go None is f c = absurd (no_subcommand top rows required c)
     go (Some s) is f c = found_is IsAccepted (λ s. answers_to p.0 (label_of s)) built_commands s all_accepted is p.1 f
 
 -- at each app that is the program's, built
 built_accepted : (a : App) (words : List Text) → a.subs ≡ built_commands → a.top.subcommand_required ≡ true → built_fault a nothing_held words ≡ []
-    → IsSome (option_and_then command_line (entered a (walk a.top.rules (names_of a) nothing_held words).stopped))
+    → IsDecided (entered a (walk a.top.rules (names_of a) nothing_held words).stopped)
 built_accepted a words only required e =
     let names = names_of a in
     let stop = (walk a.top.rules names nothing_held words).stopped in
@@ -181,7 +212,7 @@ built_accepted a words only required e =
     let three = or_else_none (settle_fault a.top.rules a.top.args_override_self end) _ two.1 in
     let four = or_else_none (defaults_fault (settled a.top.rules end).rows a.top.rules) _ three.1 in
     let same : a ≡ record { top = a.top; subs = built_commands } = ap (λ (ss : List Shape). record { top = a.top; subs = ss }) only in
-    subst (λ (b : App). IsSome (option_and_then command_line (entered b stop))) (sym same)
+    subst (λ (b : App). IsDecided (entered b stop)) (sym same)
     (accepted a.top stop (finished a.top.rules end) required (subst (λ (b : App). entered_fault b stop ≡ []) same two.0) (subst (λ (b : App). check_fault a.top (finished a.top.rules end) (is_some (entered b stop)) ≡ []) same four.1))
 
 program_subs : (built program_app).subs ≡ built_commands
@@ -192,30 +223,75 @@ program_required : (built program_app).top.subcommand_required ≡ true
 unfolding program_app run_app walk_app asm_app bench_app
 program_required = refl
 
-is_there : (words : List Text) → fault_of program_app words ≡ [] → IsSome (option_and_then command_line (subcommand_of program_app words))
+is_there : (words : List Text) → fault_of program_app words ≡ [] → IsDecided (subcommand_of program_app words)
 is_there words e = built_accepted (built program_app) (argument_words program_app words) program_subs program_required e
 
-none_there : (kinds : Kinds) (o : Option Line) → (kinds ≡ [] → IsSome o) → cond (is_empty kinds) o None ≡ None → kinds ≡ [] → ⊥
-none_there [] o there none e = let some = there refl in absurd cc
-none_there (k ∷ ks) o there none e = cc
+none_there : (kinds : Kinds) (o : Option (Text × List Row)) → (kinds ≡ [] → IsDecided o) → cond (is_empty kinds) (option_and_then command_line o) None ≡ None
+    → ¬ (kinds ≡ []) ⊎ IsUnknown (option_and_then engine_name_of o)
+none_there [] o there none = elim (there refl) [ inl some ↦ absurd cc | inr unknown ↦ inr unknown ]
+none_there (k ∷ ks) o there none = inl (λ e. cc)
 
--- the words have no line only where there is a fault
-pub refused : (words : List Text) → line words ≡ None → fault_of program_app words ≡ [] → ⊥
+-- the words have no line only where they are refused
+pub refused : (words : List Text) → line words ≡ None → IsRefused words
 unfolding line
-refused words none e = none_there (fault_of program_app words) (option_and_then command_line (subcommand_of program_app words)) (is_there words) none e
+refused words none = none_there (fault_of program_app words) (subcommand_of program_app words) (is_there words) none
 
-some_fault : (kinds : Kinds) (o : Option Line) → (kinds ≡ [] → ⊥) → cond (is_empty kinds) o None ≡ None
-some_fault [] o some = absurd (some refl)
-some_fault (k ∷ ks) o some =
+-- ---- an unknown engine
+
+unknown_engine : (o : Option Text) → IsUnknown o → option_and_then engine_named o ≡ None
+unknown_engine None unknown = absurd unknown
+unknown_engine (Some name) unknown = unknown
+
+run_without : (fuel : Option ℕ) (digest : Bool) (image script : Option Text) → run_with fuel digest None image script ≡ None
+run_without None d i s = refl
+run_without (Some n) d i s = refl
+
+no_run : (rows : List Row) → IsUnknown (first_of (codes "engine") rows) → run_line rows ≡ None
+unfolding run_line run_by
+no_run rows unknown =
+    let digest = has_flag (codes "digest") rows in
+    let image = first_of (codes "image") rows in
+    let script = first_of (codes "script") rows in
+    subst (λ (o : Option Engine). run_with (fuel_of rows) digest o image script ≡ None) (sym (unknown_engine (first_of (codes "engine") rows) unknown)) (run_without (fuel_of rows) digest image script)
+
+no_bench : (rows : List Row) → IsUnknown (first_of (codes "engine") rows) → bench_line rows ≡ None
+no_bench rows unknown = ap (λ (o : Option Engine). bench_with o (seed_of rows)) (unknown_engine (first_of (codes "engine") rows) unknown)
+
+-- `walk` and `asm` are not `bench`
+no_line : (r w a b : Bool) (name : Option Text) (one two three four : Option Line) → (w ≡ true → b ≡ false) → (a ≡ true → b ≡ false) → (IsUnknown name → one ≡ None) → (IsUnknown name → four ≡ None)
+    → IsUnknown (cond (r || b) name None) → cond r one (cond w two (cond a three (cond b four None))) ≡ None
+no_line true w a b name one two three four x y no_run no_bench unknown = no_run unknown
+no_line false w a false name one two three four x y no_run no_bench unknown = absurd unknown
+no_line false true a true name one two three four x y no_run no_bench unknown = let other = x refl in absurd cc
+no_line false false true true name one two three four x y no_run no_bench unknown = let other = y refl in absurd cc
+no_line false false false true name one two three four x y no_run no_bench unknown = no_bench unknown
+
+other_name : (name this that : Text) → bytes_eq this that ≡ false → bytes_eq name this ≡ true → bytes_eq name that ≡ false
+other_name name this that differ is = subst (λ (n : Text). bytes_eq n that ≡ false) (sym ((bytes_eq-Decides name this).0 is)) differ
+
+no_command : (o : Option (Text × List Row)) → IsUnknown (option_and_then engine_name_of o) → option_and_then command_line o ≡ None
+no_command None unknown = absurd unknown
+no_command (Some p) unknown =
+    no_line (bytes_eq p.0 (codes "run")) (bytes_eq p.0 (codes "walk")) (bytes_eq p.0 (codes "asm")) (bytes_eq p.0 (codes "bench")) (first_of (codes "engine") p.1) (run_line p.1) (walk_line p.1) (asm_line p.1) (bench_line p.1)
+    (other_name p.0 (codes "walk") (codes "bench") refl) (other_name p.0 (codes "asm") (codes "bench") refl) (no_run p.1) (no_bench p.1) unknown
+
+fault_refuses : (kinds : Kinds) (o : Option Line) → ¬ (kinds ≡ []) → cond (is_empty kinds) o None ≡ None
+fault_refuses [] o some = absurd (some refl)
+fault_refuses (k ∷ ks) o some =
     let full : is_empty (k ∷ ks) ≡ false = ne_eqb _ _ (λ z. omega arith) in
     ap (λ b. cond b o None) full
 
+name_refuses : (b : Bool) (o : Option Line) → o ≡ None → cond b o None ≡ None
+name_refuses true o none = none
+name_refuses false o none = refl
+
 -- and everywhere there
-pub fault_refuses : (words : List Text) → (fault_of program_app words ≡ [] → ⊥) → line words ≡ None
+pub none_at : (words : List Text) → IsRefused words → line words ≡ None
 unfolding line
-fault_refuses words some = some_fault (fault_of program_app words) (option_and_then command_line (subcommand_of program_app words)) some
+none_at words (inl fault) = fault_refuses (fault_of program_app words) (option_and_then command_line (subcommand_of program_app words)) fault
+none_at words (inr unknown) = name_refuses (is_empty (fault_of program_app words)) (option_and_then command_line (subcommand_of program_app words)) (no_command (subcommand_of program_app words) unknown)
 
 -- a command that is the line's is none exactly there
 pub none_where_refused : (words : List Text) (c : Option Command) → option_map line_of c ≡ line words → (IsNone c → IsRefused words) × (IsRefused words → IsNone c)
 none_where_refused words None e = (λ _. refused words (sym e), λ _. refl)
-none_where_refused words (Some c) e = (λ n. absurd cc, λ some. let none = fault_refuses words some in absurd cc)
+none_where_refused words (Some c) e = (λ n. absurd cc, λ some. let none = none_at words some in absurd cc)

@@ -8,7 +8,7 @@ use Rattle.clap.specs.ValueTests.{accepts}
 use Rattle.clap.specs.declared.builder.value_parser.ValueParser.TheVariants as vp
 use Rattle.clap.proofs.ValueTestLemmas.{accepts-Accepts}
 use Rattle.command_line.specs.declared.command.Command.{Command}
-use Rattle.command_line.specs.Line.{Engine, IsInRange, asm, asm_line, bench, bench_line, Line, command_line, demand, fuel_of, greatest_number, line_of, number_in, run_by, run_line, run_with, seed_of, walk_line}
+use Rattle.command_line.specs.Line.{Engine, IsInRange, asm, asm_line, bench_line, bench_with, Line, command_line, engine_in, fuel_of, greatest_number, line_of, number_in, run_by, run_line, run_with, seed_of, walk_line}
 
 pub number_bounds : (low high : ℕ) (t : List ℕ) (n : ℕ) → number_in low high t ≡ Some n → (low ≤ n) × (n ≤ high)
 unfolding number_in
@@ -41,9 +41,10 @@ run_in_range (Some n) d (Some e) None s h = tt
 run_in_range (Some n) d None i s h = tt
 run_in_range None d e i s h = tt
 
-bench_in_range : (seed : Option ℕ) → ((n : ℕ) → seed ≡ Some n → (0 ≤ n) × (n ≤ greatest_number)) → AllInRange (option_map (λ n. bench demand n) seed)
-bench_in_range None h = tt
-bench_in_range (Some n) h =
+bench_in_range : (engine : Option Engine) (seed : Option ℕ) → ((n : ℕ) → seed ≡ Some n → (0 ≤ n) × (n ≤ greatest_number)) → AllInRange (bench_with engine seed)
+bench_in_range None seed h = tt
+bench_in_range (Some e) None h = tt
+bench_in_range (Some e) (Some n) h =
     let b = h n refl in
     omega arith
 
@@ -64,7 +65,7 @@ unfolding walk_line
 line_of_walk rows = run_by_in_range _ _ rows
 
 line_of_bench : (rows : List Row) → AllInRange (bench_line rows)
-line_of_bench rows = bench_in_range (seed_of rows) (number_of_bounds 0 greatest_number (one_of (codes "seed") rows))
+line_of_bench rows = bench_in_range (engine_in rows) (seed_of rows) (number_of_bounds 0 greatest_number (one_of (codes "seed") rows))
 
 chosen : (b : Bool) (o p : Option Line) → AllInRange o → AllInRange p → AllInRange (cond b o p)
 chosen true o p h k = h

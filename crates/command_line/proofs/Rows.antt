@@ -2,7 +2,7 @@
 use Rattle.std.proofs.Common.{◌≡◌, refl, ℕ, Bool, true, false, List, [], ◌∷◌, Some, None, codes}
 use Rattle.clap.specs.Words.{Text}
 use Rattle.clap.proofs.OnLiterals.{clap_on_literals}
-use Rattle.command_line.specs.Line.{Engine, Line, asm, asm_app, bench, bench_app, demand, files_of, line, number_in, program_app, run, run_app, run_by, run_line, schedule, walk_app, walk_line}
+use Rattle.command_line.specs.Line.{Engine, Line, asm, asm_app, bench, bench_app, demand, files_of, line, number_in, program_app, run, run_app, run_by, rounds, run_line, schedule, walk_app, walk_line}
 
 -- a run, by its parts
 abbrev runs : ℕ → Bool → Engine → Text → Text → Line
@@ -75,6 +75,50 @@ digest_with_value = refl
 pub digest_given_again : line (run_words (codes "--digest" ∷ codes "--digest" ∷ codes "I" ∷ codes "S" ∷ [])) ≡ None
 unfolding clap_on_literals line program_app run_app walk_app asm_app bench_app run_line walk_line run_by number_in
 digest_given_again = refl
+
+pub engine_before_names : line (run_words (codes "--engine" ∷ codes "rounds" ∷ codes "I" ∷ codes "S" ∷ [])) ≡ Some (runs 1000000 false rounds (codes "I") (codes "S"))
+unfolding clap_on_literals line program_app run_app walk_app asm_app bench_app run_line walk_line run_by number_in
+engine_before_names = refl
+
+pub engine_behind_names : line (run_words (codes "I" ∷ codes "S" ∷ codes "--engine" ∷ codes "rounds" ∷ [])) ≡ Some (runs 1000000 false rounds (codes "I") (codes "S"))
+unfolding clap_on_literals line program_app run_app walk_app asm_app bench_app run_line walk_line run_by number_in
+engine_behind_names = refl
+
+pub engine_with_equals : line (run_words (codes "I" ∷ codes "--engine=rounds" ∷ codes "--limit" ∷ codes "2" ∷ codes "--digest" ∷ codes "S" ∷ [])) ≡ Some (runs 2 true rounds (codes "I") (codes "S"))
+unfolding clap_on_literals line program_app run_app walk_app asm_app bench_app run_line walk_line run_by number_in
+engine_with_equals = refl
+
+pub engine_of_no_word : line (run_words (codes "--engine" ∷ codes "demand" ∷ codes "I" ∷ codes "S" ∷ [])) ≡ Some (runs 1000000 false demand (codes "I") (codes "S"))
+unfolding clap_on_literals line program_app run_app walk_app asm_app bench_app run_line walk_line run_by number_in
+engine_of_no_word = refl
+
+pub unknown_engine : line (run_words (codes "--engine" ∷ codes "pool" ∷ codes "I" ∷ codes "S" ∷ [])) ≡ None
+unfolding clap_on_literals line program_app run_app walk_app asm_app bench_app run_line walk_line run_by number_in
+unknown_engine = refl
+
+pub engine_in_capitals : line (run_words (codes "--engine" ∷ codes "Rounds" ∷ codes "I" ∷ codes "S" ∷ [])) ≡ None
+unfolding clap_on_literals line program_app run_app walk_app asm_app bench_app run_line walk_line run_by number_in
+engine_in_capitals = refl
+
+pub engine_of_no_letter : line (run_words (codes "--engine=" ∷ codes "I" ∷ codes "S" ∷ [])) ≡ None
+unfolding clap_on_literals line program_app run_app walk_app asm_app bench_app run_line walk_line run_by number_in
+engine_of_no_letter = refl
+
+pub engine_without_value : line (run_words (codes "I" ∷ codes "S" ∷ codes "--engine" ∷ [])) ≡ None
+unfolding clap_on_literals line program_app run_app walk_app asm_app bench_app run_line walk_line run_by number_in
+engine_without_value = refl
+
+pub engine_given_again : line (run_words (codes "--engine" ∷ codes "rounds" ∷ codes "--engine" ∷ codes "rounds" ∷ codes "I" ∷ codes "S" ∷ [])) ≡ None
+unfolding clap_on_literals line program_app run_app walk_app asm_app bench_app run_line walk_line run_by number_in
+engine_given_again = refl
+
+pub engine_cut_short : line (run_words (codes "--eng" ∷ codes "rounds" ∷ codes "I" ∷ codes "S" ∷ [])) ≡ None
+unfolding clap_on_literals line program_app run_app walk_app asm_app bench_app run_line walk_line run_by number_in
+engine_cut_short = refl
+
+pub workers : line (run_words (codes "--engine" ∷ codes "rounds" ∷ codes "--workers" ∷ codes "2" ∷ codes "I" ∷ codes "S" ∷ [])) ≡ None
+unfolding clap_on_literals line program_app run_app walk_app asm_app bench_app run_line walk_line run_by number_in
+workers = refl
 
 pub program_alone : line (codes "det" ∷ []) ≡ None
 unfolding clap_on_literals line program_app run_app walk_app asm_app bench_app run_line walk_line run_by number_in
@@ -160,12 +204,27 @@ pub bench_with_fuel : line (bench_words (codes "--limit" ∷ codes "5" ∷ codes
 unfolding clap_on_literals line program_app run_app walk_app asm_app bench_app run_line walk_line run_by number_in
 bench_with_fuel = refl
 
+pub bench_on_rounds : line (bench_words (codes "--engine" ∷ codes "rounds" ∷ codes "1" ∷ [])) ≡ Some (bench rounds 1)
+unfolding clap_on_literals line program_app run_app walk_app asm_app bench_app run_line walk_line run_by number_in
+bench_on_rounds = refl
+
+pub bench_on_no_engine : line (bench_words (codes "1" ∷ codes "--engine=seats" ∷ [])) ≡ None
+unfolding clap_on_literals line program_app run_app walk_app asm_app bench_app run_line walk_line run_by number_in
+bench_on_no_engine = refl
+
+pub walk_on_rounds : line (walk_words (codes "--engine" ∷ codes "rounds" ∷ codes "I" ∷ codes "S" ∷ codes "T" ∷ [])) ≡ None
+unfolding clap_on_literals line program_app run_app walk_app asm_app bench_app run_line walk_line run_by number_in
+walk_on_rounds = refl
+
 pub two_seeds : line (bench_words (codes "1" ∷ codes "2" ∷ [])) ≡ None
 unfolding clap_on_literals line program_app run_app walk_app asm_app bench_app run_line walk_line run_by number_in
 two_seeds = refl
 
 pub run_files : files_of (runs 2 false demand (codes "I") (codes "S")) ≡ codes "I" ∷ codes "S" ∷ []
 run_files = refl
+
+pub run_files_of_rounds : files_of (runs 2 false rounds (codes "I") (codes "S")) ≡ codes "I" ∷ codes "S" ∷ []
+run_files_of_rounds = refl
 
 pub walk_files : files_of (runs 2 false (schedule (codes "T")) (codes "I") (codes "S")) ≡ codes "I" ∷ codes "S" ∷ codes "T" ∷ []
 walk_files = refl
@@ -175,3 +234,6 @@ asm_files = refl
 
 pub bench_files : files_of (bench demand 1) ≡ []
 bench_files = refl
+
+pub bench_files_of_rounds : files_of (bench rounds 1) ≡ []
+bench_files_of_rounds = refl

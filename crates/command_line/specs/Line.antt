@@ -1,9 +1,9 @@
 -- What the words of a command line ask for: the command that `clap` gives for them by its definition
--- for simple commands, or none where it refuses them.
+-- for simple commands, or none where it refuses them or a name is no engine's.
 -- Source: the crate `clap`, whose definition of a command line this cites.
 -- Our choice: the commands, their options and ranges.
-use Rattle.std.specs.Prelude.{◌≡◌, ◌≤◌, ◌<◌, ◌^◌, ℕ, Bool, true, false, List, [], ◌∷◌, Option, Some, None, codes, if◌then◌else◌}
-use Rattle.std.specs.Prelude.{option_and_then, option_map, unwrap_or}
+use Rattle.std.specs.Prelude.{◌≡◌, ◌≤◌, ◌<◌, ◌^◌, ℕ, Bool, true, false, List, [], ◌∷◌, Option, Some, None, codes, if◌then◌else◌, ◌⊎◌}
+use Rattle.std.specs.Prelude.{option_and_then, option_map, unwrap_or, ◌||◌}
 use Rattle.std.specs.Str.{bytes_eq}
 use Rattle.std.specs.Str.Parse.{digits_value, without_leading_plus}
 use Rattle.clap.specs.Words.{App, app_of, Row, Rule, Text, first_of, fault_of, new_app, new_rule, one_of, rule_of, subcommand_of, with_rule, with_subcommand}
@@ -19,7 +19,7 @@ use Rattle.command_line.specs.declared.command.Command.{Command}
 use Rattle.command_line.specs.declared.command.Command.TheVariants as command
 use Rattle.command_line.specs.declared.command.Run as command_run
 use Rattle.command_line.specs.declared.command.Engine as engine
-use Rattle.command_line.specs.declared.command.Engine.TheVariants.{Demand, Schedule}
+use Rattle.command_line.specs.declared.command.Engine.TheVariants.{Demand, Rounds, Schedule}
 
 -- ---- the commands
 
@@ -51,12 +51,16 @@ with_rules a (r ∷ rs) = with_rules (with_rule a r) rs
 abbrev pub fuel_rule : Rule
 fuel_rule = number (codes "limit") 1 greatest_number (codes "1000000")
 
+-- `--engine`, which to `clap` is any text
+abbrev pub engine_rule : Rule
+engine_rule = record (new_rule (codes "engine")) { long = Some (codes "engine"); defaults = codes "demand" ∷ [] }
+
 -- the number from which a large image is made
 abbrev pub seed_rule : Rule
 seed_rule = required_number (codes "seed") 0 greatest_number
 
 unfoldable pub run_app : App
-run_app = with_rules (new_app (codes "run")) (fuel_rule ∷ flag (codes "digest") ∷ required_rule (codes "image") ∷ required_rule (codes "script") ∷ [])
+run_app = with_rules (new_app (codes "run")) (engine_rule ∷ fuel_rule ∷ flag (codes "digest") ∷ required_rule (codes "image") ∷ required_rule (codes "script") ∷ [])
 
 unfoldable pub walk_app : App
 walk_app = with_rules (new_app (codes "walk")) (fuel_rule ∷ required_rule (codes "image") ∷ required_rule (codes "script") ∷ required_rule (codes "schedule") ∷ [])
@@ -65,7 +69,7 @@ unfoldable pub asm_app : App
 asm_app = with_rules (new_app (codes "asm")) (required_rule (codes "source") ∷ [])
 
 unfoldable pub bench_app : App
-bench_app = with_rules (new_app (codes "bench")) (seed_rule ∷ [])
+bench_app = with_rules (new_app (codes "bench")) (engine_rule ∷ seed_rule ∷ [])
 
 -- a command has to follow the program's name, and none of them is called `help`
 abbrev pub start : App
@@ -83,9 +87,11 @@ IsApp c a = (app_of c ≡ a) × ((out-Command c).has_globals ≡ false)
 
 -- ---- the line
 
--- in which order events happen: each space runs when its parent waits for it; or first those of a schedule, by its file name
+-- In which order events happen: each space runs when its parent waits for it; or all spaces that can go on run side by side, round by round; or
+-- first the events of a schedule happen, by its file name.
 pub data Engine : Type 0 where
   demand : Engine
+  rounds : Engine
   schedule : Text → Engine
 
 -- a run: its fuel, whether digests are asked for, its engine, and the file names of an image and a script
@@ -105,6 +111,7 @@ pub data Line : Type 0 where
 -- the names of the files, in the order of the words
 abbrev pub files_of_engine : Engine → List Text
 files_of_engine demand = []
+files_of_engine rounds = []
 files_of_engine (schedule name) = name ∷ []
 
 abbrev pub files_of : Line → List Text
@@ -136,6 +143,15 @@ fuel_of = number_of 1 greatest_number (codes "limit")
 abbrev pub seed_of : List Row → Option ℕ
 seed_of = number_of 0 greatest_number (codes "seed")
 
+-- the engine of a name
+abbrev pub engine_named : Text → Option Engine
+engine_named name = if bytes_eq name (codes "demand") then Some demand
+    else if bytes_eq name (codes "rounds") then Some rounds
+    else None
+
+abbrev pub engine_in : List Row → Option Engine
+engine_in rows = option_and_then engine_named (first_of (codes "engine") rows)
+
 -- the parts of a run, where all are there
 abbrev pub run_with : Option ℕ → Bool → Option Engine → Option Text → Option Text → Option Line
 run_with (Some fuel) digest (Some engine) (Some image) (Some script) = Some (run (record { fuel = fuel; digest = digest; engine = engine; image = image; script = script }))
@@ -146,7 +162,7 @@ unfoldable pub run_by : Bool → Option Engine → List Row → Option Line
 run_by digest engine rows = run_with (fuel_of rows) digest engine (first_of (codes "image") rows) (first_of (codes "script") rows)
 
 unfoldable pub run_line : List Row → Option Line
-run_line rows = run_by (has_flag (codes "digest") rows) (Some demand) rows
+run_line rows = run_by (has_flag (codes "digest") rows) (engine_in rows) rows
 
 unfoldable pub walk_line : List Row → Option Line
 walk_line rows = run_by false (option_map (λ name. schedule name) (first_of (codes "schedule") rows)) rows
@@ -154,8 +170,13 @@ walk_line rows = run_by false (option_map (λ name. schedule name) (first_of (co
 abbrev pub asm_line : List Row → Option Line
 asm_line rows = option_map asm (first_of (codes "source") rows)
 
+-- an engine and a seed, where both are there
+abbrev pub bench_with : Option Engine → Option ℕ → Option Line
+bench_with (Some engine) (Some seed) = Some (bench engine seed)
+bench_with _ _ = None
+
 abbrev pub bench_line : List Row → Option Line
-bench_line rows = option_map (λ seed. bench demand seed) (seed_of rows)
+bench_line rows = bench_with (engine_in rows) (seed_of rows)
 
 abbrev pub command_line : Text × List Row → Option Line
 command_line p = if bytes_eq p.0 (codes "run") then run_line p.1
@@ -169,13 +190,22 @@ unfoldable pub line : List Text → Option Line
 line words = if is_empty (fault_of program_app words)
     then option_and_then command_line (subcommand_of program_app words) else None
 
--- `clap` refuses the words: it has a kind of error for them
+-- the name that is given to `--engine`, which `run` and `bench` have
+abbrev pub engine_name_of : Text × List Row → Option Text
+engine_name_of p = if bytes_eq p.0 (codes "run") || bytes_eq p.0 (codes "bench") then first_of (codes "engine") p.1 else None
+
+abbrev pub IsUnknown : Option Text → Type 0
+IsUnknown None = ⊥
+IsUnknown (Some name) = engine_named name ≡ None
+
+-- the words are refused: `clap` has a kind of error for them, or the name that is given to `--engine`, which to `clap` is any text, is no engine's
 abbrev pub IsRefused : List Text → Type 0
-IsRefused words = ¬ (fault_of program_app words ≡ [])
+IsRefused words = ¬ (fault_of program_app words ≡ []) ⊎ IsUnknown (option_and_then engine_name_of (subcommand_of program_app words))
 
 -- the line that a command stands for
 abbrev pub engine_of : engine.Engine → Engine
 engine_of Demand = demand
+engine_of Rounds = rounds
 engine_of (Schedule name) = schedule name.now
 
 abbrev pub run_of : command_run.Run → Run

@@ -1,7 +1,7 @@
 //! The commands as `clap` reads them.
 
 ghost use Rattle.std.specs.Prelude.{IfOk};
-ghost use Rattle.command_line.specs.Line.{IsApp, IsRule, asm_app, bench_app, fuel_rule, program_app, run_app, seed_rule, walk_app};
+ghost use Rattle.command_line.specs.Line.{IsApp, IsRule, asm_app, bench_app, engine_rule, fuel_rule, program_app, run_app, seed_rule, walk_app};
 ghost use Rattle.command_line.specs.Line.{required_rule, flag as flag_rule, number as number_rule, required_number as required_number_rule};
 
 use clap::builder::ValueParser;
@@ -47,6 +47,15 @@ fn fuel_argument<'a>(alloc: Global) -> Arg<'a>
     number(alloc, "limit", 1, u64::from(GREATEST_FUEL), "1000000")
 }
 
+// Which names are engines' is decided where the line is read.
+fn engine_argument<'a>(alloc: Global) -> Arg<'a>
+    ensures { IsRule result engine_rule }
+{
+    Arg::new(alloc, "engine")
+        .long("engine")
+        .default_value("demand")
+}
+
 fn seed_argument<'a>(alloc: Global) -> Arg<'a>
     ensures { IsRule result seed_rule }
 {
@@ -56,11 +65,13 @@ fn seed_argument<'a>(alloc: Global) -> Arg<'a>
 fn run_command<'a>(alloc: Global) -> Result<Command<'a>, AllocError>
     ensures { IfOk result (λ c. IsApp c run_app) }
 {
+    let engine = engine_argument(alloc);
     let fuel = fuel_argument(alloc);
     let digest = flag(alloc, "digest");
     let image = required_argument(alloc, "image");
     let script = required_argument(alloc, "script");
     Command::new(alloc, "run")
+        .arg(engine)?
         .arg(fuel)?
         .arg(digest)?
         .arg(image)?
@@ -91,8 +102,9 @@ fn asm_command<'a>(alloc: Global) -> Result<Command<'a>, AllocError>
 fn bench_command<'a>(alloc: Global) -> Result<Command<'a>, AllocError>
     ensures { IfOk result (λ c. IsApp c bench_app) }
 {
+    let engine = engine_argument(alloc);
     let seed = seed_argument(alloc);
-    Command::new(alloc, "bench").arg(seed)
+    Command::new(alloc, "bench").arg(engine)?.arg(seed)
 }
 
 /// The program's command, one of whose subcommands has to be named.

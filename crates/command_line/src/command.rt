@@ -10,7 +10,7 @@ pub enum Command<'a> {
     },
     /// Makes a large image from a number, runs it, and sums up what became of it.
     Bench {
-        /// In which order events happen.
+        /// In which order events happen: `--engine`.
         engine: Engine<'a>,
         /// The number: from 0 to 4,294,967,295.
         seed: u32,
@@ -24,7 +24,7 @@ pub struct Run<'a> {
     pub fuel: u32,
     /// Whether the report has a digest of each space's memory: `--digest`.
     pub digest: bool,
-    /// In which order events happen.
+    /// In which order events happen: `--engine`, or the word `walk`.
     pub engine: Engine<'a>,
     /// The image's file name.
     pub image: &'a str,
@@ -35,8 +35,10 @@ pub struct Run<'a> {
 /// In which order the events of a tree happen, which does not change what comes of them.
 #[derive(Clone, Copy, Debug, PartialEq, Eq)]
 pub enum Engine<'a> {
-    /// Each space runs when its parent waits for it.
+    /// Each space runs when its parent waits for it: `--engine demand`, or no such option.
     Demand,
+    /// All spaces that can go on run side by side, round by round: `--engine rounds`.
+    Rounds,
     /// First the events of a schedule, by the schedule's file name, and then whatever is left to run: the word `walk`.
     Schedule(&'a str),
 }

@@ -1,7 +1,7 @@
 ghost use Rattle.std.specs.Prelude.{◌≡◌, ◌↔◌, IfOk, IsNone, codes, map, option_map, option_and_then, IfSome};
 ghost use Rattle.std.specs.String.{string_bytes};
 ghost use Rattle.clap.specs.Words.{first_of, found_of, rows_of, subcommand_rows_of};
-ghost use Rattle.command_line.specs.Line.{IsInRange, IsRefused, asm_line, bench_line, command_line, engine_of, fuel_of, has_flag, line, line_of, number_of, run_by, run_line, run_with, schedule, seed_of, walk_line};
+ghost use Rattle.command_line.specs.Line.{IsInRange, IsRefused, asm_line, bench_line, bench_with, command_line, engine_in, engine_named, engine_of, fuel_of, has_flag, line, line_of, number_of, run_by, run_line, run_with, schedule, seed_of, walk_line};
 
 use crate::apps::{GREATEST_FUEL, GREATEST_SEED, program_command};
 use crate::command::{Command, Engine, Run};
@@ -49,6 +49,27 @@ fn seed_from(matches: &ArgMatches<'_>) -> Option<u32>
     number_from(matches, "seed", 0, GREATEST_SEED)
 }
 
+// The engine of a name.
+fn engine_named<'a>(name: &str) -> Option<Engine<'a>>
+    ensures { option_map engine_of result ≡ engine_named name.now }
+{
+    if name == "demand" {
+        Some(Engine::Demand)
+    } else if name == "rounds" {
+        Some(Engine::Rounds)
+    } else {
+        None
+    }
+}
+
+// The engine that is named, or the one that stands for no name.
+fn engine_from<'a>(matches: &ArgMatches<'a>) -> Option<Engine<'a>>
+    ensures { option_map engine_of result ≡ engine_in (rows_of (found_of matches.now)) }
+{
+    let name = text_from(matches, "engine")?;
+    engine_named(name)
+}
+
 // The parts of a run, where all are there.
 fn run_with<'a>(
     fuel: Option<u32>,
@@ -87,7 +108,8 @@ fn run_from<'a>(matches: &ArgMatches<'a>) -> Option<Command<'a>>
     ensures { option_map line_of result ≡ run_line (rows_of (found_of matches.now)) }
 {
     let digest = flag_from(matches, "digest");
-    run_by(matches, digest, Some(Engine::Demand))
+    let engine = engine_from(matches);
+    run_by(matches, digest, engine)
 }
 
 fn schedule_from<'a>(matches: &ArgMatches<'a>) -> Option<Engine<'a>>
@@ -111,14 +133,22 @@ fn asm_from<'a>(matches: &ArgMatches<'a>) -> Option<Command<'a>>
     Some(Command::Asm { source })
 }
 
+// An engine and a seed, where both are there.
+fn bench_with<'a>(engine: Option<Engine<'a>>, seed: Option<u32>) -> Option<Command<'a>>
+    ensures { option_map line_of result ≡ bench_with (option_map engine_of engine.entry) seed }
+{
+    Some(Command::Bench {
+        engine: engine?,
+        seed: seed?,
+    })
+}
+
 fn bench_from<'a>(matches: &ArgMatches<'a>) -> Option<Command<'a>>
     ensures { option_map line_of result ≡ bench_line (rows_of (found_of matches.now)) }
 {
-    let seed = seed_from(matches)?;
-    Some(Command::Bench {
-        engine: Engine::Demand,
-        seed,
-    })
+    let engine = engine_from(matches);
+    let seed = seed_from(matches);
+    bench_with(engine, seed)
 }
 
 fn command_from<'a>(matches: &ArgMatches<'a>) -> Option<Command<'a>>
@@ -139,8 +169,8 @@ fn command_from<'a>(matches: &ArgMatches<'a>) -> Option<Command<'a>>
 }
 
 /// Reads the words of a command line, of which the first is the program's name. `None` comes exactly
-/// where `clap` refuses the words for another cause than memory; calls for help and for the version
-/// are among these.
+/// where `clap` refuses the words for another cause than memory, or the name of an engine is none; calls for help and for the
+/// version are among these.
 pub fn read_line<'a>(alloc: Global, words: &'a [String]) -> Result<Option<Command<'a>>, AllocError>
     ensures line { IfOk result (λ c. option_map line_of c ≡ line (map string_bytes words.entry.now)) }
     ensures refused { IfOk result (λ c. IsNone c ↔ IsRefused (map string_bytes words.entry.now)) }

@@ -11,7 +11,7 @@ use Rattle.image_model.specs.Image.{Image}
 use Rattle.device_model.specs.Devices.{Devices}
 use Rattle.space_model.specs.Space.{Space, top_of}
 use Rattle.space_model.specs.Stop.{has_returned}
-use Rattle.command_line.specs.Line.{Engine, Run}
+use Rattle.command_line.specs.Line.{Engine}
 use Rattle.det_cli.specs.Commands.{engine_steps, expectation_of_root, expectation_of_run, run_shows}
 use Rattle.det_cli.specs.Stages.{IsAsked, LoadFault, LoadsFile, GivesRefusal, GivesExpectation, Reads, ReadsFile}
 
@@ -220,6 +220,6 @@ pub by_engine : {V : Type 0} (a b : Engine) (shows : V → Expectation) (whole :
 by_engine a b shows whole i r same h = subst (λ (x : Engine). Reads shows (engine_steps x) whole i r) (sym same) h
 
 -- what files make that are not refused
-pub run_made : (r : Run) (p : Result Image End) (q : Result Devices End) (i : Image) (d : Devices) → p ≡ Ok i → q ≡ Ok d → expectation_of_run r p q ≡ Some (run_shows r i d)
-run_made r p q i d image devices =
-    ap (λ (x : Result Image End). expectation_of_run r x q) image ∙ ap (λ (y : Result Devices End). expectation_of_run r (Ok i) y) devices
+pub run_made : (fuel : ℕ) (digest : Bool) (p : Result Image End) (q : Result Devices End) (i : Image) (d : Devices) → p ≡ Ok i → q ≡ Ok d → expectation_of_run fuel digest p q ≡ Some (run_shows fuel digest i d)
+run_made fuel digest p q i d image devices =
+    ap (λ (x : Result Image End). expectation_of_run fuel digest x q) image ∙ ap (λ (y : Result Devices End). expectation_of_run fuel digest (Ok i) y) devices

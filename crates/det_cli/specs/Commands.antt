@@ -1,7 +1,7 @@
 -- What the files of a command make: a settled root that is shown or summed up, or the image of a source.
 -- Our choice: the commands, the room of their files, and what they write.
 use Rattle.std.specs.Prelude.{ℕ, Bool, List, [], ◌∷◌, map, Option, Some, None, Result, Ok, Err, cond}
-use Rattle.command_line.specs.Line.{Engine, Line, Run, run, asm, bench, files_of_engine}
+use Rattle.command_line.specs.Line.{Engine, Line, run, asm, bench, files_of_engine}
 use Rattle.image_model.specs.Image.{Image, image_bytes}
 use Rattle.image_model.specs.Reading.{image_of}
 use Rattle.source_model.specs.Reading.{source_of}
@@ -74,13 +74,14 @@ expectation_of_root digest s = record { out = console_of s; err = report digest 
 abbrev pub expectation_of_bytes : List ℕ → Expectation
 expectation_of_bytes bytes = record { out = bytes; err = []; end = Ret }
 
--- what a run of an image with these devices shows, which no engine changes: every schedule leads to the same tree, once all that is left to run has run
-abbrev pub run_shows : Run → Image → Devices → Expectation
-run_shows r image devices = expectation_of_root r.digest (settled_root image devices r.fuel)
+-- What a run of an image with these devices shows, where each space has so much fuel, with digests or without. The engine is not asked: in whatever order
+-- events happen, a tree ends as the same tree.
+abbrev pub run_shows : ℕ → Bool → Image → Devices → Expectation
+run_shows fuel digest image devices = expectation_of_root digest (settled_root image devices fuel)
 
-abbrev pub expectation_of_run : Run → Result Image End → Result Devices End → Option Expectation
-expectation_of_run r (Ok image) (Ok devices) = Some (run_shows r image devices)
-expectation_of_run r image devices = None
+abbrev pub expectation_of_run : ℕ → Bool → Result Image End → Result Devices End → Option Expectation
+expectation_of_run fuel digest (Ok image) (Ok devices) = Some (run_shows fuel digest image devices)
+expectation_of_run fuel digest image devices = None
 
 abbrev pub expectation_of_source : Result Image End → Option Expectation
 expectation_of_source (Ok image) = Some (expectation_of_bytes (image_bytes image))
@@ -90,9 +91,9 @@ expectation_of_source (Err end) = None
 abbrev pub expectation_of_bench : ℕ → Expectation
 expectation_of_bench seed = expectation_of_bytes (summary (settled_root (generated seed) (devices_from []) BENCH_FUEL))
 
-abbrev pub run_whole : Run → List (List ℕ) → Option Expectation
-run_whole r (image ∷ script ∷ rest) = expectation_of_run r (image_of_file image) (devices_of_file script)
-run_whole r files = None
+abbrev pub run_whole : ℕ → Bool → List (List ℕ) → Option Expectation
+run_whole fuel digest (image ∷ script ∷ rest) = expectation_of_run fuel digest (image_of_file image) (devices_of_file script)
+run_whole fuel digest files = None
 
 abbrev pub asm_whole : List (List ℕ) → Option Expectation
 asm_whole [] = None
@@ -108,9 +109,9 @@ steps_of (run r) = image_step r.image ∷ script_step r.script ∷ engine_steps 
 steps_of (asm source) = source_step source ∷ []
 steps_of (bench engine seed) = engine_steps engine
 
--- what all files of a command make, where none is refused
+-- what all files of a command make, where none is refused; of an engine only its files count, and only in that they are read
 abbrev pub whole_of : Line → List (List ℕ) → Option Expectation
-whole_of (run r) files = run_whole r files
+whole_of (run r) files = run_whole r.fuel r.digest files
 whole_of (asm source) files = asm_whole files
 whole_of (bench engine seed) files = Some (expectation_of_bench seed)
 

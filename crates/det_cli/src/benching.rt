@@ -21,23 +21,35 @@ use det_report::summary;
 use dev_script::Devices;
 use rv_asm::generated;
 use std::alloc::{AllocError, Global};
+use std::thread::Threads;
 
 // The summary of a generated image that has run on an empty script.
-fn summary_of(alloc: Global, plan: &Plan, seed: u32) -> Result<Vec<u8>, AllocError>
+fn summary_of(
+    rt: &(impl Threads + Sync),
+    alloc: Global,
+    plan: &Plan,
+    seed: u32,
+) -> Result<Vec<u8>, AllocError>
     ensures { IfOk result (λ v. v.items ≡ summary (settled_root (generated seed) (devices_from []) BENCH_FUEL)) }
 {
     let image = generated(alloc, seed)?;
-    let root = settled_root(alloc, &image, Devices::new(alloc), plan, BENCH_FUEL)?;
+    let root = settled_root(rt, alloc, &image, Devices::new(alloc), plan, BENCH_FUEL)?;
     summary(alloc, &root)
 }
 
 // Makes an image from a number, runs it by a plan, and writes its summary.
-fn sum_up<O: Sink>(alloc: Global, plan: &Plan, seed: u32, out: &mut O) -> End
+fn sum_up<R: Threads + Sync, O: Sink>(
+    rt: &R,
+    alloc: Global,
+    plan: &Plan,
+    seed: u32,
+    out: &mut O,
+) -> End
     ensures writes { (err : Output) → IsUntouched err
         → Writes (expectation_of_bench seed) (output_of O.taken O.faults out.old out.new) err result }
     ensures out_later { O.faults out.old ≤ O.faults out.new }
 {
-    let Ok(text) = summary_of(alloc, plan, seed) else {
+    let Ok(text) = summary_of(rt, alloc, plan, seed) else {
         return End::NoMemory;
     };
     match write_all(out, &text) {
@@ -47,7 +59,8 @@ fn sum_up<O: Sink>(alloc: Global, plan: &Plan, seed: u32, out: &mut O) -> End
 }
 
 /// Makes an image from a number, runs it by an engine, and writes its summary.
-pub(crate) fn bench<L: Loader, O: Sink>(
+pub(crate) fn bench<R: Threads + Sync, L: Loader, O: Sink>(
+    rt: &R,
     alloc: Global,
     engine: Engine<'_>,
     seed: u32,
@@ -61,7 +74,7 @@ pub(crate) fn bench<L: Loader, O: Sink>(
     ensures out_later { O.faults out.old ≤ O.faults out.new }
 {
     match read_plan(alloc, files, engine) {
-        Ok(plan) => sum_up(alloc, &plan, seed, out),
+        Ok(plan) => sum_up(rt, alloc, &plan, seed, out),
         Err(end) => end,
     }
 }

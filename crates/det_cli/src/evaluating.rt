@@ -9,19 +9,24 @@ ghost use Rattle.det_cli.specs.Status.{IsDone};
 ghost use Rattle.det_cli.specs.Stages.{Reads};
 
 use crate::end::End;
+use crate::limits::QUANTUM;
 use crate::reading::load_as;
 use command_line::Engine;
 use demand_eval::settle;
 use det_core::walk;
 use det_host::Loader;
+use round_eval::rounds;
 use space_tree::{Path, Space};
 use std::alloc::{AllocError, Global};
+use std::thread::Threads;
 
 /// An engine whose files were read: in which order the events of a tree happen.
 #[derive(Drop)]
 pub(crate) enum Plan {
     /// Each space runs when its parent waits for it.
     Demand,
+    /// All spaces that can go on run side by side, round by round.
+    Rounds,
     /// First the events at these paths, and then whatever is left to run.
     Schedule(Vec<Path>),
 }
@@ -39,6 +44,7 @@ pub(crate) fn read_plan<L: Loader>(
 {
     match engine {
         Engine::Demand => Ok(Plan::Demand),
+        Engine::Rounds => Ok(Plan::Rounds),
         Engine::Schedule(name) => {
             let paths = load_as::<L, Vec<Path>>(alloc, files, name)?;
             Ok(Plan::Schedule(paths))
@@ -56,14 +62,21 @@ fn walk_and_settle(alloc: Global, paths: &[Path], root: Space) -> Result<Space, 
     settle(alloc, walked)
 }
 
-/// What a root settles to, in the order of a plan, which does not change it. The one error is want of memory.
-pub(crate) fn evaluate(alloc: Global, plan: &Plan, root: Space) -> Result<Space, AllocError>
+/// What a root settles to, in the order of a plan, which does not change it: by rounds on all processors, else on this thread. The one error is
+/// want of memory.
+pub(crate) fn evaluate(
+    rt: &(impl Threads + Sync),
+    alloc: Global,
+    plan: &Plan,
+    root: Space,
+) -> Result<Space, AllocError>
     requires { IsSound root }
     ensures meaning { IfOk result (λ s. s ≡ settle_tree root) }
     ensures settled { IfOk result (λ s. is_settled s ≡ true) }
 {
     match plan {
         Plan::Demand => settle(alloc, root),
+        Plan::Rounds => rounds(rt, alloc, root, QUANTUM),
         Plan::Schedule(paths) => walk_and_settle(alloc, paths, root),
     }
 }

@@ -11,9 +11,11 @@ use crate::running::run_image;
 use command_line::{Command, read_line};
 use det_host::{Gate, Loader, Sink};
 use std::alloc::Global;
+use std::thread::Threads;
 
 // Does what a command asks for.
-fn carry_out<L: Loader, O: Sink, E: Sink>(
+fn carry_out<R: Threads + Sync, L: Loader, O: Sink, E: Sink>(
+    rt: &R,
     alloc: Global,
     command: Command<'_>,
     files: &mut L,
@@ -30,19 +32,22 @@ fn carry_out<L: Loader, O: Sink, E: Sink>(
     ensures err_later { E.faults err.old ≤ E.faults err.new }
 {
     match command {
-        Command::Run(run) => run_image(alloc, &run, files, out, err),
+        Command::Run(run) => run_image(rt, alloc, &run, files, out, err),
         Command::Asm { source } => assemble_source(alloc, source, files, out, err),
-        Command::Bench { engine, seed } => bench(alloc, engine, seed, files, out),
+        Command::Bench { engine, seed } => bench(rt, alloc, engine, seed, files, out),
     }
 }
 
 /// Does all that the program does but for the fault line: reads the words, loads the files that they name, and
-/// runs an image, by a schedule or without one, and writes its console to `out` and then the report to `err`; or writes the image of a
-/// source, or the summary of an image that is made from a number, to `out`.
+/// runs an image, on demand, in rounds or by a schedule, and writes its console to `out` and then the report to `err`; or writes the image of
+/// a source, or the summary of an image that is made from a number, to `out`.
+///
+/// The runtime gives memory, and for rounds the threads of the host. It waits for no other thread but those that it has started and that have all
+/// they need to end: so it returns, whatever the words.
 ///
 /// Where the loader does not tell a file, there are bytes of which all of this is true. Of sinks that do not tell what they took the
 /// counts are promised all the same.
-pub fn det_main<R: AllocGlobal, L: Loader, O: Sink, E: Sink, G: Gate>(
+pub fn det_main<R: AllocGlobal + Threads + Sync, L: Loader, O: Sink, E: Sink, G: Gate>(
     rt: &R,
     words: &[String],
     files: &mut L,
@@ -63,7 +68,7 @@ pub fn det_main<R: AllocGlobal, L: Loader, O: Sink, E: Sink, G: Gate>(
         return End::NoMemory;
     };
     match named {
-        Some(command) => carry_out(alloc, command, files, out, err),
+        Some(command) => carry_out(rt, alloc, command, files, out, err),
         None => End::Usage,
     }
 }

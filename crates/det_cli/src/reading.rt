@@ -53,7 +53,7 @@ pub(crate) fn read_run<L: Loader>(
     files: &mut L,
     run: &Run<'_>,
 ) -> Result<(Image, Devices, Plan), End>
-    ensures reads { Reads (λ x. run_shows (run_of run.now) x.0 x.1)
+    ensures reads { Reads (λ x. run_shows run.now.fuel run.now.digest x.0 x.1)
         (steps_of (line.run (run_of run.now))) (whole_of (line.run (run_of run.now)))
         (input_of L.told L.asked L.faults files.old files.new) result }
     ensures later { L.faults files.old ≤ L.faults files.new }

@@ -19,9 +19,11 @@ use dev_script::Devices;
 use image_file::Image;
 use space_tree::{Cause, Space, Status};
 use std::alloc::{AllocError, Global};
+use std::thread::Threads;
 
 /// The settled root of an image with these devices, where each space has so much fuel, by a plan.
 pub(crate) fn settled_root(
+    rt: &(impl Threads + Sync),
     alloc: Global,
     image: &Image,
     devices: Devices,
@@ -33,7 +35,7 @@ pub(crate) fn settled_root(
     ensures settled { IfOk result (λ s. is_settled s ≡ true) }
 {
     let root = boot(alloc, image, devices, fuel)?;
-    evaluate(alloc, plan, root)
+    evaluate(rt, alloc, plan, root)
 }
 
 fn end_of(space: &Space) -> End
@@ -87,7 +89,8 @@ fn write_root<O: Sink, E: Sink>(
 }
 
 // Boots and settles the image of a run by a plan, and writes what its root shows.
-fn settle_and_write<O: Sink, E: Sink>(
+fn settle_and_write<R: Threads + Sync, O: Sink, E: Sink>(
+    rt: &R,
     alloc: Global,
     run: &Run<'_>,
     image: &Image,
@@ -97,20 +100,21 @@ fn settle_and_write<O: Sink, E: Sink>(
     err: &mut E,
 ) -> End
     requires { 1 ≤ run.now.fuel }
-    ensures writes { Writes (run_shows (run_of run.now) image.now devices)
+    ensures writes { Writes (run_shows run.now.fuel run.now.digest image.now devices)
         (output_of O.taken O.faults out.old out.new)
         (output_of E.taken E.faults err.old err.new) result }
     ensures out_later { O.faults out.old ≤ O.faults out.new }
     ensures err_later { E.faults err.old ≤ E.faults err.new }
 {
-    let Ok(root) = settled_root(alloc, image, devices, plan, run.fuel) else {
+    let Ok(root) = settled_root(rt, alloc, image, devices, plan, run.fuel) else {
         return End::NoMemory;
     };
     write_root(alloc, &root, run.digest, out, err)
 }
 
 /// Runs an image on a script by an engine, where each space has so much fuel, and shows it with digests or without.
-pub(crate) fn run_image<L: Loader, O: Sink, E: Sink>(
+pub(crate) fn run_image<R: Threads + Sync, L: Loader, O: Sink, E: Sink>(
+    rt: &R,
     alloc: Global,
     run: &Run<'_>,
     files: &mut L,
@@ -128,7 +132,7 @@ pub(crate) fn run_image<L: Loader, O: Sink, E: Sink>(
 {
     match read_run(alloc, files, run) {
         Ok((image, devices, plan)) => {
-            settle_and_write(alloc, run, &image, devices, &plan, out, err)
+            settle_and_write(rt, alloc, run, &image, devices, &plan, out, err)
         }
         Err(end) => end,
     }

@@ -3,6 +3,7 @@ use det_host::{LoadError, Loader, MemLoader, MemSink, OpenGate};
 use std::alloc::{AllocError, Global};
 use std::process::Abort;
 use std::test::*;
+use std::thread::Threads;
 
 /// The image of `addi a7, zero, 3`, `addi a0, zero, 7`, `ecall`, of 35 bytes.
 pub(crate) const RETURN_SEVEN: [u8; 35] = [
@@ -102,7 +103,10 @@ fn assert_row(rt: &impl Abort, row: &Row<'_>, exit: &Exit, out: &[u8], err: &[u8
 }
 
 // Calls the program, asserts what the row says, and gives the loader back.
-fn called<R: AllocGlobal + Abort>(rt: &R, row: &Row<'_>) -> Result<MemLoader, AllocError> {
+fn called<R: AllocGlobal + Abort + Threads + Sync>(
+    rt: &R,
+    row: &Row<'_>,
+) -> Result<MemLoader, AllocError> {
     let alloc = rt.alloc();
     let words = words_of(alloc, row.words)?;
     let mut files = files_of(alloc, row)?;
@@ -114,7 +118,7 @@ fn called<R: AllocGlobal + Abort>(rt: &R, row: &Row<'_>) -> Result<MemLoader, Al
 }
 
 /// Calls the program, and asserts what the row says.
-pub(crate) fn check<R: AllocGlobal + Abort>(rt: &R, row: &Row<'_>) {
+pub(crate) fn check<R: AllocGlobal + Abort + Threads + Sync>(rt: &R, row: &Row<'_>) {
     match called(rt, row) {
         Ok(_) => {}
         Err(_) => panic!(rt; "no memory"),
@@ -123,7 +127,11 @@ pub(crate) fn check<R: AllocGlobal + Abort>(rt: &R, row: &Row<'_>) {
 
 /// The same, where the load of number `next` would fail. The first load after the call fails, so the call has asked for just the files
 /// before it.
-pub(crate) fn check_loads<R: AllocGlobal + Abort>(rt: &R, row: &Row<'_>, next: u64) {
+pub(crate) fn check_loads<R: AllocGlobal + Abort + Threads + Sync>(
+    rt: &R,
+    row: &Row<'_>,
+    next: u64,
+) {
     match called(
         rt,
         &Row {

@@ -7,4 +7,6 @@ use Rattle.command_line.proofs.apps.bench_command.Goals as goal
 
 pub returns : goal.returns
 unfolding bench_app
-returns c = IfOk-weaker c.arg.result _ _ (λ r adds. arg_added _ r (new_app (codes "bench")) _ _ adds (c.new.ensures.app, c.new.ensures.local) c.seed_argument-seed.ensures) c.arg.ensures
+returns c =
+    let one = arg_added _ _ (new_app (codes "bench")) _ _ c.in_ok-arg.ensures (c.new.ensures.app, c.new.ensures.local) c.engine_argument-engine.ensures in
+    IfOk-weaker c.arg-2.result _ _ (λ r adds. arg_added _ r _ _ _ adds one c.seed_argument-seed.ensures) c.arg-2.ensures

@@ -8,7 +8,8 @@ use Rattle.command_line.proofs.apps.run_command.Goals as goal
 pub returns : goal.returns
 unfolding run_app
 returns c =
-    let one = arg_added _ _ (new_app (codes "run")) _ _ c.in_ok-arg.ensures (c.new.ensures.app, c.new.ensures.local) c.fuel_argument-fuel.ensures in
-    let two = arg_added _ _ _ _ _ c.in_ok-arg-2.ensures one c.flag-digest.ensures in
-    let three = arg_added _ _ _ _ _ c.in_ok-arg-3.ensures two c.required_argument-image.ensures in
-    IfOk-weaker c.arg-4.result _ _ (λ r adds. arg_added _ r _ _ _ adds three c.required_argument-script.ensures) c.arg-4.ensures
+    let one = arg_added _ _ (new_app (codes "run")) _ _ c.in_ok-arg.ensures (c.new.ensures.app, c.new.ensures.local) c.engine_argument-engine.ensures in
+    let two = arg_added _ _ _ _ _ c.in_ok-arg-2.ensures one c.fuel_argument-fuel.ensures in
+    let three = arg_added _ _ _ _ _ c.in_ok-arg-3.ensures two c.flag-digest.ensures in
+    let four = arg_added _ _ _ _ _ c.in_ok-arg-4.ensures three c.required_argument-image.ensures in
+    IfOk-weaker c.arg-5.result _ _ (λ r adds. arg_added _ r _ _ _ adds four c.required_argument-script.ensures) c.arg-5.ensures

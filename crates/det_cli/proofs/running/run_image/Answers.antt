@@ -6,9 +6,9 @@ use Rattle.det_cli.proofs.running.run_image.Goals as goal
 
 pub returns-in-Ok-clause-course : goal.returns-in-Ok-clause-course
 returns-in-Ok-clause-course g c =
-    written_course (λ x. run_shows (run_of c.args.run.now) x.0 x.1) (run (run_of c.args.run.now)) _ _ _ (c.in-Ok.image, c.in-Ok.devices, c.in-Ok.plan) _
+    written_course (λ x. run_shows c.args.run.now.fuel c.args.run.now.digest x.0 x.1) (run (run_of c.args.run.now)) _ _ _ (c.in-Ok.image, c.in-Ok.devices, c.in-Ok.plan) _
     c.in-Ok.ensures.reads c.settle_and_write.ensures.writes
 
 pub returns-in-Err-clause-course : goal.returns-in-Err-clause-course
 returns-in-Err-clause-course g c =
-    stopped_course (λ x. run_shows (run_of c.args.run.now) x.0 x.1) (run (run_of c.args.run.now)) _ _ _ _ (refl, refl) (refl, refl) c.in-Err.ensures.reads
+    stopped_course (λ x. run_shows c.args.run.now.fuel c.args.run.now.digest x.0 x.1) (run (run_of c.args.run.now)) _ _ _ _ (refl, refl) (refl, refl) c.in-Err.ensures.reads
