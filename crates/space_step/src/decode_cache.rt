@@ -1,4 +1,4 @@
-ghost use Rattle.std.specs.Prelude.{◌≡◌, ℕ, ◌+◌, ◌-◌, ◌*◌, ◌/◌, ◌%◌, ◌^◌, ◌<◌, ◌≤◌, true, false, IsTrue};
+ghost use Rattle.std.specs.Prelude.{◌≡◌, ℕ, ◌+◌, ◌-◌, ◌*◌, ◌/◌, ◌%◌, ◌^◌, ◌<◌, ◌≤◌, true, false, IfOk, IsTrue, replicate};
 ghost use Rattle.instruction_model.specs.Form.{HasFields};
 ghost use Rattle.instruction_model.specs.Outcome.{View, view_of};
 ghost use Rattle.rv_exec.specs.Flat.{meaning};
@@ -28,13 +28,17 @@ pub(crate) struct Entry {
 }
 
 impl Entry {
-    /// An entry that keeps nothing.
+    /// An entry that keeps nothing. All its bytes are 0, so that a table of such entries is memory that is cleared.
+    #[inline(always)]
     pub(crate) fn empty() -> Entry
         ensures { result.key ≡ 0 }
     {
         Entry {
             key: EMPTY,
-            instruction: FlatInstruction::Fence,
+            instruction: FlatInstruction::Lui {
+                rd: 0,
+                immediate: 0,
+            },
         }
     }
 }
@@ -55,16 +59,30 @@ fn place_of(at: u32) -> usize
 }
 
 impl Table {
-    // A table that keeps nothing.
+    // A table that keeps nothing, made where it stands. Its first generation begins behind that: a table all of whose bytes are 0 takes no place on
+    // the stack on its way there.
     #[inline(never)]
-    fn empty() -> Table
-        ensures bounded { IsBounded result.first result.entries }
-        ensures nothing { (v : View) → Agrees v result }
+    fn empty(alloc: Global) -> Result<Box<Table, Global>, AllocError>
+        ensures bounded { IfOk result (λ t. IsBounded t.value.first t.value.entries) }
+        ensures nothing { IfOk result (λ t. (v : View) → Agrees v t.value) }
     {
-        Table {
-            first: KEYS,
-            entries: [Entry::empty(); ENTRIES],
-        }
+        let mut table = Box::new(
+            alloc,
+            Table {
+                first: 0,
+                entries: [Entry::empty(); ENTRIES],
+            },
+        )?;
+        table.begin();
+        Ok(table)
+    }
+
+    // Begins the first generation, where all entries are empty.
+    #[inline(always)]
+    fn begin(&mut self)
+        ensures { (e : Entry) → e.key ≡ 0 → self.old.entries ≡ replicate ENTRIES e → (v : View) → Agrees v self.new }
+    {
+        self.first = KEYS;
     }
 
     // The key of an address in this generation.
@@ -141,7 +159,8 @@ impl Table {
     fn clear(&mut self)
         ensures { (v : View) → Agrees v self.new }
     {
-        *self = Table::empty();
+        self.entries = [Entry::empty(); ENTRIES];
+        self.begin();
     }
 
     /// Begins a new generation, in which nothing is kept yet.
@@ -201,7 +220,7 @@ impl Model for DecodeCache {
 impl DecodeCache {
     /// A cache that keeps nothing, of some 256 KB. Its one error is want of memory.
     pub fn new(alloc: Global) -> Result<DecodeCache, AllocError> {
-        let table = Box::new(alloc, Table::empty())?;
+        let table = Table::empty(alloc)?;
         Ok(DecodeCache { table })
     }
 }

@@ -7,7 +7,7 @@ ghost use Rattle.rv_exec.specs.Flat.{meaning};
 ghost use Rattle.space_step.specs.Source.{IsKnown, HasNone, StandsAt, TrapsAt};
 
 use rv_decode::{Instr, decode};
-use rv_exec::{FlatInstruction, flat_of};
+use rv_exec::FlatInstruction;
 use space_mem::Mem;
 
 /// A trap: its number and its value (RISC-V Privileged ISA, "Machine Cause").
