@@ -1,5 +1,5 @@
 -- The parts of Put and Get in the order in which the code does them.
-use Rattle.std.proofs.Common.{◌≡◌, ℕ, Bool, true, false, ◌&&◌, ◌||◌, List, [], ◌∷◌, Option, refl, ◌∙◌, ap}
+use Rattle.std.proofs.Common.{◌≡◌, ℕ, Bool, true, false, ◌&&◌, ◌||◌, List, [], ◌∷◌, Option, refl, sym, ◌∙◌, ap}
 use Rattle.instruction_model.specs.Outcome.{Registers}
 use Rattle.call_model.specs.declared.Transfer.{Transfer}
 use Rattle.call_model.specs.Options.{has, regs, copy, zeroing, merging, perm, start, agreeing, permission, has_two_changes}
@@ -64,3 +64,14 @@ pub same_conflict : (x : Transfer) (c t u : Top) → has_two_changes x.options �
 same_conflict x c t u changes filled =
     conflict_if (has merging x.options) (λ v. conflict_refusal (has agreeing x.options) c.snapshot c.memory v.memory (destination_page x) (page_count x)) t u
     (λ e. filled ∙ unfilled (has zeroing x.options) (has copy x.options) (has merging x.options) (zero_part (destination_page x) (page_count x)) (copy_part c.memory (source_page x) (destination_page x) (page_count x)) t changes e)
+
+-- a merge and then the block, and no other part
+pub joined : (x : Transfer) (c t y : Top) → has_two_changes x.options ≡ false → has merging x.options ≡ true → has regs x.options ≡ true → has perm x.options ≡ false
+    → y ≡ block_part x.block c (merge_part c.snapshot c.memory (destination_page x) (page_count x) t) → y ≡ caller_after x c t
+joined x c t y changes merges writes permits is =
+    let merge = merge_part c.snapshot c.memory (destination_page x) (page_count x) in
+    let permit = permission_part (destination_page x) (page_count x) (permission x.options) in
+    let v : Top = merge t in
+    let same : part_if (has copy x.options) (copy_part c.memory (source_page x) (destination_page x) (page_count x)) (part_if (has zeroing x.options) (zero_part (destination_page x) (page_count x)) t) ≡ t =
+    unfilled (has zeroing x.options) (has copy x.options) (has merging x.options) (zero_part (destination_page x) (page_count x)) (copy_part c.memory (source_page x) (destination_page x) (page_count x)) t changes merges in
+    get_in_order x c t t v v y (sym same) (ap (λ b. part_if b merge t) (sym merges)) (ap (λ b. part_if b permit v) (sym permits)) (is ∙ ap (λ b. part_if b (block_part x.block c) v) (sym writes))

@@ -11,6 +11,7 @@ ghost use Rattle.space_model.specs.Caller.{with_action};
 ghost use Rattle.put_get.specs.Meetings.{get_conflict, conflict_of, MayStop};
 ghost use Rattle.put_get.specs.Ranges.{at_most_one, get_changes};
 
+use crate::joining::join;
 use crate::options::{has_agree, has_copy, has_merge, has_perm, has_regs, has_zero};
 use crate::ranges::{destination, fill, permit, share};
 use snapshot::{MergeError, merge};
@@ -20,7 +21,7 @@ use trap_ret::{Transfer, write_block};
 
 // Regs: the child's register block is written, whatever the permissions are, where that is asked for.
 #[tactic(auto, using(crate::proofs::Places::block_end, space_mem::proofs::Dirty::covers_in_after))]
-fn take_registers(x: &Transfer, child: &Top, caller: &mut Top) -> Result<(), AllocError>
+pub fn take_registers(x: &Transfer, child: &Top, caller: &mut Top) -> Result<(), AllocError>
     requires { IsTransfer x.now }
     ensures ok { OnOk result (caller.new ≡ part_if (options_of.has options_of.regs x.now.options) (block_part x.now.block child.now) caller.old) }
     ensures err { OnErr result (caller.new ≡ caller.old) }
@@ -105,6 +106,9 @@ fn take_top(x: &Transfer, child: &Top, caller: &mut Top) -> Result<(), MergeErro
 {
     if is_one_change(x) {
         return change(x, child, caller);
+    }
+    if has_merge(x) && has_regs(x) && !has_perm(x) {
+        return join(x, child, caller);
     }
     // Of several changes a later one may fail.
     let before = caller.memory.frozen()?;

@@ -2,6 +2,7 @@
 #![tactic(auto)]
 
 mod get;
+mod joining;
 mod meeting;
 mod options;
 mod put;
