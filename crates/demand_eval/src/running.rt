@@ -137,7 +137,7 @@ fn settle_each(runner: &mut Runner, space: &mut Space, depth: u8) -> Result<(), 
     Ok(())
 }
 
-// It is kept from now on that all below have settled.
+// Where it is known of each child that it has settled, it is kept from now on that all have.
 fn remember(space: &mut Space)
     ensures { space.new ≡ space.old }
 {

@@ -11,7 +11,7 @@ use space_tree::{Children, Path, Space, at, is_settled, is_stopped};
 use trap_ret::awaits;
 
 // Whether a child that a call waits for is missing, has stopped, or, where it is awaited whole, has settled.
-fn is_ready(children: &Children, awaited: Await) -> bool
+pub(crate) fn is_ready(children: &Children, awaited: Await) -> bool
     ensures { result ≡ is_ready awaited.reach (find awaited.number children.now) }
 {
     let Some(child) = children.get(awaited.number) else {
@@ -23,8 +23,8 @@ fn is_ready(children: &Children, awaited: Await) -> bool
     }
 }
 
-/// Whether each child that a call waits for is ready.
-pub(crate) fn are_ready(call: AcceptedCall, children: &Children) -> bool
+// Whether each child that a call waits for is ready.
+fn are_ready(call: AcceptedCall, children: &Children) -> bool
     ensures { result ≡ are_ready (awaits call) children.now }
 {
     let all = awaits(call.call());

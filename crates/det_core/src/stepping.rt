@@ -6,7 +6,7 @@ ghost use Rattle.space_model.specs.Meeting.{awaits};
 ghost use Rattle.space_model.specs.Space.{children_of};
 ghost use Rattle.run_model.specs.Schedule.{are_ready, is_enabled, try_step};
 
-use crate::enabling::are_ready;
+use crate::waiting::look_all_ready;
 use space_step::{AcceptedCall, DecodeCache, Next, next};
 use space_tree::{Path, Space};
 use std::alloc::{AllocError, Global};
@@ -24,7 +24,7 @@ pub(crate) fn try_call(
     ensures called { OnOk result (space.new ≡ cond (are_ready (awaits call) (children_of space.old)) (met_by depth call space.old) space.old) }
     ensures err { OnErr result (space.new ≡ space.old) }
 {
-    let ready = are_ready(call, &space.children);
+    let ready = look_all_ready(call, &mut space.children);
     if ready {
         meet(alloc, call, depth, space)?;
     }

@@ -1,5 +1,5 @@
 -- What is done to the entries of a map, in their boxes, is done to the children.
-use Rattle.std.proofs.Common.{◌≡◌, ℕ, Bool, true, false, cond, List, [], ◌∷◌, Some, refl, sym, ap, ◌∙◌, subst, nat_cmp}
+use Rattle.std.proofs.Common.{◌≡◌, ℕ, Bool, true, false, cond, List, [], ◌∷◌, map, Some, refl, sym, ap, ◌∙◌, subst, nat_cmp}
 use Rattle.std.specs.Prelude.{Option, option_map}
 use Rattle.std.specs.Ordering.{match_ordering}
 use Rattle.std.specs.declared.cmp.Ordering.{Ordering}
@@ -12,7 +12,7 @@ use Rattle.std.specs.declared.boxed.Box.{Box}
 use Rattle.std.specs.declared.alloc.Global.{Global}
 use Rattle.space_model.specs.Space.{Space, Children, find, over, put_child, remove_child, children_from}
 use Rattle.space_model.proofs.Entries.{find_entries, over_entries, put_entries, remove_entries}
-use Rattle.space_tree.specs.Kept.{unboxed, children_in}
+use Rattle.space_tree.specs.Kept.{unboxed, children_in, numbers_of}
 
 abbrev Entries : Type 0
 Entries = List (ℕ × Box Space Global)
@@ -79,3 +79,11 @@ put n b s cs m fs is ordered value fe =
 -- and a removal
 pub removed : (n : ℕ) (cs : Children) (es fs : Entries) → children_in es ≡ cs → fs ≡ remove_entry (is_at (nat_cmp n)) es → children_in fs ≡ remove_child n cs
 removed n cs es fs is fe = ap children_in fe ∙ ap children_from (remove-unboxed (is_at (nat_cmp n)) es) ∙ remove_entries n (unboxed es) ∙ ap (remove_child n) is
+
+-- the numbers of children, as a map tells them
+pub numbers_in : (es : Entries) (ns : List ℕ) (cs : Children) → children_in es ≡ cs → ns ≡ map (λ e. e.0) es → ns ≡ numbers_of cs
+numbers_in es ns cs is told = told ∙ sym (told_by es) ∙ ap numbers_of is
+  where
+    told_by : (fs : Entries) → numbers_of (children_in fs) ≡ map (λ e. e.0) fs
+    told_by [] = refl
+    told_by (e ∷ fs) = ap (λ xs. e.0 ∷ xs) (told_by fs)

@@ -3,6 +3,7 @@ pub mod Paths
 pub mod Values
 pub mod Heights
 pub mod Kept
+pub mod Looks
 pub mod Copies
 pub mod Sizes
 pub mod Sounds

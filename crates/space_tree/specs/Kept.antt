@@ -7,7 +7,7 @@ use base.Stored.{coded_via}
 use denote.Param.Weighed.{most}
 use Rattle.std.specs.declared.boxed.Box.{Box}
 use Rattle.std.specs.declared.alloc.Global.{Global}
-use Rattle.space_model.specs.Space.{Top, Space, space, Children, children_of, children_from, find, height, levels_of, are_settled}
+use Rattle.space_model.specs.Space.{Top, Space, space, Children, none, child, children_of, children_from, find, height, levels_of, are_settled}
 use Rattle.space_model.specs.Beginning.{fresh_top}
 use Rattle.space_model.specs.Encoding.{coded_space, size_of, sizes}
 
@@ -19,6 +19,11 @@ unboxed (e ∷ es) = (e.0, e.1.value) ∷ unboxed es
 -- the children that the entries of a map are
 abbrev pub children_in : List (ℕ × Box Space Global) → Children
 children_in es = children_from (unboxed es)
+
+-- the numbers of children
+abbrev pub numbers_of : Children → List ℕ
+numbers_of none = []
+numbers_of (child n s rest) = n ∷ numbers_of rest
 
 -- What is kept of children: that all have settled, where it is known that they have, and how many levels they make, where that is known.
 pub record IsKept (all : Bool) (most : Option ℕ) (cs : Children) : Type 0 where

@@ -1,8 +1,10 @@
-ghost use Rattle.std.specs.Prelude.{◌≡◌, ℕ, true, max, suc, IfSome, OnOk, OnErr};
+ghost use Rattle.std.specs.Prelude.{◌≡◌, ℕ, true, map, max, suc, IfOk, IfSome, OnOk, OnErr};
+ghost use Rattle.std.specs.BTreeMap.{IsOrdered};
+ghost use Rattle.std.specs.Ordering.{nat_cmp};
 ghost use Rattle.std.specs.Option.{option_copied, option_copied_mut};
 ghost use Rattle.std.specs.Borrow.{sem};
 ghost use Rattle.space_model.specs.Space.{none, find, put_child, remove_child, height, levels_of, is_settled, are_settled};
-ghost use Rattle.space_tree.specs.Kept.{children_in, levels_at};
+ghost use Rattle.space_tree.specs.Kept.{children_in, levels_at, numbers_of};
 ghost use Rattle.space_tree.specs.Lending.{LendsChild};
 
 use crate::space::Space;
@@ -20,6 +22,8 @@ pub struct Children {
     pub(crate) settled: bool,
     // How many levels they make, where that is known.
     pub(crate) levels: Option<u8>,
+    // From which number on to look first for one that has not settled.
+    pub(crate) looked: u16,
 }
 
 impl Model for Children {
@@ -38,6 +42,17 @@ impl Model for Children {
     ghost size = { children_size };
 
     ghost size_decreases = { λ c h. Prim.omega (arith, each_smaller c.entries.entries) };
+}
+
+// The numbers under which children stand in a map, in rising order.
+pub(crate) fn keys(
+    alloc: Global,
+    entries: &BTreeMap<u16, Box<Space>>,
+) -> Result<Vec<u16>, AllocError>
+    ensures numbers { IfOk result (λ numbers. numbers.items ≡ map (λ e. e.0) entries.now.entries) }
+    ensures rising { IsOrdered nat_cmp entries.now }
+{
+    entries.keys().copied().collect(alloc)
 }
 
 // Whether it is known of each child that it has settled, with all below it.
@@ -81,7 +96,7 @@ fn levels_with_other(levels: u8, former: u8, new: u8) -> Option<u8>
 
 impl Space {
     // Whether it is known that the space has settled, with all below it.
-    fn is_known_settled(&self) -> bool
+    pub(crate) fn is_known_settled(&self) -> bool
         ensures { result ≡ true → is_settled self.now ≡ true }
     {
         self.top.is_stopped() && self.children.are_known_settled()
@@ -107,6 +122,7 @@ impl Children {
             entries: BTreeMap::new(alloc),
             settled: true,
             levels: Some(0),
+            looked: 0,
         }
     }
 
@@ -115,6 +131,13 @@ impl Children {
         ensures { children_in result.now.entries ≡ self.now }
     {
         &self.entries
+    }
+
+    /// The numbers of the children, in rising order. The one error is want of memory.
+    pub fn numbers(&self, alloc: Global) -> Result<Vec<u16>, AllocError>
+        ensures { IfOk result (λ numbers. numbers.items ≡ numbers_of self.now) }
+    {
+        keys(alloc, &self.entries)
     }
 
     /// The child of that number.

@@ -1,11 +1,9 @@
-ghost use Rattle.std.specs.Prelude.{◌≡◌, map, IfOk};
-ghost use Rattle.std.specs.BTreeMap.{IsOrdered};
-ghost use Rattle.std.specs.Ordering.{nat_cmp};
+ghost use Rattle.std.specs.Prelude.{◌≡◌, IfOk};
 ghost use Rattle.space_mem.specs.Held.{memory_in};
 ghost use Rattle.space_model.specs.Space.{find};
 ghost use Rattle.space_tree.specs.Kept.{children_in, unboxed};
 
-use crate::children::Children;
+use crate::children::{Children, keys};
 use crate::space::Space;
 use crate::top::Top;
 use dev_script::Devices;
@@ -79,14 +77,6 @@ fn copy_devices(devices: &Option<Devices>) -> Result<Option<Devices>, AllocError
     }
 }
 
-// The numbers of the children, in rising order.
-fn numbers(alloc: Global, entries: &BTreeMap<u16, Box<Space>>) -> Result<Vec<u16>, AllocError>
-    ensures numbers { IfOk result (λ numbers. numbers.items ≡ map (λ e. e.0) entries.now.entries) }
-    ensures rising { IsOrdered nat_cmp entries.now }
-{
-    entries.keys().copied().collect(alloc)
-}
-
 // A copy of the child of that number, where there is one.
 #[cycle(copy)]
 fn copy_entry(
@@ -112,7 +102,7 @@ fn copy_entries(
     ensures equal { IfOk result (λ copies. unboxed copies.entries ≡ unboxed entries.old.entries) }
     ensures same { unboxed entries.new.entries ≡ unboxed entries.old.entries }
 {
-    let numbers = numbers(alloc, entries)?;
+    let numbers = keys(alloc, entries)?;
     let mut copies = BTreeMap::new(alloc);
     for number in &numbers {
         if let Some(copy) = copy_entry(alloc, entries, *number)? {
@@ -133,5 +123,6 @@ fn copy_children(alloc: Global, children: &mut Children) -> Result<Children, All
         entries,
         settled: children.settled,
         levels: children.levels,
+        looked: children.looked,
     })
 }

@@ -4,6 +4,7 @@
 mod children;
 mod copying;
 mod levels;
+mod looking;
 mod path;
 mod refusals;
 mod registers;
@@ -15,6 +16,7 @@ pub use children::Children;
 pub use copying::{copy_child, copy_top, copy_tree};
 pub use dev_script::Devices;
 pub use levels::height;
+pub use looking::look_at_child;
 pub use path::{Path, at, put_at, swap_top};
 pub use refusals::{conflict, no_snapshot, too_deep};
 pub use rv_exec::Regs;

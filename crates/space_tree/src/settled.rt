@@ -24,7 +24,7 @@ pub fn is_settled(space: &Space) -> bool
 
 // Whether no child runs, nor a space below it: as it is kept, or else by looking.
 #[cycle(settled)]
-fn are_settled(children: &Children) -> bool
+pub(crate) fn are_settled(children: &Children) -> bool
     ensures { result ≡ are_settled children.now }
 {
     children.settled || each_settled(&children.entries)

@@ -49,14 +49,14 @@ copy_entries-loop-number-preserved t c = record {
   copied = elim c.match-branch-3.branch [
     | copy_entries-in-Some+in_ok-new+in_ok-insert+in-Some-1 w ↦
         ap (λ m. unboxed m.entries) w.copies-is
-        ∙ one_more c.args.entries.now _ _ _ _ _ _ _ c.numbers.ensures.rising (c.deref-number-items.ensures.value ∙ c.in_ok-numbers.ensures.numbers) c.loop-number-test.true c.loop-number.invariant.same
+        ∙ one_more c.args.entries.now _ _ _ _ _ _ _ c.keys.ensures.rising (c.deref-number-items.ensures.value ∙ c.in_ok-numbers.ensures.numbers) c.loop-number-test.true c.loop-number.invariant.same
         (sym w.in-Some.is ∙ c.in_ok-copy.ensures.equal) w.in_ok-new.ensures.ok c.loop-number.invariant.copied w.in_ok-insert.ensures.entries
     | copy_entries-in-Some+in_ok-new+in_ok-insert+in-None-1 w ↦
         ap (λ m. unboxed m.entries) w.copies-is
-        ∙ one_more c.args.entries.now _ _ _ _ _ _ _ c.numbers.ensures.rising (c.deref-number-items.ensures.value ∙ c.in_ok-numbers.ensures.numbers) c.loop-number-test.true c.loop-number.invariant.same
+        ∙ one_more c.args.entries.now _ _ _ _ _ _ _ c.keys.ensures.rising (c.deref-number-items.ensures.value ∙ c.in_ok-numbers.ensures.numbers) c.loop-number-test.true c.loop-number.invariant.same
         (sym w.in-Some.is ∙ c.in_ok-copy.ensures.equal) w.in_ok-new.ensures.ok c.loop-number.invariant.copied w.in_ok-insert.ensures.entries
     | copy_entries-in_default w ↦
-        absurd (no_other c.args.entries.now _ _ _ c.numbers.ensures.rising (c.deref-number-items.ensures.value ∙ c.in_ok-numbers.ensures.numbers) c.loop-number-test.true c.loop-number.invariant.same (sym w.in_default.is ∙ c.in_ok-copy.ensures.equal))
+        absurd (no_other c.args.entries.now _ _ _ c.keys.ensures.rising (c.deref-number-items.ensures.value ∙ c.in_ok-numbers.ensures.numbers) c.loop-number-test.true c.loop-number.invariant.same (sym w.in_default.is ∙ c.in_ok-copy.ensures.equal))
   ];
 }
 
