@@ -8,6 +8,9 @@ use std::alloc::{AllocError, Global};
 use std::mem;
 use trap_ret::awaits;
 
+// How many quanta a turn has at most: some 70 milliseconds.
+const MOST_QUANTA: u32 = 16;
+
 /// A space that ran when it was looked at last.
 #[derive(Drop)]
 pub(crate) struct Runner {
@@ -29,8 +32,10 @@ pub(crate) struct Turn {
 #[derive(Drop)]
 pub(crate) struct Hints {
     alloc: Global,
-    pub(crate) running: Vec<Runner>,
-    pub(crate) calls: Vec<Path>,
+    running: Vec<Runner>,
+    calls: Vec<Path>,
+    // How many quanta a turn has.
+    quanta: u32,
 }
 
 impl Hints {
@@ -40,6 +45,7 @@ impl Hints {
             alloc,
             running: Vec::new(alloc),
             calls: Vec::new(alloc),
+            quanta: 1,
         }
     }
 
@@ -110,6 +116,22 @@ impl Hints {
             }
         }
         self.runs(path, false)
+    }
+
+    /// How many events a turn has, which is of several quanta where nobody waits.
+    pub(crate) fn turn_of(&self, quantum: u32) -> u32
+        ensures { quantum ≤ result }
+    {
+        quantum.saturating_mul(self.quanta).max(quantum)
+    }
+
+    /// The turns of a round are over. Where all came through theirs, the next have twice as many quanta, up to 16; where one did not, a single one again.
+    pub(crate) fn end_turns(&mut self) {
+        self.quanta = if self.calls.is_empty() {
+            (self.quanta.saturating_mul(2)).min(MOST_QUANTA)
+        } else {
+            1
+        };
     }
 
     /// The spaces that run; none are left.

@@ -61,7 +61,7 @@ fn begin(
     }
     turns.push(Turn {
         path: runner.path,
-        left: quantum,
+        left: hints.turn_of(quantum),
     })?;
     Ok(false)
 }
@@ -176,7 +176,7 @@ fn meet_all(alloc: Global, space: &mut Space, hints: &mut Hints) -> Result<bool,
     Ok(some)
 }
 
-// Each space that has local events goes on for the quantum.
+// Each space that has local events goes on for the quantum, or several where nobody waits.
 fn go_all(
     rt: &(impl Threads + Sync),
     alloc: Global,
@@ -195,7 +195,7 @@ fn go_all(
     Ok(began || went)
 }
 
-/// One round: each space that has local events goes on for the quantum, and then each call meets its children whose time has come, in the order of
+/// One round: each space that has local events goes on for the quantum, or several where nobody waits, and then each call meets its children whose time has come, in the order of
 /// paths. It answers whether there was an event, and puts into the hints where to look next. The one error is want of memory.
 pub(crate) fn round(
     rt: &(impl Threads + Sync),
@@ -209,6 +209,7 @@ pub(crate) fn round(
     ensures { IfOk result (λ some. IsLater some space.old space.new) }
 {
     let went = go_all(rt, alloc, space, quantum, cache, hints)?;
+    hints.end_turns();
     let met = meet_all(alloc, space, hints)?;
     Ok(went || met)
 }

@@ -35,7 +35,7 @@ fn next_round(
 }
 
 /// Runs a whole tree until no space in it runs. In each round the spaces that have local events go on side by side, each for at most `quantum` events,
-/// which is at least 1, by as many threads as there are processors; then each call whose time has come meets its children (OSDI 2010, "Efficient
+/// which is at least 1, or up to 16 times as many while none of them stops or calls, by as many threads as there are processors; then each call whose time has come meets its children (OSDI 2010, "Efficient
 /// System-Enforced Deterministic Parallelism", the section on the kernel interface: spaces run in parallel, and synchronize by Put, Get and Ret alone).
 /// What comes of it is what `settle` gives, whatever the quantum and the number of threads. The one error is want of memory; the tree is given up then.
 #[tactic(auto, using(crate::proofs::Later::later_sound, crate::proofs::Later::later_settles, crate::proofs::Later::later_fewer))]
