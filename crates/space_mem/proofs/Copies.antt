@@ -249,3 +249,10 @@ moved_block source made new at to from first before within here bytes beside res
   ];
   rest = λ p j low below. rest p j below (inr (omega arith)) ∙ moved.rest p j (omega arith) below;
 }
+
+-- all pages of a source, made ready to be changed
+pub ready_all : (source made ready : TreeRef) → SameRoot source made → SameRow 1048576 (root_row made) (root_row ready) → SameRoot source ready
+ready_all source made ready same prepared = record {
+  permission = λ p below. prepared.permission p below ∙ same.permission p below;
+  byte = λ p k below. prepared.byte p k below ∙ same.byte p k below;
+}

@@ -1,6 +1,6 @@
 -- What a memory is after a range of its pages has changed.
 use Rattle.std.specs.Prelude.{◌≡◌, ℕ, ◌-◌, ◌*◌, ◌/◌, ◌%◌, ◌<◌, ◌≤◌, ◌⊎◌, true, false, cond, None}
-use Rattle.std.proofs.Common.{sym, ◌∙◌, ap, arith, inl, inr}
+use Rattle.std.proofs.Common.{refl, sym, ◌∙◌, ap, arith, inl, inr}
 use Rattle.std.proofs.lemmas.Bool.{cases_lt}
 use Rattle.memory_model.specs.Sparse.{Sparse, value_at}
 use Rattle.memory_model.specs.Memory.{Memory, byte_at, with_permissions}
@@ -82,3 +82,7 @@ no_zeros t first end none =
       | inl before ↦ value_at-row_before s key (λ _. 0) n a before
       | inr after ↦ value_at-row_after s key (λ _. 0) n a (omega arith)
     ]
+
+-- permissions of no pages
+pub no_permissions : (m : Memory) (first n right : ℕ) → n ≡ 0 → with_permissions m first n right ≡ m
+no_permissions m first n right none = rw none refl

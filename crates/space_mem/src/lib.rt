@@ -4,6 +4,7 @@
 mod bus;
 mod byte_string;
 mod copying;
+mod filling;
 mod freezing;
 mod layout;
 mod memory;

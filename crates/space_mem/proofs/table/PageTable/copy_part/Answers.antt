@@ -63,6 +63,7 @@ returns c =
           (c.take.ensures.whole (c.in_ok-prepare-3.ensures.whole c.requires.table.whole) (c.in_ok-prepare.ensures.whole c.in_ok-made.ensures.whole))
           (marked_bare first end t.dirty c.prepare-2.new.self s.dirty c.in_ok-prepare-2.ensures.same c.permit.ensures.permitted c.requires.table.bare);
       ok = copied_memory from first end source.pages t.pages s.pages (omega arith) c.requires.within c.requires.in_range copied;
+      ready = c.take.ensures.ready;
       err = tt;
       outside = copied_outside from first end source.pages t s copied marked;
       marks = copied_marks from first end source.pages t s copied marked;
