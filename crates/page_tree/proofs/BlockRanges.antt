@@ -9,6 +9,7 @@ use Rattle.page_tree.specs.Blocks.{is_own_in}
 use Rattle.page_tree.specs.Rows.{SameRow, SameOwners, IsPermittedRow, IsClearedRow, IsTakenRow, IsReplacedRow}
 use Rattle.page_tree.specs.BlockRefs.{ref_row, ref_permission, ref_page, ref_own, AreWholeIn}
 use Rattle.page_tree.specs.Branches.{block_at, branch_row, AreWholeBelow}
+use Rattle.page_tree.specs.Cuts.{CutBlock, CutBranch}
 use Rattle.page_tree.specs.Ready.{ReadyBlock, ReadyBranch, SameOtherBlocks}
 use Rattle.page_tree.proofs.Spread.{IsDone, each, spread_blocks, replace_blocks}
 
@@ -46,6 +47,13 @@ IsReady from to k r s = ReadyBlock (from - 64 * k) (min (to - 64 * k) 64) s
 
 pub ready_row : (from to i : ℕ) (a b : Branch) → i ≡ (to - 1) / 64 + 1 → IsDone (IsReady from to) (from / 64) i (block_at a) (block_at b) → ReadyBranch from to b
 ready_row from to i a b last d k low before after = d.done k (omega arith) (omega arith)
+
+-- a block is cut for what a range has of it
+abbrev pub IsCut : ℕ → ℕ → ℕ → BlockRef → BlockRef → Type 0
+IsCut from to k r s = CutBlock (from - 64 * k) (min (to - 64 * k) 64) s
+
+pub cut_row : (from to i : ℕ) (a b : Branch) → i ≡ (to - 1) / 64 + 1 → IsDone (IsCut from to) (from / 64) i (block_at a) (block_at b) → CutBranch from to b
+cut_row from to i a b last d k low before after = d.done k (omega arith) (omega arith)
 
 -- what a range has of a block is permitted
 pub record IsPermittedPart (from to right k : ℕ) (r s : BlockRef) : Type 0 where
@@ -89,7 +97,7 @@ cleared_ready from to i a b last d k low before after = (d.done k (omega arith) 
 pub record IsTakenPart (from to k : ℕ) (o r s : BlockRef) : Type 0 where
   pub taken : IsTakenRow 64 (from - 64 * k) (min (to - 64 * k) 64) (ref_row r) (ref_row o) (ref_row s)
   pub whole : AreWholeIn r → AreWholeIn o → AreWholeIn s
-  pub ready : ReadyBlock (from - 64 * k) (min (to - 64 * k) 64) s
+  pub ready : ReadyBlock (from - 64 * k) (min (to - 64 * k) 64) r → ReadyBlock (from - 64 * k) (min (to - 64 * k) 64) o → ReadyBlock (from - 64 * k) (min (to - 64 * k) 64) s
 
 abbrev pub IsTakenOf : ℕ → ℕ → Branch → ℕ → BlockRef → BlockRef → Type 0
 IsTakenOf from to o k r s = IsTakenPart from to k (block_at o k) r s
@@ -104,8 +112,8 @@ taken_row from to i o a b rise last d = record {
 pub taken_whole : (from to i : ℕ) (o a b : Branch) → IsDone (IsTakenOf from to o) (from / 64) i (block_at a) (block_at b) → AreWholeBelow a → AreWholeBelow o → AreWholeBelow b
 taken_whole from to i o a b d whole other k low = each (IsTakenOf from to o) (λ n r s. AreWholeIn r → AreWholeIn (block_at o n) → AreWholeIn s) (from / 64) i (block_at a) (block_at b) d (λ k x y h. h.whole) (λ n x w v. w) k (whole k low) (other k low)
 
-pub taken_ready : (from to i : ℕ) (o a b : Branch) → i ≡ (to - 1) / 64 + 1 → IsDone (IsTakenOf from to o) (from / 64) i (block_at a) (block_at b) → ReadyBranch from to b
-taken_ready from to i o a b last d k low before after = (d.done k (omega arith) (omega arith)).ready
+pub taken_ready : (from to i : ℕ) (o a b : Branch) → i ≡ (to - 1) / 64 + 1 → IsDone (IsTakenOf from to o) (from / 64) i (block_at a) (block_at b) → ReadyBranch from to a → ReadyBranch from to o → ReadyBranch from to b
+taken_ready from to i o a b last d mine theirs k low before after = (d.done k (omega arith) (omega arith)).ready (mine k low before after) (theirs k low before after)
 
 -- no more is said than which blocks are the same
 abbrev pub IsAny : ℕ → BlockRef → BlockRef → Type 0

@@ -9,6 +9,7 @@ use Rattle.page_tree.specs.Blocks.{is_own_in}
 use Rattle.page_tree.specs.Rows.{SameRow, SameOwners, IsPermittedRow, IsClearedRow, IsTakenRow, IsReplacedRow}
 use Rattle.page_tree.specs.BranchRefs.{limb_row, limb_permission, limb_page, limb_own, AreWholeLimb}
 use Rattle.page_tree.specs.Trees.{branch_at, tree_row, AreWholeTree}
+use Rattle.page_tree.specs.Cuts.{CutLimb, CutTree}
 use Rattle.page_tree.specs.Ready.{ReadyLimb, ReadyTree, SameOtherBranches}
 use Rattle.page_tree.proofs.Spread.{IsDone, each, spread_branches, replace_branches}
 
@@ -46,6 +47,13 @@ IsReady from to k r s = ReadyLimb (from - 8192 * k) (min (to - 8192 * k) 8192) s
 
 pub ready_row : (from to i : ℕ) (a b : Tree) → i ≡ (to - 1) / 8192 + 1 → IsDone (IsReady from to) (from / 8192) i (branch_at a) (branch_at b) → ReadyTree from to b
 ready_row from to i a b last d k low before after = d.done k (omega arith) (omega arith)
+
+-- a branch is cut for what a range has of it
+abbrev pub IsCut : ℕ → ℕ → ℕ → BranchRef → BranchRef → Type 0
+IsCut from to k r s = CutLimb (from - 8192 * k) (min (to - 8192 * k) 8192) s
+
+pub cut_row : (from to i : ℕ) (a b : Tree) → i ≡ (to - 1) / 8192 + 1 → IsDone (IsCut from to) (from / 8192) i (branch_at a) (branch_at b) → CutTree from to b
+cut_row from to i a b last d k low before after = d.done k (omega arith) (omega arith)
 
 -- what a range has of a branch is permitted
 pub record IsPermittedPart (from to right k : ℕ) (r s : BranchRef) : Type 0 where
@@ -89,7 +97,7 @@ cleared_ready from to i a b last d k low before after = (d.done k (omega arith) 
 pub record IsTakenPart (from to k : ℕ) (o r s : BranchRef) : Type 0 where
   pub taken : IsTakenRow 8192 (from - 8192 * k) (min (to - 8192 * k) 8192) (limb_row r) (limb_row o) (limb_row s)
   pub whole : AreWholeLimb r → AreWholeLimb o → AreWholeLimb s
-  pub ready : ReadyLimb (from - 8192 * k) (min (to - 8192 * k) 8192) s
+  pub ready : ReadyLimb (from - 8192 * k) (min (to - 8192 * k) 8192) r → ReadyLimb (from - 8192 * k) (min (to - 8192 * k) 8192) o → ReadyLimb (from - 8192 * k) (min (to - 8192 * k) 8192) s
 
 abbrev pub IsTakenOf : ℕ → ℕ → Tree → ℕ → BranchRef → BranchRef → Type 0
 IsTakenOf from to o k r s = IsTakenPart from to k (branch_at o k) r s
@@ -104,8 +112,8 @@ taken_row from to i o a b rise last d = record {
 pub taken_whole : (from to i : ℕ) (o a b : Tree) → IsDone (IsTakenOf from to o) (from / 8192) i (branch_at a) (branch_at b) → AreWholeTree a → AreWholeTree o → AreWholeTree b
 taken_whole from to i o a b d whole other k low = each (IsTakenOf from to o) (λ n r s. AreWholeLimb r → AreWholeLimb (branch_at o n) → AreWholeLimb s) (from / 8192) i (branch_at a) (branch_at b) d (λ k x y h. h.whole) (λ n x w v. w) k (whole k low) (other k low)
 
-pub taken_ready : (from to i : ℕ) (o a b : Tree) → i ≡ (to - 1) / 8192 + 1 → IsDone (IsTakenOf from to o) (from / 8192) i (branch_at a) (branch_at b) → ReadyTree from to b
-taken_ready from to i o a b last d k low before after = (d.done k (omega arith) (omega arith)).ready
+pub taken_ready : (from to i : ℕ) (o a b : Tree) → i ≡ (to - 1) / 8192 + 1 → IsDone (IsTakenOf from to o) (from / 8192) i (branch_at a) (branch_at b) → ReadyTree from to a → ReadyTree from to o → ReadyTree from to b
+taken_ready from to i o a b last d mine theirs k low before after = (d.done k (omega arith) (omega arith)).ready (mine k low before after) (theirs k low before after)
 
 -- no more is said than which branches are the same
 abbrev pub IsAny : ℕ → BranchRef → BranchRef → Type 0

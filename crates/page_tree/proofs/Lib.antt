@@ -1,3 +1,4 @@
+mod Counts
 mod Children
 mod Limbs
 mod Spread
@@ -6,3 +7,4 @@ mod BranchRanges
 mod BlockEdits
 mod LimbEdits
 mod Blockwise
+pub mod Cuts

@@ -1,3 +1,4 @@
+pub mod Kept
 pub mod Blocks
 pub mod Rows
 pub mod BlockRefs
@@ -6,6 +7,7 @@ pub mod BranchRefs
 pub mod Trees
 pub mod TreeRefs
 pub mod Ready
+pub mod Cuts
 pub mod BlockRows
 pub mod Settled
 pub mod Blockwise

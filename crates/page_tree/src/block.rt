@@ -2,9 +2,9 @@ ghost use Rattle.std.specs.Prelude.{◌≡◌, ℕ, ◌+◌, ◌<◌, ◌≤◌,
 ghost use Rattle.page_store.specs.Bytes.{bytes_of, is_own, IsPage, with_bytes_in};
 ghost use Rattle.page_tree.specs.Blocks.{block_pages, page_in, permission_in, byte_in, is_own_in, IsWhole, AreWhole, IsShare, SameBytes, NoneOwn, IsBlankIn, within};
 
+use crate::slots::Slots;
 use page_store::PageRef;
-use std::alloc::{AllocError, AllocFailed, Global};
-use std::array::from_fn;
+use std::alloc::{AllocError, Global};
 
 /// How many pages a block has.
 pub const BLOCK_PAGES: usize = 64;
@@ -12,7 +12,7 @@ pub const BLOCK_PAGES: usize = 64;
 /// 64 pages in a row, each with its permission. The bytes of a page that is not kept are 0.
 #[derive(Drop)]
 pub struct Block {
-    pub pages: [Option<PageRef>; BLOCK_PAGES],
+    pub pages: Slots,
     pub permissions: [u8; BLOCK_PAGES],
 }
 
@@ -23,7 +23,7 @@ impl Block {
         ensures permissions { (j : ℕ) → j < block_pages → permission_in result j ≡ permission }
     {
         Block {
-            pages: from_fn(|_| None),
+            pages: Slots::none(),
             permissions: [permission; BLOCK_PAGES],
         }
     }
@@ -34,22 +34,17 @@ impl Block {
         ensures some { IfSome result (λ page. page_in self.now j ≡ Some page.now) }
         ensures none { IsNone result → page_in self.now j ≡ None }
     {
-        match self.pages.get(j) {
-            Some(slot) => match slot {
-                Some(page) => Some(page),
-                None => None,
-            },
-            None => None,
-        }
+        self.pages.get(j)
     }
 
     /// A block of the same pages: of shared ones another holder, of own ones copies. Its one error is want of memory.
     pub fn share(&self, alloc: Global) -> Result<Block, AllocError>
         ensures { IfOk result (λ copy. IsShare self.now copy) }
     {
-        let mut pages = from_fn(|_| None);
+        let mut pages = Slots::none();
         for j in 0..BLOCK_PAGES {
-            pages[j] = self.share_at(j, alloc)?;
+            let copy = self.share_at(j, alloc)?;
+            pages.replace(j, copy);
         }
         Ok(Block {
             pages,
@@ -82,8 +77,11 @@ impl Block {
         ensures less { (j : ℕ) → j < block_pages → is_own_in (page_in self.new j) ≡ true → is_own_in (page_in self.old j) ≡ true }
         ensures whole { AreWhole self.old → AreWhole self.new }
     {
+        if self.pages.is_empty() {
+            return Ok(());
+        }
         for j in 0..BLOCK_PAGES {
-            freeze_slot(&mut self.pages[j], alloc)?;
+            self.pages.freeze(j, alloc)?;
         }
         Ok(())
     }
@@ -108,7 +106,7 @@ impl Block {
         ensures pages { (j : ℕ) → page_in self.new j ≡ cond (within from to j) None (page_in self.old j) }
     {
         for j in from..to {
-            self.pages[j] = None;
+            self.pages.replace(j, None);
         }
     }
 
@@ -121,7 +119,8 @@ impl Block {
     {
         for j in from..to {
             self.permissions[j] = other.permissions[j];
-            self.pages[j] = other.pages[j].take();
+            let page = other.pages.replace(j, None);
+            self.pages.replace(j, page);
         }
     }
 
@@ -167,62 +166,6 @@ impl Block {
         ensures err { OnErr result (self.new ≡ self.old) }
         ensures idle { is_own_in (page_in self.old j) ≡ true → IsOk result }
     {
-        own_slot(&mut self.pages[j], alloc)
-    }
-}
-
-// Gives a slot a page of its holder's own, with the bytes that it keeps, or zeros.
-fn own_slot(slot: &mut Option<PageRef>, alloc: Global) -> Result<(), AllocError>
-    ensures bytes { (k : ℕ) → byte_in slot.new k ≡ byte_in slot.old k }
-    ensures own { OnOk result (is_own_in slot.new ≡ true) }
-    ensures whole { IsWhole slot.old → IsWhole slot.new }
-    ensures err { OnErr result (slot.new ≡ slot.old) }
-    ensures idle { is_own_in slot.old ≡ true → IsOk result }
-{
-    match slot.take() {
-        Some(page) => put_back(slot, page.own(alloc)),
-        None => {
-            let zeros = PageRef::zeros(alloc)?;
-            *slot = Some(zeros);
-            Ok(())
-        }
-    }
-}
-
-// Makes a page that is kept one that can be shared.
-fn freeze_slot(slot: &mut Option<PageRef>, alloc: Global) -> Result<(), AllocError>
-    ensures bytes { (k : ℕ) → byte_in slot.new k ≡ byte_in slot.old k }
-    ensures whole { IsWhole slot.new }
-    ensures none { OnOk result (is_own_in slot.new ≡ false) }
-    ensures less { is_own_in slot.new ≡ true → is_own_in slot.old ≡ true }
-{
-    match slot.take() {
-        Some(page) => {
-            let _whole = page.bytes();
-            put_back(slot, page.freeze(alloc))
-        }
-        None => Ok(()),
-    }
-}
-
-// Puts what became of a page into its slot: the page that was made, or the page as it was.
-fn put_back(
-    slot: &mut Option<PageRef>,
-    page: Result<PageRef, AllocFailed<PageRef>>,
-) -> Result<(), AllocError>
-    ensures ok { IfOk page (λ made. slot.new ≡ Some made) }
-    ensures err { IfErr page (λ failed. slot.new ≡ Some failed.value) }
-    ensures done { OnOk result (IsOk page) }
-    ensures failed { OnErr result (IsErr page) }
-{
-    match page {
-        Ok(made) => {
-            *slot = Some(made);
-            Ok(())
-        }
-        Err(failed) => {
-            *slot = Some(failed.value);
-            Err(AllocError)
-        }
+        self.pages.own(j, alloc)
     }
 }

@@ -23,6 +23,9 @@ impl Block {
         ensures least { IfSome result (λ p. (q : ℕ) → from ≤ q → q < p → is_own_in (page_in self.now q) ≡ false) }
         ensures none { IsNone result → (q : ℕ) → from ≤ q → q < end → is_own_in (page_in self.now q) ≡ false }
     {
+        if self.pages.is_empty() {
+            return None;
+        }
         for j in from..end {
             if self.is_own_at(j) {
                 return Some(j);

@@ -15,7 +15,6 @@ use crate::branch_ref::BranchRef;
 use crate::tree::Tree;
 use crate::tree_ref::TreeRef;
 use page_store::PageRef;
-use std::mem;
 
 impl Block {
     /// Exchanges what is kept of a page.
@@ -25,7 +24,7 @@ impl Block {
         ensures permissions { self.new.permissions ≡ self.old.permissions }
         ensures pages { (p : ℕ) → page_in self.new p ≡ cond (p == page) kept (page_in self.old p) }
     {
-        mem::replace(&mut self.pages[page], kept)
+        self.pages.replace(page, kept)
     }
 }
 

@@ -1,9 +1,9 @@
 ghost use Rattle.std.specs.Prelude.{◌≡◌, ◌/◌, ◌%◌, ◌<◌, IsTrue, IsFalse, true};
 ghost use Rattle.memory_model.specs.Memory.{width_bytes};
 ghost use Rattle.memory_model.specs.Sizes.{page_size};
-ghost use Rattle.page_store.specs.Bytes.{bytes_of, is_own, IsPage, with_number_in};
+ghost use Rattle.page_store.specs.Bytes.{with_number_in};
 ghost use Rattle.page_tree.specs.Rows.{IsEditedRow};
-ghost use Rattle.page_tree.specs.Blocks.{block_pages, page_in, permission_in, bytes_in, is_own_in, IsWhole, AreWhole};
+ghost use Rattle.page_tree.specs.Blocks.{block_pages, page_in, permission_in, is_own_in, AreWhole};
 ghost use Rattle.page_tree.specs.BlockRows.{block_row};
 ghost use Rattle.page_tree.specs.BlockRefs.{ref_permission, ref_own, ref_row, AreWholeIn};
 ghost use Rattle.page_tree.specs.Branches.{branch_pages, branch_permission, branch_own, branch_row, AreWholeBelow};
@@ -18,7 +18,7 @@ use crate::branch_ref::BranchRef;
 use crate::tree::Tree;
 use crate::tree_ref::TreeRef;
 use memory_model::Width;
-use page_store::{PageRef, may_write};
+use page_store::may_write;
 
 impl Block {
     /// Writes the lowest `width` bytes of `value` at an aligned place of an own page that may be written. False: nothing has changed,
@@ -38,46 +38,8 @@ impl Block {
         if !may_write(self.permissions[page]) {
             return false;
         }
-        write_slot(&mut self.pages[page], at, width, value)
+        self.pages.write(page, at, width, value)
     }
-}
-
-// Writes a number into the page that a slot keeps, if it is an own one.
-#[inline(always)]
-fn write_slot(slot: &mut Option<PageRef>, at: u16, width: Width, value: u32) -> bool
-    requires within { at < page_size }
-    requires aligned { at % width_bytes width ≡ 0 }
-    ensures bytes { IsTrue result → bytes_in slot.new ≡ with_number_in (bytes_in slot.old) at width value }
-    ensures was { IsTrue result → is_own_in slot.old ≡ true }
-    ensures own { is_own_in slot.new ≡ is_own_in slot.old }
-    ensures undone { IsFalse result → slot.new ≡ slot.old }
-    ensures sure { is_own_in slot.old ≡ true → IsTrue result }
-    ensures whole { IsWhole slot.old → IsWhole slot.new }
-{
-    match slot {
-        Some(page) => write_page(page, at, width, value),
-        None => false,
-    }
-}
-
-// Writes a number into a page, if it is an own one.
-#[inline(always)]
-fn write_page(page: &mut PageRef, at: u16, width: Width, value: u32) -> bool
-    requires within { at < page_size }
-    requires aligned { at % width_bytes width ≡ 0 }
-    ensures bytes { IsTrue result → bytes_of page.new ≡ with_number_in (bytes_of page.old) at width value }
-    ensures was { IsTrue result → is_own page.old ≡ true }
-    ensures own { is_own page.new ≡ is_own page.old }
-    ensures undone { IsFalse result → page.new ≡ page.old }
-    ensures sure { is_own page.old ≡ true → IsTrue result }
-    ensures whole { IsPage (bytes_of page.new) }
-{
-    let own = page.is_own();
-    if own {
-        page.write_own_number(at, width, value);
-    }
-    let _whole = page.bytes();
-    own
 }
 
 impl BlockRef {

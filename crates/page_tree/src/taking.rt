@@ -5,6 +5,7 @@ ghost use Rattle.page_tree.specs.Branches.{branch_pages, branch_blocks, block_at
 ghost use Rattle.page_tree.specs.BranchRefs.{AreWholeLimb, limb_row};
 ghost use Rattle.page_tree.specs.Trees.{tree_pages, tree_branches, branch_at, AreWholeTree, tree_row};
 ghost use Rattle.page_tree.specs.TreeRefs.{AreWholeRoot, root_row};
+ghost use Rattle.page_tree.specs.Cuts.{CutBlock, CutBranch, CutLimb, CutTree, CutRoot};
 ghost use Rattle.page_tree.specs.Ready.{ReadyBlock, ReadyBranch, ReadyLimb, ReadyTree, ReadyRoot, SameOtherBlocks, SameOtherBranches};
 ghost use Rattle.page_tree.specs.Rows.{IsTakenRow};
 
@@ -21,11 +22,11 @@ impl BlockRef {
     pub fn take(&mut self, other: &mut BlockRef, from: usize, to: usize)
         requires rise { from < to }
         requires within { to ≤ block_pages }
-        requires ready { ReadyBlock from to self.old }
-        requires other { ReadyBlock from to other.old }
+        requires cut { CutBlock from to self.old }
+        requires other { CutBlock from to other.old }
         ensures taken { IsTakenRow block_pages from to (ref_row self.old) (ref_row other.old) (ref_row self.new) }
         ensures whole { AreWholeIn self.old → AreWholeIn other.old → AreWholeIn self.new }
-        ensures ready { ReadyBlock from to self.new }
+        ensures ready { ReadyBlock from to self.old → ReadyBlock from to other.old → ReadyBlock from to self.new }
     {
         if from == 0 && to == BLOCK_PAGES {
             *self = mem::replace(other, BlockRef::Uniform(0));
@@ -44,11 +45,11 @@ impl Branch {
     pub fn take(&mut self, other: &mut Branch, from: usize, to: usize)
         requires rise { from < to }
         requires within { to ≤ branch_pages }
-        requires ready { ReadyBranch from to self.old }
-        requires other { ReadyBranch from to other.old }
+        requires cut { CutBranch from to self.old }
+        requires other { CutBranch from to other.old }
         ensures taken { IsTakenRow branch_pages from to (branch_row self.old) (branch_row other.old) (branch_row self.new) }
         ensures whole { AreWholeBelow self.old → AreWholeBelow other.old → AreWholeBelow self.new }
-        ensures ready { ReadyBranch from to self.new }
+        ensures ready { ReadyBranch from to self.old → ReadyBranch from to other.old → ReadyBranch from to self.new }
     {
         for i in from / BLOCK_PAGES..(to - 1) / BLOCK_PAGES + 1 {
             self.take_block(other, i, from, to);
@@ -61,11 +62,11 @@ impl Branch {
         requires rise { from < to }
         requires before { block_pages * i < to }
         requires after { from < block_pages * i + block_pages }
-        requires ready { ReadyBlock (from - block_pages * i) (min (to - block_pages * i) block_pages) (block_at self.old i) }
-        requires other { ReadyBlock (from - block_pages * i) (min (to - block_pages * i) block_pages) (block_at other.old i) }
+        requires cut { CutBlock (from - block_pages * i) (min (to - block_pages * i) block_pages) (block_at self.old i) }
+        requires other { CutBlock (from - block_pages * i) (min (to - block_pages * i) block_pages) (block_at other.old i) }
         ensures taken { IsTakenRow block_pages (from - block_pages * i) (min (to - block_pages * i) block_pages) (ref_row (block_at self.old i)) (ref_row (block_at other.old i)) (ref_row (block_at self.new i)) }
         ensures whole { AreWholeIn (block_at self.old i) → AreWholeIn (block_at other.old i) → AreWholeIn (block_at self.new i) }
-        ensures ready { ReadyBlock (from - block_pages * i) (min (to - block_pages * i) block_pages) (block_at self.new i) }
+        ensures ready { ReadyBlock (from - block_pages * i) (min (to - block_pages * i) block_pages) (block_at self.old i) → ReadyBlock (from - block_pages * i) (min (to - block_pages * i) block_pages) (block_at other.old i) → ReadyBlock (from - block_pages * i) (min (to - block_pages * i) block_pages) (block_at self.new i) }
         ensures others { SameOtherBlocks i self.old self.new }
         ensures rest { SameOtherBlocks i other.old other.new }
     {
@@ -83,11 +84,11 @@ impl BranchRef {
     pub fn take(&mut self, other: &mut BranchRef, from: usize, to: usize)
         requires rise { from < to }
         requires within { to ≤ branch_pages }
-        requires ready { ReadyLimb from to self.old }
-        requires other { ReadyLimb from to other.old }
+        requires cut { CutLimb from to self.old }
+        requires other { CutLimb from to other.old }
         ensures taken { IsTakenRow branch_pages from to (limb_row self.old) (limb_row other.old) (limb_row self.new) }
         ensures whole { AreWholeLimb self.old → AreWholeLimb other.old → AreWholeLimb self.new }
-        ensures ready { ReadyLimb from to self.new }
+        ensures ready { ReadyLimb from to self.old → ReadyLimb from to other.old → ReadyLimb from to self.new }
     {
         if from == 0 && to == BRANCH_PAGES {
             *self = mem::replace(other, BranchRef::Uniform(0));
@@ -106,11 +107,11 @@ impl Tree {
     pub fn take(&mut self, other: &mut Tree, from: usize, to: usize)
         requires rise { from < to }
         requires within { to ≤ tree_pages }
-        requires ready { ReadyTree from to self.old }
-        requires other { ReadyTree from to other.old }
+        requires cut { CutTree from to self.old }
+        requires other { CutTree from to other.old }
         ensures taken { IsTakenRow tree_pages from to (tree_row self.old) (tree_row other.old) (tree_row self.new) }
         ensures whole { AreWholeTree self.old → AreWholeTree other.old → AreWholeTree self.new }
-        ensures ready { ReadyTree from to self.new }
+        ensures ready { ReadyTree from to self.old → ReadyTree from to other.old → ReadyTree from to self.new }
     {
         for i in from / BRANCH_PAGES..(to - 1) / BRANCH_PAGES + 1 {
             self.take_branch(other, i, from, to);
@@ -123,11 +124,11 @@ impl Tree {
         requires rise { from < to }
         requires before { branch_pages * i < to }
         requires after { from < branch_pages * i + branch_pages }
-        requires ready { ReadyLimb (from - branch_pages * i) (min (to - branch_pages * i) branch_pages) (branch_at self.old i) }
-        requires other { ReadyLimb (from - branch_pages * i) (min (to - branch_pages * i) branch_pages) (branch_at other.old i) }
+        requires cut { CutLimb (from - branch_pages * i) (min (to - branch_pages * i) branch_pages) (branch_at self.old i) }
+        requires other { CutLimb (from - branch_pages * i) (min (to - branch_pages * i) branch_pages) (branch_at other.old i) }
         ensures taken { IsTakenRow branch_pages (from - branch_pages * i) (min (to - branch_pages * i) branch_pages) (limb_row (branch_at self.old i)) (limb_row (branch_at other.old i)) (limb_row (branch_at self.new i)) }
         ensures whole { AreWholeLimb (branch_at self.old i) → AreWholeLimb (branch_at other.old i) → AreWholeLimb (branch_at self.new i) }
-        ensures ready { ReadyLimb (from - branch_pages * i) (min (to - branch_pages * i) branch_pages) (branch_at self.new i) }
+        ensures ready { ReadyLimb (from - branch_pages * i) (min (to - branch_pages * i) branch_pages) (branch_at self.old i) → ReadyLimb (from - branch_pages * i) (min (to - branch_pages * i) branch_pages) (branch_at other.old i) → ReadyLimb (from - branch_pages * i) (min (to - branch_pages * i) branch_pages) (branch_at self.new i) }
         ensures others { SameOtherBranches i self.old self.new }
         ensures rest { SameOtherBranches i other.old other.new }
     {
@@ -145,11 +146,11 @@ impl TreeRef {
     pub fn take(&mut self, other: &mut TreeRef, from: usize, to: usize)
         requires rise { from < to }
         requires within { to ≤ tree_pages }
-        requires ready { ReadyRoot from to self.old }
-        requires other { ReadyRoot from to other.old }
+        requires cut { CutRoot from to self.old }
+        requires other { CutRoot from to other.old }
         ensures taken { IsTakenRow tree_pages from to (root_row self.old) (root_row other.old) (root_row self.new) }
         ensures whole { AreWholeRoot self.old → AreWholeRoot other.old → AreWholeRoot self.new }
-        ensures ready { ReadyRoot from to self.new }
+        ensures ready { ReadyRoot from to self.old → ReadyRoot from to other.old → ReadyRoot from to self.new }
     {
         if from == 0 && to == TREE_PAGES {
             *self = mem::replace(other, TreeRef::Uniform(0));

@@ -16,7 +16,7 @@ use crate::tree::{BRANCHES, TREE_PAGES, Tree};
 use crate::tree_ref::TreeRef;
 
 impl Block {
-    /// The least page from `from` to before `end` of which bytes are kept. It looks at no page beside.
+    /// The least page from `from` to before `end` of which bytes are kept. It looks at no page beside, and at none where nothing is kept.
     pub fn next_kept(&self, from: usize, end: usize) -> Option<usize>
         requires { end ≤ block_pages }
         ensures from { IfSome result (λ p. from ≤ p) }
@@ -25,6 +25,9 @@ impl Block {
         ensures least { IfSome result (λ p. (q : ℕ) → from ≤ q → q < p → page_in self.now q ≡ None) }
         ensures none { IsNone result → (q : ℕ) → from ≤ q → q < end → page_in self.now q ≡ None }
     {
+        if self.pages.is_empty() {
+            return None;
+        }
         for j in from..end {
             if self.page(j).is_some() {
                 return Some(j);

@@ -2,7 +2,6 @@ ghost use Rattle.std.specs.Prelude.{◌≡◌, ℕ, ◌+◌, ◌-◌, ◌%◌, �
 ghost use Rattle.memory_model.specs.Ranges.{with_copies};
 ghost use Rattle.memory_model.specs.Sizes.{pages};
 ghost use Rattle.page_tree.specs.Blocks.{block_pages, byte_in, within, IsWhole};
-ghost use Rattle.page_tree.specs.Ready.{ReadyRoot};
 ghost use Rattle.page_tree.specs.Trees.{tree_pages};
 ghost use Rattle.page_tree.specs.TreeRefs.{root_page, root_permission, root_row, AreWholeRoot};
 ghost use Rattle.space_mem.specs.Held.{IsOutside, KeepsMarksOutside, Marks};
@@ -78,8 +77,9 @@ impl PageTable {
         Ok(())
     }
 
-    // Gives some pages the bytes and permissions of a source's pages from `from` on; they are dirty then, and ready to be permitted.
-    pub fn copy_part(
+    // Gives some pages the bytes and permissions of a source's pages from `from` on; they are dirty then. Of both trees only what lies across
+    // an end of the range is copied.
+    fn copy_part(
         &mut self,
         source: &PageTable,
         from: usize,
@@ -93,15 +93,14 @@ impl PageTable {
         requires in_range { from + (end - first) ≤ pages }
         ensures table { IsTable self.new }
         ensures ok { OnOk result (memory_of self.new.pages ≡ with_copies (memory_of self.old.pages) (memory_of source.now.pages) from first (end - first)) }
-        ensures ready { OnOk result (ReadyRoot first end self.new.pages) }
         ensures err { OnErr result (held_of self.new ≡ held_of self.old) }
         ensures outside { KeepsMarksOutside first end (held_of self.old) (held_of self.new) }
         ensures marks { Marks (held_of self.old) (held_of self.new) }
     {
         let mut made = move_pages(&source.pages, from, first, end - first, self.alloc)?;
-        made.prepare(first, end, self.alloc)?;
+        made.cut(first, end, self.alloc)?;
         self.dirty.prepare(first, end, self.alloc)?;
-        self.pages.prepare(first, end, self.alloc)?;
+        self.pages.cut(first, end, self.alloc)?;
         self.pages.take(&mut made, first, end);
         self.dirty.permit(first, end, 1);
         Ok(())
@@ -109,7 +108,7 @@ impl PageTable {
 }
 
 // A tree in which `count` pages from `first` on are like a source's from `from` on.
-fn move_pages(
+pub fn move_pages(
     source: &TreeRef,
     from: usize,
     first: usize,

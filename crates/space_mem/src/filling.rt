@@ -6,6 +6,7 @@ ghost use Rattle.page_tree.specs.Ready.{ReadyRoot};
 ghost use Rattle.space_mem.specs.Held.{KeepsMarksOutside, Marks};
 ghost use Rattle.space_mem.specs.Tables.{IsTable, held_of, memory_of};
 
+use crate::copying::move_pages;
 use crate::layout::Pages;
 use crate::memory::Mem;
 use crate::table::PageTable;
@@ -123,7 +124,36 @@ impl PageTable {
         if first == 0 && end == PAGES {
             return self.copy_all_ready(source);
         }
-        self.copy_part(source, from as usize, first as usize, end as usize)
+        self.copy_part_ready(source, from as usize, first as usize, end as usize)
+    }
+
+    // As `copy_part`; the pages are ready to be permitted then.
+    fn copy_part_ready(
+        &mut self,
+        source: &PageTable,
+        from: usize,
+        first: usize,
+        end: usize,
+    ) -> Result<(), AllocError>
+        requires table { IsTable self.old }
+        requires source { IsTable source.now }
+        requires rise { first < end }
+        requires within { end ≤ pages }
+        requires in_range { from + (end - first) ≤ pages }
+        ensures table { IsTable self.new }
+        ensures ok { OnOk result (memory_of self.new.pages ≡ with_copies (memory_of self.old.pages) (memory_of source.now.pages) from first (end - first)) }
+        ensures ready { OnOk result (ReadyRoot first end self.new.pages) }
+        ensures err { OnErr result (held_of self.new ≡ held_of self.old) }
+        ensures outside { KeepsMarksOutside first end (held_of self.old) (held_of self.new) }
+        ensures marks { Marks (held_of self.old) (held_of self.new) }
+    {
+        let mut made = move_pages(&source.pages, from, first, end - first, self.alloc)?;
+        made.prepare(first, end, self.alloc)?;
+        self.dirty.prepare(first, end, self.alloc)?;
+        self.pages.prepare(first, end, self.alloc)?;
+        self.pages.take(&mut made, first, end);
+        self.dirty.permit(first, end, 1);
+        Ok(())
     }
 
     // Takes the bytes and permissions of all of a source's pages; they are dirty then, and ready to be permitted.

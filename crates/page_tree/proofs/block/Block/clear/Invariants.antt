@@ -4,7 +4,6 @@ use Rattle.page_tree.proofs.block.Block.clear.Given as goal
 
 abbrev pub invariant-loop-j : goal.invariant-loop-j
 invariant-loop-j l = record {
-  sized : length l.self.pages ≡ block_pages;
   permissions : l.self.permissions ≡ l.fn.self.permissions;
   pages : (i : ℕ) → page_in l.self i ≡ cond (within l.fn.from l.j i) None (page_in l.fn.self i);
 }

@@ -4,7 +4,6 @@ use Rattle.page_tree.proofs.block.Block.freeze.Given as goal
 
 abbrev pub invariant-loop-j : goal.invariant-loop-j
 invariant-loop-j l = record {
-  sized : length l.self.pages ≡ block_pages;
   same : SameBytes l.fn.self l.self;
   none : (i : ℕ) → i < l.j → is_own_in (page_in l.self i) ≡ false;
   less : (i : ℕ) → is_own_in (page_in l.self i) ≡ true → is_own_in (page_in l.fn.self i) ≡ true;

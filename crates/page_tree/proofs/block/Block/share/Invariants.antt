@@ -4,7 +4,6 @@ use Rattle.page_tree.proofs.block.Block.share.Given as goal
 
 abbrev pub invariant-loop-j : goal.invariant-loop-j
 invariant-loop-j l = record {
-  sized : length l.pages ≡ block_pages;
   byte : (i k : ℕ) → i < l.j → byte_in (slice_index_or l.pages i None) k ≡ byte_in (page_in l.self i) k;
   own : (i : ℕ) → i < l.j → is_own_in (slice_index_or l.pages i None) ≡ is_own_in (page_in l.self i);
   whole : (i : ℕ) → i < l.j → IsWhole (slice_index_or l.pages i None);

@@ -1,4 +1,5 @@
-use Rattle.std.proofs.Common.{◌≡◌, arith, subst, cond}
+use Rattle.std.proofs.Common.{◌≡◌, arith, rules, subst, cond}
+use Rattle.std.proofs.lemmas.Grind.{common_steps}
 use Rattle.page_tree.specs.Blocks.{page_in, permission_in, within}
 use Rattle.page_tree.proofs.block.Block.take.Goals as goal
 
@@ -7,3 +8,12 @@ returns-clause-permissions c j = subst (λ n. permission_in c.loop-j.self j ≡ 
 
 pub returns-clause-pages : goal.returns-clause-pages
 returns-clause-pages c j = subst (λ n. page_in c.loop-j.self j ≡ cond (within c.args.from n j) (page_in c.args.other.now j) (page_in c.args.self.now j)) {x = c.loop-j.j} {y = c.args.to} (omega (arith, c.requires.rise, c.loop-j-test.false, c.loop-j.auto.j-end)) (c.loop-j.invariant.pages j)
+
+pub loop-j-preserved : goal.loop-j-preserved
+loop-j-preserved c = record {
+  long = search rules;
+  permissions = λ i. grind (arith, common_steps, c.loop-j.invariant.permissions i);
+  pages = λ i. grind (arith, common_steps, c.loop-j.invariant.pages i, c.loop-j.invariant.rest c.loop-j.j, c.replace.ensures.slots i, c.replace-page.ensures.was);
+  rights = search rules;
+  rest = search rules;
+}

@@ -2,7 +2,7 @@ use Rattle.std.proofs.Common.{arith, sym, subst, ◌/◌, ◌-◌, ◌*◌, min}
 use Rattle.page_tree.specs.declared.block_ref.BlockRef.{BlockRef}
 use Rattle.page_tree.specs.declared.branch.Branch.{Branch}
 use Rattle.page_tree.specs.Branches.{block_at}
-use Rattle.page_tree.specs.Ready.{ReadyBlock}
+use Rattle.page_tree.specs.Cuts.{CutBlock}
 use Rattle.page_tree.proofs.Spread.{done_none, done_more}
 use Rattle.page_tree.proofs.BlockRanges.{IsTakenPart, IsTakenOf, IsAny, taken_row, taken_whole, taken_ready}
 use Rattle.page_tree.proofs.branch.Branch.take.Goals as goal
@@ -13,15 +13,15 @@ loop-i-init c = record {
   rest = done_none IsAny (c.args.from / 64) (block_at c.args.other.now);
 }
 
-pub take_block-requires-clause-ready : goal.take_block-requires-clause-ready
-take_block-requires-clause-ready c =
+pub take_block-requires-clause-cut : goal.take_block-requires-clause-cut
+take_block-requires-clause-cut c =
     let i = c.loop-i.i in
-    subst (ReadyBlock (c.args.from - 64 * i) (min (c.args.to - 64 * i) 64)) (sym (c.loop-i.invariant.done.above i (omega arith))) (c.requires.ready i (omega arith) (omega arith) (omega arith))
+    subst (CutBlock (c.args.from - 64 * i) (min (c.args.to - 64 * i) 64)) (sym (c.loop-i.invariant.done.above i (omega arith))) (c.requires.cut i (omega arith) (omega arith) (omega arith))
 
 pub take_block-requires-clause-other : goal.take_block-requires-clause-other
 take_block-requires-clause-other c =
     let i = c.loop-i.i in
-    subst (ReadyBlock (c.args.from - 64 * i) (min (c.args.to - 64 * i) 64)) (sym (c.loop-i.invariant.rest.above i (omega arith))) (c.requires.other i (omega arith) (omega arith) (omega arith))
+    subst (CutBlock (c.args.from - 64 * i) (min (c.args.to - 64 * i) 64)) (sym (c.loop-i.invariant.rest.above i (omega arith))) (c.requires.other i (omega arith) (omega arith) (omega arith))
 
 pub loop-i-preserved : goal.loop-i-preserved
 loop-i-preserved c =
@@ -47,4 +47,4 @@ pub returns-clause-whole : goal.returns-clause-whole
 returns-clause-whole c = taken_whole c.args.from c.args.to c.loop-i.i c.args.other.now c.args.self.now c.loop-i.self c.loop-i.invariant.done
 
 pub returns-clause-ready : goal.returns-clause-ready
-returns-clause-ready c = taken_ready c.args.from c.args.to c.loop-i.i c.args.other.now c.args.self.now c.loop-i.self (omega arith) c.loop-i.invariant.done
+returns-clause-ready c mine theirs = taken_ready c.args.from c.args.to c.loop-i.i c.args.other.now c.args.self.now c.loop-i.self (omega arith) c.loop-i.invariant.done mine theirs

@@ -2,7 +2,7 @@ use Rattle.std.proofs.Common.{arith, sym, subst, ◌/◌, ◌-◌, ◌*◌, min}
 use Rattle.page_tree.specs.declared.branch_ref.BranchRef.{BranchRef}
 use Rattle.page_tree.specs.declared.tree.Tree.{Tree}
 use Rattle.page_tree.specs.Trees.{branch_at}
-use Rattle.page_tree.specs.Ready.{ReadyLimb}
+use Rattle.page_tree.specs.Cuts.{CutLimb}
 use Rattle.page_tree.proofs.Spread.{done_none, done_more}
 use Rattle.page_tree.proofs.BranchRanges.{IsTakenPart, IsTakenOf, IsAny, taken_row, taken_whole, taken_ready}
 use Rattle.page_tree.proofs.tree.Tree.take.Goals as goal
@@ -13,15 +13,15 @@ loop-i-init c = record {
   rest = done_none IsAny (c.args.from / 8192) (branch_at c.args.other.now);
 }
 
-pub take_branch-requires-clause-ready : goal.take_branch-requires-clause-ready
-take_branch-requires-clause-ready c =
+pub take_branch-requires-clause-cut : goal.take_branch-requires-clause-cut
+take_branch-requires-clause-cut c =
     let i = c.loop-i.i in
-    subst (ReadyLimb (c.args.from - 8192 * i) (min (c.args.to - 8192 * i) 8192)) (sym (c.loop-i.invariant.done.above i (omega arith))) (c.requires.ready i (omega arith) (omega arith) (omega arith))
+    subst (CutLimb (c.args.from - 8192 * i) (min (c.args.to - 8192 * i) 8192)) (sym (c.loop-i.invariant.done.above i (omega arith))) (c.requires.cut i (omega arith) (omega arith) (omega arith))
 
 pub take_branch-requires-clause-other : goal.take_branch-requires-clause-other
 take_branch-requires-clause-other c =
     let i = c.loop-i.i in
-    subst (ReadyLimb (c.args.from - 8192 * i) (min (c.args.to - 8192 * i) 8192)) (sym (c.loop-i.invariant.rest.above i (omega arith))) (c.requires.other i (omega arith) (omega arith) (omega arith))
+    subst (CutLimb (c.args.from - 8192 * i) (min (c.args.to - 8192 * i) 8192)) (sym (c.loop-i.invariant.rest.above i (omega arith))) (c.requires.other i (omega arith) (omega arith) (omega arith))
 
 pub loop-i-preserved : goal.loop-i-preserved
 loop-i-preserved c =
@@ -47,4 +47,4 @@ pub returns-clause-whole : goal.returns-clause-whole
 returns-clause-whole c = taken_whole c.args.from c.args.to c.loop-i.i c.args.other.now c.args.self.now c.loop-i.self c.loop-i.invariant.done
 
 pub returns-clause-ready : goal.returns-clause-ready
-returns-clause-ready c = taken_ready c.args.from c.args.to c.loop-i.i c.args.other.now c.args.self.now c.loop-i.self (omega arith) c.loop-i.invariant.done
+returns-clause-ready c mine theirs = taken_ready c.args.from c.args.to c.loop-i.i c.args.other.now c.args.self.now c.loop-i.self (omega arith) c.loop-i.invariant.done mine theirs
