@@ -27,7 +27,7 @@ next:   addi a1, s0, 0
         bne a0, zero, kid
         addi s0, s0, 1
         addi s1, s1, 16
-        addi t0, zero, 12
+        addi t0, zero, 14
         bne s0, t0, next
         addi a7, zero, 3        ; Ret
         ecall
@@ -54,8 +54,8 @@ look:   lw t0, 0(s2)
         bgeu t3, t4, same
         addi t0, zero, 0
         lw t4, 0(s1)
-        addi t5, zero, 4
-        beq t4, t5, same        ; Zero
+        andi t4, t4, 4
+        bne t4, zero, same      ; Zero
         lw t4, 12(s1)
         add t3, t3, t4          ; the page of the source
         li t4, marks
@@ -131,3 +131,11 @@ rows:   .word 4                 ; 0: Zero of no page
         .word 1048512
         .word 64
         .word 16384
+        .word 0x3014            ; 12: Zero and Perm 3, from within one block to within another, far behind
+        .word 8193
+        .word 1040318
+        .word 0
+        .word 0x3012            ; Copy and Perm 3, by 8,192 pages, up to within a block
+        .word 16384
+        .word 8193
+        .word 8192

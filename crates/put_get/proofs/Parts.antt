@@ -1,5 +1,6 @@
 -- The parts of Put and Get in the order in which the code does them.
 use Rattle.std.proofs.Common.{◌≡◌, ℕ, Bool, true, false, ◌&&◌, ◌||◌, List, [], ◌∷◌, Option, refl, sym, ◌∙◌, ap}
+use Rattle.memory_model.specs.Memory.{Memory}
 use Rattle.instruction_model.specs.Outcome.{Registers}
 use Rattle.call_model.specs.declared.Transfer.{Transfer}
 use Rattle.call_model.specs.Options.{has, regs, copy, zeroing, merging, perm, start, agreeing, permission, has_two_changes}
@@ -9,7 +10,7 @@ use Rattle.space_model.specs.Block.{registers_at}
 use Rattle.space_model.specs.Meeting.{conflict_refusal, refusal_if}
 use Rattle.space_model.specs.Part.{Part, part_if, with_parts, registers_part, zero_part, copy_part, merge_part, permission_part, block_part, start_part, start_limit, source_page, destination_page, page_count, child_after, caller_after}
 use Rattle.put_get.specs.Meetings.{get_conflict}
-use Rattle.put_get.specs.Ranges.{fill_parts, memory_parts}
+use Rattle.put_get.specs.Ranges.{fill_parts, memory_parts, range_parts}
 
 -- registers pass what changes memory and snapshot alone
 abbrev Passes : Part → Type 0
@@ -75,3 +76,38 @@ joined x c t y changes merges writes permits is =
     let same : part_if (has copy x.options) (copy_part c.memory (source_page x) (destination_page x) (page_count x)) (part_if (has zeroing x.options) (zero_part (destination_page x) (page_count x)) t) ≡ t =
     unfilled (has zeroing x.options) (has copy x.options) (has merging x.options) (zero_part (destination_page x) (page_count x)) (copy_part c.memory (source_page x) (destination_page x) (page_count x)) t changes merges in
     get_in_order x c t t v v y (sym same) (ap (λ b. part_if b merge t) (sym merges)) (ap (λ b. part_if b permit v) (sym permits)) (is ∙ ap (λ b. part_if b (block_part x.block c) v) (sym writes))
+
+no_copy : (zero copied merged : Bool) → ((copied && zero) || ((copied || zero) && merged)) ≡ false → zero ≡ true → copied ≡ false
+no_copy true true m h e = cc
+no_copy true false m h e = refl
+no_copy false c m h e = cc
+
+-- Zero and then Perm, which are both asked for: Copy is not then
+pub zeroed_and_permitted : (x : Transfer) (source : Memory) (t u : Top) → has_two_changes x.options ≡ false → has zeroing x.options ≡ true → has perm x.options ≡ true
+    → u ≡ permission_part (destination_page x) (page_count x) (permission x.options) (zero_part (destination_page x) (page_count x) t) → u ≡ with_parts x.options (range_parts x source) t
+zeroed_and_permitted x source t u changes zeroes permits is =
+    let zero = zero_part (destination_page x) (page_count x) in
+    let copied = copy_part source (source_page x) (destination_page x) (page_count x) in
+    let permit = permission_part (destination_page x) (page_count x) (permission x.options) in
+    let none = no_copy (has zeroing x.options) (has copy x.options) (has merging x.options) changes zeroes in
+    is ∙ ap (λ b. part_if b permit (zero t)) (sym permits) ∙ ap (λ b. part_if (has perm x.options) permit (part_if b copied (zero t))) (sym none)
+    ∙ ap (λ b. part_if (has perm x.options) permit (part_if (has copy x.options) copied (part_if b zero t))) (sym zeroes)
+
+-- Copy and then Perm, which are both asked for, and Zero is not
+pub copied_and_permitted : (x : Transfer) (source : Memory) (t u : Top) → has zeroing x.options ≡ false → has copy x.options ≡ true → has perm x.options ≡ true
+    → u ≡ permission_part (destination_page x) (page_count x) (permission x.options) (copy_part source (source_page x) (destination_page x) (page_count x) t) → u ≡ with_parts x.options (range_parts x source) t
+copied_and_permitted x source t u zeroes copies permits is =
+    let zero = zero_part (destination_page x) (page_count x) in
+    let copied = copy_part source (source_page x) (destination_page x) (page_count x) in
+    let permit = permission_part (destination_page x) (page_count x) (permission x.options) in
+    is ∙ ap (λ b. part_if b permit (copied t)) (sym permits) ∙ ap (λ b. part_if (has perm x.options) permit (part_if b copied t)) (sym copies)
+    ∙ ap (λ b. part_if (has perm x.options) permit (part_if (has copy x.options) copied (part_if b zero t))) (sym zeroes)
+
+-- a Get without Merge and Regs changes the range alone
+pub ranged : (x : Transfer) (c t y : Top) → has merging x.options ≡ false → has regs x.options ≡ false → y ≡ with_parts x.options (range_parts x c.memory) t → y ≡ caller_after x c t
+ranged x c t y merges writes is =
+    let merge = merge_part c.snapshot c.memory (destination_page x) (page_count x) in
+    let permit = permission_part (destination_page x) (page_count x) (permission x.options) in
+    let u = with_parts x.options (fill_parts x c.memory) t in
+    let w = part_if (has perm x.options) permit u in
+    get_in_order x c t u u w y refl (ap (λ b. part_if b merge u) (sym merges)) refl (is ∙ ap (λ b. part_if b (block_part x.block c) w) (sym writes))

@@ -1,6 +1,6 @@
--- What Put and Get change of a memory, from their options, and when that is one change at most.
+-- What Put and Get change of a memory, from their options, when that is one change at most, and when a snapshot comes behind a change.
 -- Our choice: a restatement for proofs.
-use Rattle.std.specs.Prelude.{ℕ, List, [], ◌∷◌, Bool, true, false, if◌then◌else◌}
+use Rattle.std.specs.Prelude.{ℕ, List, [], ◌∷◌, Bool, true, false, ◌&&◌, ◌||◌, if◌then◌else◌}
 use Rattle.memory_model.specs.Memory.{Memory}
 use Rattle.call_model.specs.declared.Transfer.{Transfer}
 use Rattle.call_model.specs.Options.{has, regs, copy, zeroing, merging, perm, snap, permission}
@@ -11,6 +11,14 @@ abbrev pub fill_parts : Transfer → Memory → List (ℕ × Part)
 fill_parts x source =
     (zeroing, zero_part (destination_page x) (page_count x))
     ∷ (copy, copy_part source (source_page x) (destination_page x) (page_count x))
+    ∷ []
+
+-- Zero and Copy, from a source, and Perm
+abbrev pub range_parts : Transfer → Memory → List (ℕ × Part)
+range_parts x source =
+    (zeroing, zero_part (destination_page x) (page_count x))
+    ∷ (copy, copy_part source (source_page x) (destination_page x) (page_count x))
+    ∷ (perm, permission_part (destination_page x) (page_count x) (permission x.options))
     ∷ []
 
 -- what Put changes of a child's memory, and the snapshot that it takes
@@ -32,9 +40,9 @@ abbrev pub at_most_one : List ℕ → ℕ → Bool
 at_most_one [] options = true
 at_most_one (bits ∷ others) options = if has bits options then none_of others options else at_most_one others options
 
--- the options with which Put changes a child's memory or takes its snapshot
-abbrev pub put_changes : List ℕ
-put_changes = zeroing ∷ copy ∷ perm ∷ snap ∷ []
+-- a snapshot is asked for behind a change of memory
+abbrev pub snaps_changed : ℕ → Bool
+snaps_changed options = has snap options && (has zeroing options || (has copy options || has perm options))
 
 -- the options with which Get changes the caller's memory
 abbrev pub get_changes : List ℕ

@@ -13,7 +13,7 @@ ghost use Rattle.put_get.specs.Ranges.{at_most_one, get_changes};
 
 use crate::joining::join;
 use crate::options::{has_agree, has_copy, has_merge, has_perm, has_regs, has_zero};
-use crate::ranges::{destination, fill, permit, share};
+use crate::ranges::{change_range, destination, fill, permit, share};
 use snapshot::{MergeError, merge};
 use space_tree::{Children, Space, Top};
 use std::alloc::{AllocError, Global};
@@ -96,7 +96,7 @@ fn change(x: &Transfer, child: &Top, caller: &mut Top) -> Result<(), MergeError>
 }
 
 // Changes the caller by what the child has. At an error it is as it was.
-#[tactic(auto, using(space_mem::proofs::Dirty::covers_in_same))]
+#[tactic(auto, using(space_mem::proofs::Dirty::covers_in_same, crate::proofs::Parts::ranged))]
 fn take_top(x: &Transfer, child: &Top, caller: &mut Top) -> Result<(), MergeError>
     requires { IsTransfer x.now }
     ensures ok { OnOk result (caller.new ≡ caller_after x.now child.now caller.old) }
@@ -104,6 +104,9 @@ fn take_top(x: &Transfer, child: &Top, caller: &mut Top) -> Result<(), MergeErro
     ensures conflict { IfErr result (MayStop (get_conflict x.now caller.old child.now)) }
     ensures err { OnErr result (caller.new ≡ caller.old) }
 {
+    if !(has_merge(x) || has_regs(x)) {
+        return Ok(change_range(x, child, caller)?);
+    }
     if is_one_change(x) {
         return change(x, child, caller);
     }

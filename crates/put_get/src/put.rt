@@ -1,4 +1,4 @@
-ghost use Rattle.std.specs.Prelude.{◌≡◌, ◌+◌, IfOk, OnOk, OnErr, option_map, true};
+ghost use Rattle.std.specs.Prelude.{◌≡◌, ◌+◌, IfOk, OnOk, OnErr, option_map, true, false};
 ghost use Rattle.call_model.specs.Options as options_of;
 ghost use Rattle.call_model.specs.declared.Call.TheVariants.{Put};
 ghost use Rattle.call_model.specs.Accepted.{IsTransfer};
@@ -10,10 +10,10 @@ ghost use Rattle.space_model.specs.Meeting.{or_fresh};
 ghost use Rattle.space_model.specs.Part.{part_if, with_parts, registers_part, snapshot_part, start_part, start_limit, child_after};
 ghost use Rattle.space_model.specs.Space.{space, none, children_of, find, top_of};
 ghost use Rattle.space_model.specs.Caller.{with_action};
-ghost use Rattle.put_get.specs.Ranges.{memory_parts, at_most_one, put_changes};
+ghost use Rattle.put_get.specs.Ranges.{memory_parts, snaps_changed};
 
 use crate::options::{has_copy, has_limit, has_perm, has_regs, has_snap, has_start, has_zero};
-use crate::ranges::{fill, permit, share};
+use crate::ranges::{change_range, share};
 use snapshot::take;
 use space_tree::{Children, Space, Status, Top};
 use std::alloc::{AllocError, Global};
@@ -55,29 +55,22 @@ fn snap(x: &Transfer, child: &mut Top) -> Result<(), AllocError>
     Ok(())
 }
 
-// One of the changes of the child's memory and of its snapshot at most is asked for.
-fn is_one_change(x: &Transfer) -> bool
-    ensures { result ≡ at_most_one put_changes x.now.options }
+// A snapshot is asked for behind a change of the child's memory.
+fn snaps_changed(x: &Transfer) -> bool
+    ensures { result ≡ snaps_changed x.now.options }
 {
-    if has_zero(x) {
-        !(has_copy(x) || has_perm(x) || has_snap(x))
-    } else if has_copy(x) {
-        !(has_perm(x) || has_snap(x))
-    } else {
-        !(has_perm(x) && has_snap(x))
-    }
+    has_snap(x) && (has_zero(x) || has_copy(x) || has_perm(x))
 }
 
-// Changes the child's memory as the options ask, and takes its snapshot. At an error some of the changes of memory may be there; where
-// there is one change, nothing is changed.
+// Changes the child's memory as the options ask, and takes its snapshot. At an error the memory may be changed, where a snapshot of what
+// is changed is asked for; else nothing is.
 fn change_memory(x: &Transfer, caller: &Top, child: &mut Top) -> Result<(), AllocError>
     requires { IsTransfer x.now }
     ensures ok { OnOk result (child.new ≡ with_parts x.now.options (memory_parts x.now caller.now.memory) child.old) }
-    ensures err { OnErr result (at_most_one put_changes x.now.options ≡ true → child.new ≡ child.old) }
+    ensures err { OnErr result (snaps_changed x.now.options ≡ false → child.new ≡ child.old) }
     ensures kept { OnErr result (record child.new { memory = child.old.memory } ≡ child.old) }
 {
-    fill(x, caller, child)?;
-    permit(x, child)?;
+    change_range(x, caller, child)?;
     snap(x, child)
 }
 
@@ -88,10 +81,10 @@ fn give_memory(x: &Transfer, caller: &Top, child: &mut Top) -> Result<(), AllocE
     ensures ok { OnOk result (child.new ≡ with_parts x.now.options (memory_parts x.now caller.now.memory) child.old) }
     ensures err { OnErr result (child.new ≡ child.old) }
 {
-    if is_one_change(x) {
+    if !snaps_changed(x) {
         return change_memory(x, caller, child);
     }
-    // Of several changes a later one may fail.
+    // The snapshot comes last, and may fail.
     let before = child.memory.frozen()?;
     if let Err(error) = change_memory(x, caller, child) {
         child.memory = before;
