@@ -13,15 +13,12 @@ use Rattle.space_model.specs.Space.{Top, Space, space, Children, none, child, to
 use Rattle.space_model.specs.Path.{under}
 use Rattle.space_model.specs.Event.{NextEvent, rests, moves, meets, next}
 use Rattle.space_model.specs.Meeting.{awaits}
+use Rattle.space_model.proofs.Settled.{both}
 use Rattle.space_model.proofs.Children.{find-over_other, find-over_same, over-over_other, over-over_same, over-at}
 use Rattle.run_model.specs.Schedule.{is_ready, are_ready, may_happen, event, on_child, is_enabled, step}
 use Rattle.run_model.proofs.Fuel.{stopped_rests}
-use Rattle.det_laws.proofs.Frames.{is_whole, is_awaited, is_awaited_whole, meet_other, find-meet_other, meet_below}
-
--- both parts of a test
-both : (a b : Bool) → cond a b false ≡ true → (a ≡ true) × (b ≡ true)
-both true b h = (refl, h)
-both false b h = absurd (true≢false (sym h))
+use Rattle.det_laws.specs.Near.{is_awaited}
+use Rattle.det_laws.proofs.Frames.{is_whole, is_awaited_whole, meet_other, find-meet_other, meet_below}
 
 pub settled_stopped : (c : Space) → is_settled c ≡ true → is_stopped (top_of c).status ≡ true
 settled_stopped (space t cs) h = (both (is_stopped t.status) (are_settled cs) h).0
@@ -42,7 +39,7 @@ child_there f None h = absurd (true≢false (sym h))
 child_there f (Some c) h = (c, refl, h)
 
 -- of a space that has stopped nothing may happen
-stopped_waits : (levels : ℕ) (t : Top) (cs : Children) → is_stopped t.status ≡ true → is_enabled [] levels (space t cs) ≡ true → ⊥
+pub stopped_waits : (levels : ℕ) (t : Top) (cs : Children) → is_stopped t.status ≡ true → is_enabled [] levels (space t cs) ≡ true → ⊥
 stopped_waits levels t cs still may = true≢false (sym may ∙ ap (λ x. may_happen x cs) (stopped_rests levels t still))
 
 -- nor of a settled tree
@@ -67,7 +64,7 @@ ready_child a others n cs c r is e =
     let at : find a.number cs ≡ Some c = ap (λ i. find i cs) (sym e) ∙ is in
     ap (is_ready a.reach) (sym at) ∙ (and_parts _ _ r).0
 
-awaited_settled : (as' : List Await) (n : ℕ) (cs : Children) (c : Space) → is_awaited_whole n as' ≡ true → are_ready as' cs ≡ true
+pub awaited_settled : (as' : List Await) (n : ℕ) (cs : Children) (c : Space) → is_awaited_whole n as' ≡ true → are_ready as' cs ≡ true
     → find n cs ≡ Some c → is_settled c ≡ true
 awaited_settled [] n cs c w r is = absurd (true≢false (sym w))
 awaited_settled (a ∷ others) n cs c w r is = go (λ h. awaited_settled others n cs c h (and_parts _ _ r).1 is) (cases_eq n a.number) (is_whole a.reach) refl
@@ -78,7 +75,7 @@ awaited_settled (a ∷ others) n cs c w r is = go (λ h. awaited_settled others 
     go rec (inl e) false wh = rec (grind (arith, nat_tests))
     go rec (inr ne) b wh = rec (grind (arith, nat_tests))
 
-awaited_stopped : (as' : List Await) (n : ℕ) (cs : Children) (c : Space) → is_awaited n as' ≡ true → are_ready as' cs ≡ true → find n cs ≡ Some c
+pub awaited_stopped : (as' : List Await) (n : ℕ) (cs : Children) (c : Space) → is_awaited n as' ≡ true → are_ready as' cs ≡ true → find n cs ≡ Some c
     → is_stopped (top_of c).status ≡ true
 awaited_stopped [] n cs c w r is = absurd (true≢false (sym w))
 awaited_stopped (a ∷ others) n cs c w r is = go (λ h. awaited_stopped others n cs c h (and_parts _ _ r).1 is) (cases_eq n a.number)

@@ -15,16 +15,12 @@ use Rattle.space_model.specs.Path.{under}
 use Rattle.space_model.specs.Call.{Seen, Edit, change, place, take_away, Meeting, see, seen_of, first_space, below, copy_to, edit, edit_all}
 use Rattle.space_model.specs.Refusals.{first_refusal}
 use Rattle.space_model.specs.Meeting.{awaits, whole, refusals, action, unless_refused, meeting, meet}
+use Rattle.det_laws.specs.Near.{is_awaited}
 use Rattle.space_model.proofs.Children.{find-over_other, find-over_same, over-put_other, over-put_same, put-over_same, over-remove_other, find-put_other, find-put_same, find-remove_other}
 
 abbrev pub is_whole : Reach → Bool
 is_whole Itself = false
 is_whole Whole = true
-
--- a child of this number is awaited
-abbrev pub is_awaited : ℕ → List Await → Bool
-is_awaited n [] = false
-is_awaited n (a ∷ others) = (n == a.number) || is_awaited n others
 
 -- and awaited whole
 abbrev pub is_awaited_whole : ℕ → List Await → Bool
@@ -58,14 +54,14 @@ unless_within : (o : Option Refusal) (t : Top) (m : Meeting) (as' : List Await) 
 unless_within None t m as' h = h
 unless_within (Some r) t m as' h = refl
 
-meeting_within : (levels : ℕ) (k : Call) (t : Top) (seen : List Seen) → are_within (awaits k) (meeting levels k t seen).edits ≡ true
+pub meeting_within : (levels : ℕ) (k : Call) (t : Top) (seen : List Seen) → are_within (awaits k) (meeting levels k t seen).edits ≡ true
 meeting_within levels k t seen = unless_within (first_refusal (refusals levels k t seen)) t (action k t seen) (awaits k) (action_within k t seen)
 
-awaited_whole : (n : ℕ) (as' : List Await) → is_awaited n as' ≡ false → is_awaited_whole n as' ≡ false
+pub awaited_whole : (n : ℕ) (as' : List Await) → is_awaited n as' ≡ false → is_awaited_whole n as' ≡ false
 awaited_whole n [] un = refl
 awaited_whole n (a ∷ others) un = grind (arith, nat_tests, awaited_whole n others)
 
-differs : (n m : ℕ) (as' : List Await) (f : ℕ → List Await → Bool) → f n as' ≡ false → f m as' ≡ true → n ≢ m
+pub differs : (n m : ℕ) (as' : List Await) (f : ℕ → List Await → Bool) → f n as' ≡ false → f m as' ≡ true → n ≢ m
 differs n m as' f a b e = true≢false (sym b ∙ ap (λ i. f i as') (sym e) ∙ a)
 
 -- what is seen does not change by another child

@@ -8,3 +8,4 @@ pub mod Paths
 pub mod Tops
 pub mod Local
 pub mod Moved
+pub mod Near

@@ -14,7 +14,7 @@ use Rattle.det_laws.proofs.Tops.{stands_there, last_stays, puts_itself}
 abbrev GoesOnTo : ℕ → List ℕ → Space → Top → Type 0
 GoesOnTo levels p c v = next (levels - length p) (top_of c) ≡ moves v
 
-one_level : (levels n : ℕ) → pred levels - n ≡ levels - suc n
+pub one_level : (levels n : ℕ) → pred levels - n ≡ levels - suc n
 one_level levels n = omega arith
 
 -- a local event may happen, and puts another top at its path

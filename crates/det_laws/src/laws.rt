@@ -6,9 +6,13 @@ ghost use Rattle.space_model.specs.Path.{at, with_top};
 ghost use Rattle.space_model.specs.Event.{Follows};
 ghost use Rattle.space_model.specs.PathOrder.{IsBefore, ArePaths};
 ghost use Rattle.space_model.specs.Sound.{IsSound};
+ghost use Rattle.space_model.specs.Meeting.{awaits};
+ghost use Rattle.call_model.specs.declared.Call.{Call};
 ghost use Rattle.run_model.specs.Demand.{settle_tree};
+ghost use Rattle.run_model.specs.Schedule.{call_at};
 ghost use Rattle.report_model.specs.Report.{console_of, report};
 ghost use Rattle.det_laws.specs.Leads.{in_a_row};
+ghost use Rattle.det_laws.specs.Near.{IsNear, IsOnWay};
 ghost use Rattle.det_laws.specs.Tops.{top_at};
 ghost use Rattle.det_laws.specs.Tree.{MayHappen, MayAllHappen, NoneMayHappen, after, after_all, effective_steps, events_left, IsPrefix, line_at};
 
@@ -84,4 +88,16 @@ pub fn tops_at_different_paths()
 /// After a list of events each of which may happen in its turn there are as many fewer left in a sound tree.
 pub fn as_many_fewer()
     ensures { (s : Space) (ps : List (List ℕ)) → IsSound s → MayAllHappen ps s → events_left s ≡ length ps + events_left (after_all ps s) }
+{}
+
+/// A top that is put at a path leaves each space that does not stand on the way to that path, with all below it.
+pub fn what_a_top_leaves()
+    ensures { (s : Space) (p q : List ℕ) (t : Top) → (IsOnWay p q → ⊥) → at p (with_top q t s) ≡ at p s }
+{}
+
+/// A call of a sound tree that meets its children leaves the top of each other space that may go on. Where an event may happen after it, the
+/// space there is what it was before, with all below it; or it is the caller, or stands above the caller, or is a child that the call awaits.
+pub fn what_a_meeting_leaves()
+    ensures tops { (s : Space) (p q : List ℕ) (k : Call) → IsSound s → p ≢ q → MayHappen p s → call_at q greatest_depth s ≡ Some k → top_at p (after q s) ≡ top_at p s }
+    ensures near { (s : Space) (p q : List ℕ) (k : Call) → IsSound s → call_at q greatest_depth s ≡ Some k → MayHappen p (after q s) → (at p (after q s) ≡ at p s) ⊎ IsNear (awaits k) p q }
 {}

@@ -1,5 +1,6 @@
 pub mod Entries
 pub mod Children
+pub mod Settled
 pub mod Parts
 pub mod Sound
 pub mod Next

@@ -1,4 +1,4 @@
-use Rattle.space_tree.proofs.Kept.{settled_put}
+use Rattle.space_model.proofs.Settled.{settled_put}
 use Rattle.space_tree.proofs.children.Children.are_settled_with.Goals as goal
 
 pub returns-then-are_known_settled : goal.returns-then-are_known_settled

@@ -2,7 +2,8 @@ use Rattle.std.proofs.Common.{◌∙◌, sym, ap, subst}
 use Rattle.space_model.specs.Space.{are_settled}
 use Rattle.space_tree.specs.Kept.{IsKept}
 use Rattle.space_tree.proofs.Boxes.{removed}
-use Rattle.space_tree.proofs.Kept.{levels_once_removed, settled_remove}
+use Rattle.space_model.proofs.Settled.{settled_remove}
+use Rattle.space_tree.proofs.Kept.{levels_once_removed}
 use Rattle.space_tree.proofs.children.Children.remove.Goals as goal
 
 pub invariant_of-self-else-is_empty : goal.invariant_of-self-else-is_empty
