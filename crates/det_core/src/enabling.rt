@@ -3,7 +3,7 @@ ghost use Rattle.call_model.specs.Limits.{greatest_depth, levels_below};
 ghost use Rattle.space_model.specs.Meeting.{awaits};
 ghost use Rattle.space_model.specs.Event.{next};
 ghost use Rattle.space_model.specs.Space.{top_of, children_of, find};
-ghost use Rattle.run_model.specs.Schedule.{is_ready, are_ready, may_happen, is_enabled};
+ghost use Rattle.run_model.specs.Schedule.{is_ready, are_ready, may_happen, is_enabled, ready_call, call_at};
 
 use space_model::{Await, Reach};
 use space_step::{AcceptedCall, Next, peek};
@@ -57,5 +57,28 @@ pub fn enabled(space: &Space, path: &Path) -> bool
     match at(space, path) {
         Some(found) => may_go_on(found, path.len() as u8),
         None => false,
+    }
+}
+
+// The call that is next of a space at this depth, where what it waits for is ready.
+fn ready_call_here(space: &Space, depth: u8) -> Option<AcceptedCall>
+    requires { depth ≤ greatest_depth }
+    ensures { result ≡ ready_call (next (levels_below depth) (top_of space.now)) (children_of space.now) }
+{
+    match peek(&space.top, depth) {
+        Next::Meet(call) => are_ready(call, &space.children).then_some(call),
+        Next::Local | Next::Stopped => None,
+    }
+}
+
+/// The call that is next of the space at a path, where what it waits for is ready; none exactly where no space stands there, no call is next of
+/// it, or one whose children are not ready.
+#[tactic(auto, using(crate::proofs::Paths::call_found, crate::proofs::Paths::call_missing))]
+pub fn ready_call(space: &Space, path: &Path) -> Option<AcceptedCall>
+    ensures { result ≡ call_at path.now.items greatest_depth space.now }
+{
+    match at(space, path) {
+        Some(found) => ready_call_here(found, path.len() as u8),
+        None => None,
     }
 }

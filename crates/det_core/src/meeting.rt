@@ -1,6 +1,6 @@
-ghost use Rattle.std.specs.Prelude.{◌≡◌, ◌+◌, ◌-◌, ◌≤◌, [], length, IfOk, OnErr};
+ghost use Rattle.std.specs.Prelude.{◌≡◌, ◌+◌, ◌-◌, ◌≤◌, [], length, IfOk, OnOk, OnErr};
 ghost use Rattle.call_model.specs.Limits.{greatest_depth, levels_below};
-ghost use Rattle.det_core.specs.Met.{IsMet};
+ghost use Rattle.run_model.specs.Schedule.{call_at, try_meet};
 
 use crate::stepping::try_call;
 use space_step::{AcceptedCall, Next, peek};
@@ -14,14 +14,17 @@ fn meet_here(
     depth: u8,
 ) -> Result<Option<AcceptedCall>, AllocError>
     requires { depth ≤ greatest_depth }
-    ensures met { IfOk result (λ o. IsMet [] (levels_below depth) o space.old space.new) }
+    ensures call { IfOk result (λ o. o ≡ call_at [] (levels_below depth) space.old) }
+    ensures met { OnOk result (space.new ≡ try_meet [] (levels_below depth) space.old) }
     ensures err { OnErr result (space.new ≡ space.old) }
 {
-    let Next::Meet(call) = peek(&space.top, depth) else {
-        return Ok(None);
-    };
-    let met = try_call(alloc, call, space, depth)?;
-    Ok(met.then_some(call))
+    match peek(&space.top, depth) {
+        Next::Meet(call) => {
+            let met = try_call(alloc, call, space, depth)?;
+            Ok(met.then_some(call))
+        }
+        Next::Local | Next::Stopped => Ok(None),
+    }
 }
 
 // As `meet_here`, of the space at a path from a space at this depth.
@@ -32,7 +35,8 @@ fn meet_below(
     depth: u8,
 ) -> Result<Option<AcceptedCall>, AllocError>
     requires { depth + length path.now ≤ greatest_depth }
-    ensures met { IfOk result (λ o. IsMet path.now (levels_below depth) o space.old space.new) }
+    ensures call { IfOk result (λ o. o ≡ call_at path.now (levels_below depth) space.old) }
+    ensures met { OnOk result (space.new ≡ try_meet path.now (levels_below depth) space.old) }
     ensures err { OnErr result (space.new ≡ space.old) }
 {
     match path {
@@ -46,14 +50,16 @@ fn meet_below(
     }
 }
 
-/// The call that is next of the space at a path, where one is and what it waits for is ready: it has met its children then, and is answered.
-/// Else nothing, and then nothing has changed. Its one error is want of memory, and then nothing has changed either.
+/// The call that is next of the space at a path, where what it waits for is ready: it has met its children then, and is answered. None exactly
+/// where no space stands there, no call is next of it, or one whose children are not ready: nothing has changed then. Its one error is want of
+/// memory, and then nothing has changed either.
 pub fn meet(
     alloc: Global,
     space: &mut Space,
     path: &Path,
 ) -> Result<Option<AcceptedCall>, AllocError>
-    ensures met { IfOk result (λ o. IsMet path.now.items greatest_depth o space.old space.new) }
+    ensures call { IfOk result (λ o. o ≡ call_at path.now.items greatest_depth space.old) }
+    ensures met { OnOk result (space.new ≡ try_meet path.now.items greatest_depth space.old) }
     ensures err { OnErr result (space.new ≡ space.old) }
 {
     meet_below(alloc, space, path.as_slice(), 0)
