@@ -1,5 +1,5 @@
 -- Spaces that went on side by side: put back into their tree, they are so many events of a schedule.
-use Rattle.std.proofs.Common.{◌≡◌, ℕ, zero, ◌+◌, ◌-◌, ◌<◌, ◌≤◌, suc, List, [], ◌∷◌, length, map, get_or, Some, refl, sym, ◌∙◌, ap, ap₂, subst, arith}
+use Rattle.std.proofs.Common.{◌≡◌, ℕ, zero, ◌+◌, ◌-◌, ◌<◌, ◌≤◌, suc, List, [], ◌∷◌, ◌++◌, length, map, get_or, Some, refl, sym, ◌∙◌, ap, ap₂, subst, arith}
 use Rattle.std.specs.Prelude.{Result, Ok, Err, IfOk, MatchResult, Contains}
 use Rattle.std.specs.List.{All, AllZip}
 use Rattle.std.proofs.lemmas.List.Elements.{All-head, All-tail}
@@ -14,6 +14,8 @@ use Rattle.det_laws.proofs.Local.{local_reaches}
 use Rattle.det_laws.proofs.Moved.{Avoids, top_space, other_tops, stopped_stand}
 use Rattle.round_eval.specs.declared.job.Job.{Job}
 use Rattle.round_eval.specs.declared.job.Done.{Done}
+use Rattle.round_eval.specs.declared.begun.Begun.{Begun}
+use Rattle.round_eval.specs.Begun.{IsFor}
 use Rattle.round_eval.specs.Jobs.{job_out, jobs_out, done_out, dones_out, WentOn, events_of}
 
 -- each comes back to where it was
@@ -85,3 +87,46 @@ pub all_stand : (jobs : List Job) (dones : List Done) (start now : Space) → Ar
     → All (HasSpace now) (paths_of (dones_out dones))
 all_stand jobs dones start now out went =
     subst (All (HasSpace now)) (sym (same_paths jobs dones went)) (stopped_stand now (paths_of (jobs_out jobs)) out.held)
+
+-- one more of each
+pub zip_push : {X Y : Type 0} (R : X → Y → Type 0) (xs : List X) (ys : List Y) (x : X) (y : Y) → AllZip R xs ys → R x y → AllZip R (xs ++ x ∷ []) (ys ++ y ∷ [])
+zip_push R [] [] x y all one = (one, tt)
+zip_push R [] (b ∷ ys) x y all one = absurd all
+zip_push R (a ∷ xs) [] x y all one = absurd all
+zip_push R (a ∷ xs) (b ∷ ys) x y all one = (all.0, zip_push R xs ys x y all.1 one)
+
+-- the last of each
+record Parted {X Y : Type 0} (R : X → Y → Type 0) (xs : List X) (ys : List Y) (y : Y) : Type 0 where
+  rest : List X
+  last : X
+  is : xs ≡ rest ++ last ∷ []
+  all : AllZip R rest ys
+  one : R last y
+
+part_last : {X Y : Type 0} (R : X → Y → Type 0) (xs : List X) (ys : List Y) (y : Y) → AllZip R xs (ys ++ y ∷ []) → Parted R xs ys y
+part_last R [] [] y all = absurd all
+part_last R (x ∷ []) [] y all = record { rest = []; last = x; is = refl; all = tt; one = all.0 }
+part_last R (x ∷ w ∷ xs) [] y all = absurd all.1
+part_last R [] (b ∷ ys) y all = absurd all
+part_last R (x ∷ xs) (b ∷ ys) y all =
+    let below = part_last R xs ys y all.1 in
+    record { rest = x ∷ below.rest; last = below.last; is = ap (λ zs. x ∷ zs) below.is; all = (all.0, below.all); one = below.one }
+
+-- all but the last, and the last
+pub with_last : (jobs rest : List Job) (last : Job) (all dones : List Done) (own : Done) → jobs ≡ rest ++ last ∷ [] → all ≡ dones ++ own ∷ [] → AllZip WentOn rest dones → WentOn last own → AllZip WentOn jobs all
+with_last jobs rest last all dones own is are went one = rw (is, are) (zip_push WentOn rest dones last own went one)
+
+-- one more was begun
+pub one_more_begun : (jobs : List Job) (job : Job) (begun more : List Begun) (one : Begun) → more ≡ begun ++ one ∷ [] → AllZip IsFor jobs begun → IsFor job one → AllZip IsFor (jobs ++ job ∷ []) more
+one_more_begun jobs job begun more one is all for = rw is (zip_push IsFor jobs begun job one all for)
+
+-- and one more has ended
+pub one_more_ended : (begun : List Begun) (one : Begun) (dones more : List Done) (done : Done) → more ≡ dones ++ done ∷ [] → ((js : List Job) → AllZip IsFor js begun → AllZip WentOn js dones)
+    → ((j : Job) → IsFor j one → WentOn j done) → (js : List Job) → AllZip IsFor js (begun ++ one ∷ []) → AllZip WentOn js more
+one_more_ended begun one dones more done is so_far ended js all =
+    let parts = part_last IsFor js begun one all in
+    with_last js parts.rest parts.last more dones done parts.is is (so_far parts.rest parts.all) (ended parts.last parts.one)
+
+pub none_ended : (dones : List Done) → dones ≡ [] → (js : List Job) → AllZip IsFor js [] → AllZip WentOn js dones
+none_ended dones is [] all = rw is tt
+none_ended dones is (j ∷ js) all = absurd all

@@ -10,10 +10,12 @@ use Rattle.det_laws.proofs.Leading.{stays, goes_on}
 use Rattle.det_laws.proofs.Local.{leads_may}
 use Rattle.det_laws.proofs.Reaching.{replay_settles}
 use Rattle.det_laws.proofs.Ending.{counted, all_happen}
-use Rattle.run_model.specs.Schedule.{is_enabled, step}
+use Rattle.run_model.specs.Schedule.{is_enabled, step, call_at, where_some, try_meet}
+use Rattle.run_model.proofs.Calls.{call_enabled}
 use Rattle.call_model.specs.declared.Call.{Call}
-use Rattle.std.specs.Prelude.{List, [], ◌∷◌, Some}
-use Rattle.det_core.specs.Met.{IsMet}
+use Rattle.std.specs.Prelude.{List, [], ◌∷◌, Option, Some, None, IfSome, nat_lt}
+use Rattle.std.proofs.lemmas.Bool.Decides.{nat_tests}
+use Rattle.space_step.specs.declared.event.Advance.{Advance}
 use Rattle.round_eval.specs.Later.{IsLater}
 
 pub nothing : (s : Space) → IsLater false s s
@@ -39,6 +41,12 @@ then_more a b s t u first second = record {
 pub went : (s t : Space) (n : ℕ) (b : Bool) → Reaches 8 s n t → (b ≡ true → 1 ≤ n) → IsLater b s t
 went s t n b reached some = record { events = n; reached = reached; some = some }
 
+-- and where a space went on in its place
+pub went_some : (s t : Space) (o : Option Advance) (a : Advance) → o ≡ Some a → IfSome o (λ x. Reaches 8 s x.ran t) → IsLater (nat_lt 0 a.ran) s t
+went_some s t o a is reached =
+    let there : Reaches 8 s a.ran t = subst (λ (x : Option Advance). IfSome x (λ y. Reaches 8 s y.ran t)) is reached in
+    went s t a.ran (nat_lt 0 a.ran) there (λ some. grind (arith, nat_tests))
+
 -- where the first had an event, or only the second may have had one
 pub then_either : (a b : Bool) (s t u : Space) → a ≡ true → IsLater a s t → IsLater b t u → IsLater a s u
 then_either a b s t u is first second =
@@ -48,8 +56,15 @@ pub then_second : (a b : Bool) (s t u : Space) → a ≡ false → IsLater a s t
 then_second a b s t u is first second = subst (λ x. IsLater x s u) (ap (λ x. x || b) is) (then_more a b s t u first second)
 
 -- a call that has met its children is one event
-pub one_met : (p : List ℕ) (call : Call) (s t : Space) → IsMet p 8 (Some call) s t → IsLater true s t
-one_met p call s t met = record { events = 1; reached = (p ∷ [], refl, (met.0, sym met.1)); some = λ e. omega arith }
+pub one_met : (p : List ℕ) (call : Call) (s t : Space) → Some call ≡ call_at p 8 s → t ≡ try_meet p 8 s → IsLater true s t
+one_met p call s t found met =
+    let may = call_enabled p 8 s call (sym found) in
+    let done : t ≡ step p 8 s = met ∙ ap (λ o. where_some o (step p 8 s) s) (sym found) in
+    record { events = 1; reached = (p ∷ [], refl, (may, sym done)); some = λ e. omega arith }
+
+-- and where none is met, nothing has changed
+pub none_met : (p : List ℕ) (s t : Space) → None ≡ call_at p 8 s → t ≡ try_meet p 8 s → IsLater false s t
+none_met p s t found met = nothing_new s t (met ∙ ap (λ o. where_some o (step p 8 s) s) (sym found))
 
 -- it is sound, it settles to the same tree, and where there were some events there are fewer left
 pub later_sound : (b : Bool) (s t : Space) → IsLater b s t → IsSound s → IsSound t

@@ -1,2 +1,3 @@
 pub mod Jobs
 pub mod Later
+pub mod Begun

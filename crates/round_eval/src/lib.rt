@@ -2,12 +2,16 @@
 //! whose time has come.
 #![tactic(auto)]
 
+mod begun;
+mod engine;
 mod going;
 mod hints;
 mod job;
+mod job_run;
 mod moving;
 mod round;
 mod running;
 mod side_by_side;
+mod starting;
 
 pub use running::rounds;

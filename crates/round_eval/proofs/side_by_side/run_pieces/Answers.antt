@@ -1,7 +1,7 @@
 use Rattle.std.proofs.Common.{ap, ◌∙◌}
 use Rattle.rayon.specs.Lists.{vec_items}
 use Rattle.round_eval.proofs.Jobs.{all_answered}
-use Rattle.round_eval.proofs.side_by_side.run_all.Goals as goal
+use Rattle.round_eval.proofs.side_by_side.run_pieces.Goals as goal
 
 pub returns : goal.returns
 returns g c =
