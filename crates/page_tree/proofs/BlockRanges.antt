@@ -130,21 +130,6 @@ replaced_row at kept a b others one = record {
   own = λ p low. replace_blocks at (block_at a) (block_at b) ref_own (is_own_in kept) others one.own p;
 }
 
--- a page of a branch is ready where it is in its block
-pub page_ready : (at : ℕ) (a : Branch) → at < 8192 → ReadyBranch at (at + 1) a → ReadyBlock (at % 64) (at % 64 + 1) (block_at a (at / 64))
-page_ready at a low ready =
-    let h : ReadyBlock (at - 64 * (at / 64)) (min (at + 1 - 64 * (at / 64)) 64) (block_at a (at / 64)) = ready (at / 64) (omega arith) (omega arith) (omega arith) in
-    let l : at - 64 * (at / 64) ≡ at % 64 = omega arith in
-    let m : min (at + 1 - 64 * (at / 64)) 64 ≡ at % 64 + 1 = omega arith in
-    subst (λ n. ReadyBlock n (at % 64 + 1) (block_at a (at / 64))) l (subst (λ n. ReadyBlock (at - 64 * (at / 64)) n (block_at a (at / 64))) m h)
-
-pub ready_page : (at : ℕ) (a : Branch) → ReadyBlock (at % 64) (at % 64 + 1) (block_at a (at / 64)) → ReadyBranch at (at + 1) a
-ready_page at a h k low before after =
-    let e : at / 64 ≡ k = omega arith in
-    let l : at % 64 ≡ at - 64 * k = omega arith in
-    let m : at % 64 + 1 ≡ min (at + 1 - 64 * k) 64 = omega arith in
-    subst (λ n. ReadyBlock (at - 64 * k) n (block_at a k)) m (subst (λ n. ReadyBlock n (at % 64 + 1) (block_at a k)) l (subst (λ n. ReadyBlock (at % 64) (at % 64 + 1) (block_at a n)) e h))
-
 pub replaced_whole : (at : ℕ) (a b : Branch) → SameOtherBlocks (at / 64) a b → (AreWholeIn (block_at a (at / 64)) → AreWholeIn (block_at b (at / 64))) → AreWholeBelow a → AreWholeBelow b
 replaced_whole at a b others one whole k low = elim (cases_eq k (at / 64)) [
   | inl here ↦ subst (λ n. AreWholeIn (block_at b n)) (sym here) (one (subst (λ n. AreWholeIn (block_at a n)) here (whole k low)))

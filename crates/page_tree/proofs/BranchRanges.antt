@@ -131,20 +131,6 @@ replaced_row at kept a b others one = record {
 }
 
 -- a page of a tree is ready where it is in its branch
-pub page_ready : (at : ℕ) (a : Tree) → at < 1048576 → ReadyTree at (at + 1) a → ReadyLimb (at % 8192) (at % 8192 + 1) (branch_at a (at / 8192))
-page_ready at a low ready =
-    let h : ReadyLimb (at - 8192 * (at / 8192)) (min (at + 1 - 8192 * (at / 8192)) 8192) (branch_at a (at / 8192)) = ready (at / 8192) (omega arith) (omega arith) (omega arith) in
-    let l : at - 8192 * (at / 8192) ≡ at % 8192 = omega arith in
-    let m : min (at + 1 - 8192 * (at / 8192)) 8192 ≡ at % 8192 + 1 = omega arith in
-    subst (λ n. ReadyLimb n (at % 8192 + 1) (branch_at a (at / 8192))) l (subst (λ n. ReadyLimb (at - 8192 * (at / 8192)) n (branch_at a (at / 8192))) m h)
-
-pub ready_page : (at : ℕ) (a : Tree) → ReadyLimb (at % 8192) (at % 8192 + 1) (branch_at a (at / 8192)) → ReadyTree at (at + 1) a
-ready_page at a h k low before after =
-    let e : at / 8192 ≡ k = omega arith in
-    let l : at % 8192 ≡ at - 8192 * k = omega arith in
-    let m : at % 8192 + 1 ≡ min (at + 1 - 8192 * k) 8192 = omega arith in
-    subst (λ n. ReadyLimb (at - 8192 * k) n (branch_at a k)) m (subst (λ n. ReadyLimb n (at % 8192 + 1) (branch_at a k)) l (subst (λ n. ReadyLimb (at % 8192) (at % 8192 + 1) (branch_at a n)) e h))
-
 pub replaced_whole : (at : ℕ) (a b : Tree) → SameOtherBranches (at / 8192) a b → (AreWholeLimb (branch_at a (at / 8192)) → AreWholeLimb (branch_at b (at / 8192))) → AreWholeTree a → AreWholeTree b
 replaced_whole at a b others one whole k low = elim (cases_eq k (at / 8192)) [
   | inl here ↦ subst (λ n. AreWholeLimb (branch_at b n)) (sym here) (one (subst (λ n. AreWholeLimb (branch_at a n)) here (whole k low)))

@@ -1,7 +1,7 @@
 -- Where the pages of a range can be exchanged for those of another tree with no memory: each part that has pages of the range and others
 -- beside is its holder's own. A part that the range has all of is kept in any way.
 -- Our choice: a restatement for proofs.
-use Rattle.std.specs.Prelude.{◌≡◌, ℕ, ◌+◌, ◌-◌, ◌*◌, ◌<◌, min}
+use Rattle.std.specs.Prelude.{ℕ, ◌+◌, ◌-◌, ◌*◌, ◌<◌, min}
 use Rattle.page_tree.specs.declared.block_ref.BlockRef.{BlockRef}
 use Rattle.page_tree.specs.declared.branch.Branch.{Branch}
 use Rattle.page_tree.specs.declared.branch_ref.BranchRef.{BranchRef}
@@ -17,6 +17,7 @@ use Rattle.page_tree.specs.Trees.{tree_pages, tree_branches, branch_at}
 
 abbrev pub CutBlock : ℕ → ℕ → BlockRef → Type 0
 CutBlock from to (block_ref.TheVariants.Uniform permission) = IsAll block_pages from to
+CutBlock from to (block_ref.TheVariants.Bare block) = Unit {0}
 CutBlock from to (block_ref.TheVariants.Shared block) = IsAll block_pages from to
 CutBlock from to (block_ref.TheVariants.Own block) = Unit {0}
 

@@ -1,5 +1,6 @@
 pub mod Kept
 pub mod Blocks
+pub mod BareBlocks
 pub mod Rows
 pub mod BlockRefs
 pub mod Branches
@@ -7,6 +8,7 @@ pub mod BranchRefs
 pub mod Trees
 pub mod TreeRefs
 pub mod Ready
+pub mod Replaceable
 pub mod Cuts
 pub mod BlockRows
 pub mod Settled

@@ -1,5 +1,5 @@
--- Where a range of pages can be changed with no memory: each part that has pages of the range and others beside is its holder's own, and
--- so is each block in it that is not uniform.
+-- Where the pages of a range can be permitted or forgotten with no memory: each part that has pages of the range and others beside is its
+-- holder's own, and so is each block in it that is not uniform. A block of permissions alone is always its holder's own.
 -- Our choice: a restatement for proofs.
 use Rattle.std.specs.Prelude.{◌≡◌, ℕ, ◌+◌, ◌-◌, ◌*◌, ◌<◌, min}
 use Rattle.page_tree.specs.declared.block_ref.BlockRef.{BlockRef}
@@ -20,6 +20,7 @@ IsAll n from to = (from ≡ 0) × (to ≡ n)
 
 abbrev pub ReadyBlock : ℕ → ℕ → BlockRef → Type 0
 ReadyBlock from to (block_ref.TheVariants.Uniform permission) = IsAll block_pages from to
+ReadyBlock from to (block_ref.TheVariants.Bare block) = Unit {0}
 ReadyBlock from to (block_ref.TheVariants.Shared block) = ⊥
 ReadyBlock from to (block_ref.TheVariants.Own block) = Unit {0}
 

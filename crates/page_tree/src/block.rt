@@ -1,7 +1,9 @@
 ghost use Rattle.std.specs.Prelude.{◌≡◌, ℕ, ◌+◌, ◌<◌, ◌≤◌, ◌%◌, ◌&&◌, not, nat_lt, cond, IfErr, IfOk, IsErr, IsOk, OnOk, OnErr, IfSome, IsNone, IsTrue, IsFalse, false, true, length, slice_index, slice_index_or};
 ghost use Rattle.page_store.specs.Bytes.{bytes_of, is_own, IsPage, with_bytes_in};
+ghost use Rattle.page_tree.specs.BareBlocks.{bare_permission};
 ghost use Rattle.page_tree.specs.Blocks.{block_pages, page_in, permission_in, byte_in, is_own_in, IsWhole, AreWhole, IsShare, SameBytes, NoneOwn, IsBlankIn, within};
 
+use crate::bare_block::BareBlock;
 use crate::slots::Slots;
 use page_store::PageRef;
 use std::alloc::{AllocError, Global};
@@ -25,6 +27,17 @@ impl Block {
         Block {
             pages: Slots::none(),
             permissions: [permission; BLOCK_PAGES],
+        }
+    }
+
+    /// A block of pages that are not kept, with these permissions.
+    pub fn bare(permissions: [u8; BLOCK_PAGES]) -> Block
+        ensures pages { (j : ℕ) → page_in result j ≡ None }
+        ensures permissions { result.permissions ≡ permissions }
+    {
+        Block {
+            pages: Slots::none(),
+            permissions,
         }
     }
 
@@ -122,6 +135,30 @@ impl Block {
             let page = other.pages.replace(j, None);
             self.pages.replace(j, page);
         }
+    }
+
+    /// Forgets the pages from `from` to before `to`, and takes their permissions from a bare block.
+    pub fn take_bare(&mut self, other: &BareBlock, from: usize, to: usize)
+        requires rise { from ≤ to }
+        requires within { to ≤ block_pages }
+        ensures permissions { (j : ℕ) → permission_in self.new j ≡ cond (within from to j) (bare_permission other.now j) (permission_in self.old j) }
+        ensures pages { (j : ℕ) → page_in self.new j ≡ cond (within from to j) None (page_in self.old j) }
+    {
+        for j in from..to {
+            self.permissions[j] = other.permissions[j];
+            self.pages.replace(j, None);
+        }
+    }
+
+    /// Keeps the pages from `from` to before `to` alone, with their permissions; the others are those of a bare block.
+    pub fn lay_into(&mut self, around: &BareBlock, from: usize, to: usize)
+        requires rise { from ≤ to }
+        requires within { to ≤ block_pages }
+        ensures permissions { (j : ℕ) → j < block_pages → permission_in self.new j ≡ cond (within from to j) (permission_in self.old j) (bare_permission around.now j) }
+        ensures pages { (j : ℕ) → j < block_pages → page_in self.new j ≡ cond (within from to j) (page_in self.old j) None }
+    {
+        self.take_bare(around, 0, from);
+        self.take_bare(around, to, BLOCK_PAGES);
     }
 
     /// The least page from `from` on that has a permission or a byte other than 0.

@@ -1,8 +1,10 @@
-ghost use Rattle.std.specs.Prelude.{◌≡◌, ℕ, ◌+◌, ◌%◌, ◌<◌, ◌≤◌, cond, IfOk, IsOk, OnOk, OnErr, IfSome, IsNone, false, true};
+ghost use Rattle.std.specs.Prelude.{◌≡◌, ℕ, ◌+◌, ◌%◌, ◌<◌, ◌≤◌, cond, IfOk, IsOk, OnOk, OnErr, IfSome, IsNone, None, false, true};
 ghost use Rattle.std.specs.Arc.{arc_value};
-ghost use Rattle.page_tree.specs.Blocks.{block_pages, page_in, permission_in, SameBytes, NoneOwn, AreWhole, IsShare};
-ghost use Rattle.page_tree.specs.BlockRefs.{ref_permission, ref_page, ref_own, IsOwnBlock, AreWholeIn, SameRef, SameOwn, NoneOwnIn, IsOwnedToo, IsBlankAt};
+ghost use Rattle.page_tree.specs.BareBlocks.{bare_permission};
+ghost use Rattle.page_tree.specs.Blocks.{block_pages, page_in, permission_in, byte_in, is_own_in, SameBytes, NoneOwn, AreWhole, IsShare};
+ghost use Rattle.page_tree.specs.BlockRefs.{ref_permission, ref_page, ref_own, IsOwnBlock, IsLoose, AreWholeIn, SameRef, SameOwn, NoneOwnIn, IsOwnedToo, IsBlankAt};
 
+use crate::bare_block::BareBlock;
 use crate::block::{BLOCK_PAGES, Block};
 use page_store::PageRef;
 use std::alloc::{AllocError, Global};
@@ -14,6 +16,8 @@ use std::sync::Arc;
 pub enum BlockRef {
     /// Pages of this permission whose bytes are 0.
     Uniform(u8),
+    /// Pages of these permissions whose bytes are 0.
+    Bare(Box<BareBlock, Global>),
     /// A block that others may hold too. No write changes it.
     Shared(Arc<Block, Global>),
     /// A block of its holder's own.
@@ -29,6 +33,7 @@ impl BlockRef {
     {
         match self {
             BlockRef::Uniform(permission) => *permission,
+            BlockRef::Bare(block) => block.permissions[j],
             BlockRef::Shared(block) => block.permissions[j],
             BlockRef::Own(block) => block.permissions[j],
         }
@@ -42,6 +47,7 @@ impl BlockRef {
     {
         match self {
             BlockRef::Uniform(_) => None,
+            BlockRef::Bare(_) => None,
             BlockRef::Shared(block) => block.page(j),
             BlockRef::Own(block) => block.page(j),
         }
@@ -62,11 +68,40 @@ impl BlockRef {
                 *self = BlockRef::Own(block);
                 Ok(())
             }
+            BlockRef::Bare(block) => {
+                let block = box_bare(block, alloc)?;
+                *self = BlockRef::Own(block);
+                Ok(())
+            }
             BlockRef::Shared(block) => {
                 let block = copy_of(block, alloc)?;
                 *self = BlockRef::Own(block);
                 Ok(())
             }
+            BlockRef::Own(_) => Ok(()),
+        }
+    }
+
+    /// Makes it one whose permissions can be changed one by one: where nothing is kept they are all that it has.
+    pub fn loosen(&mut self, alloc: Global) -> Result<(), AllocError>
+        ensures same { SameRef self.old self.new }
+        ensures owned { OnOk result (SameOwn self.old self.new) }
+        ensures loose { OnOk result (IsLoose self.new) }
+        ensures whole { AreWholeIn self.old → AreWholeIn self.new }
+        ensures err { OnErr result (self.new ≡ self.old) }
+    {
+        match self {
+            BlockRef::Uniform(permission) => {
+                let block = bare_uniform(*permission, alloc)?;
+                *self = BlockRef::Bare(block);
+                Ok(())
+            }
+            BlockRef::Shared(block) => {
+                let block = copy_of(block, alloc)?;
+                *self = BlockRef::Own(block);
+                Ok(())
+            }
+            BlockRef::Bare(_) => Ok(()),
             BlockRef::Own(_) => Ok(()),
         }
     }
@@ -79,6 +114,10 @@ impl BlockRef {
     {
         match self {
             BlockRef::Uniform(permission) => Ok(BlockRef::Uniform(*permission)),
+            BlockRef::Bare(block) => {
+                let copy = block.copy(alloc)?;
+                Ok(BlockRef::Bare(copy))
+            }
             BlockRef::Shared(block) => Ok(BlockRef::Shared(Arc::try_clone(block)?)),
             BlockRef::Own(block) => {
                 let copy = box_share(block, alloc)?;
@@ -96,9 +135,8 @@ impl BlockRef {
         ensures whole { AreWholeIn self.old → AreWholeIn self.new }
     {
         if let BlockRef::Own(block) = self {
-            block.freeze(alloc)?;
-            let shared = arc_of(block, alloc)?;
-            *self = BlockRef::Shared(shared);
+            let frozen = frozen(block, alloc)?;
+            *self = frozen;
         }
         Ok(())
     }
@@ -130,10 +168,31 @@ impl BlockRef {
     {
         match self {
             BlockRef::Uniform(permission) => { if *permission == 0 { None } else { Some(from) } }
+            BlockRef::Bare(block) => block.next_used(from),
             BlockRef::Shared(block) => block.next_used(from),
             BlockRef::Own(block) => block.next_used(from),
         }
     }
+}
+
+// A block's pages as ones that can be shared: their permissions alone where none is kept. At an error, want of memory, some pages may be
+// shared and others owned.
+fn frozen(block: &mut Block, alloc: Global) -> Result<BlockRef, AllocError>
+    ensures permission { IfOk result (λ frozen. (j : ℕ) → j < block_pages → ref_permission frozen j ≡ permission_in block.old j) }
+    ensures byte { IfOk result (λ frozen. (j k : ℕ) → j < block_pages → byte_in (ref_page frozen j) k ≡ byte_in (page_in block.old j) k) }
+    ensures none { IfOk result (λ frozen. NoneOwnIn frozen) }
+    ensures whole { IfOk result (λ frozen. AreWhole block.old → AreWholeIn frozen) }
+    ensures same { OnErr result (SameBytes block.old block.new) }
+    ensures less { OnErr result ((j : ℕ) → j < block_pages → is_own_in (page_in block.new j) ≡ true → is_own_in (page_in block.old j) ≡ true) }
+    ensures still { OnErr result (AreWhole block.old → AreWhole block.new) }
+{
+    if block.pages.is_empty() {
+        let bare = bare_of(block, alloc)?;
+        return Ok(BlockRef::Bare(bare));
+    }
+    block.freeze(alloc)?;
+    let shared = arc_of(block, alloc)?;
+    Ok(BlockRef::Shared(shared))
 }
 
 // A block of pages that are not kept, each with the permission. Like the functions below it is not inlined, so that a loop over many
@@ -144,6 +203,37 @@ fn box_uniform(permission: u8, alloc: Global) -> Result<Box<Block, Global>, Allo
     ensures permissions { IfOk result (λ block. (j : ℕ) → j < block_pages → permission_in block.value j ≡ permission) }
 {
     let block = Box::new(alloc, Block::uniform(permission))?;
+    Ok(block)
+}
+
+// The permissions of pages that each have the permission.
+#[inline(never)]
+fn bare_uniform(permission: u8, alloc: Global) -> Result<Box<BareBlock, Global>, AllocError>
+    ensures { IfOk result (λ block. (j : ℕ) → j < block_pages → bare_permission block.value j ≡ permission) }
+{
+    let block = Box::new(alloc, BareBlock::uniform(permission))?;
+    Ok(block)
+}
+
+// The permissions of a block alone.
+#[inline(never)]
+fn bare_of(block: &Block, alloc: Global) -> Result<Box<BareBlock, Global>, AllocError>
+    ensures { IfOk result (λ bare. bare.value.permissions ≡ block.now.permissions) }
+{
+    let bare = BareBlock {
+        permissions: block.permissions,
+    };
+    let bare = Box::new(alloc, bare)?;
+    Ok(bare)
+}
+
+// A block of pages that are not kept, with the permissions of a bare one.
+#[inline(never)]
+fn box_bare(bare: &BareBlock, alloc: Global) -> Result<Box<Block, Global>, AllocError>
+    ensures pages { IfOk result (λ block. (j : ℕ) → page_in block.value j ≡ None) }
+    ensures permissions { IfOk result (λ block. block.value.permissions ≡ bare.now.permissions) }
+{
+    let block = Box::new(alloc, Block::bare(bare.permissions))?;
     Ok(block)
 }
 

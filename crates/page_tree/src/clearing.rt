@@ -42,6 +42,7 @@ impl BlockRef {
     {
         match self {
             BlockRef::Uniform(_) => {}
+            BlockRef::Bare(_) => {}
             BlockRef::Shared(_) => {}
             BlockRef::Own(block) => block.clear(from, to),
         }

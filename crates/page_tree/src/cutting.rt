@@ -31,7 +31,7 @@ impl BlockRef {
         if is_all(from, to, BLOCK_PAGES) {
             return Ok(());
         }
-        self.own(alloc)
+        self.loosen(alloc)
     }
 }
 

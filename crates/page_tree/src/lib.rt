@@ -1,6 +1,7 @@
 //! Pages of a memory with their permissions, in a tree of three levels whose parts can be shared.
 #![tactic(auto)]
 
+mod bare_block;
 mod block;
 mod block_ref;
 mod branch;
@@ -21,6 +22,7 @@ mod tree;
 mod tree_ref;
 mod walking;
 
+pub use bare_block::BareBlock;
 pub use block::{BLOCK_PAGES, Block};
 pub use block_ref::BlockRef;
 pub use branch::{BLOCKS, Branch};

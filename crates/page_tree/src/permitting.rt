@@ -42,6 +42,7 @@ impl BlockRef {
     {
         match self {
             BlockRef::Uniform(old) => *old = permission,
+            BlockRef::Bare(block) => block.permit(from, to, permission),
             BlockRef::Shared(_) => {}
             BlockRef::Own(block) => block.permit(from, to, permission),
         }

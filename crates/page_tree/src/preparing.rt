@@ -26,19 +26,20 @@ impl BlockRef {
         ensures ready { OnOk result (ReadyBlock from to self.new) }
         ensures whole { AreWholeIn self.old → AreWholeIn self.new }
     {
-        if self.lacks_own(from, to) {
-            return self.own(alloc);
+        if self.is_fixed(from, to) {
+            return self.loosen(alloc);
         }
         Ok(())
     }
 
-    // Whether a range can be changed only in an own block.
-    fn lacks_own(&self, from: usize, to: usize) -> bool
+    // Whether a range cannot be changed as it is.
+    fn is_fixed(&self, from: usize, to: usize) -> bool
         ensures { IsFalse result → ReadyBlock from to self.now }
     {
         match self {
             BlockRef::Uniform(_) => from != 0 || to != BLOCK_PAGES,
-            _ => true,
+            BlockRef::Shared(_) => true,
+            _ => false,
         }
     }
 }

@@ -63,7 +63,7 @@ impl Block {
 }
 
 impl BlockRef {
-    /// The block that keeps a page. There is none where the page lies in a part of one permission.
+    /// The block that keeps a page. There is none where no page beside it is kept either.
     #[inline(always)]
     pub fn block(&self, page: usize) -> Option<&Block>
         requires { page < block_pages }
@@ -73,6 +73,7 @@ impl BlockRef {
     {
         match self {
             BlockRef::Uniform(_) => None,
+            BlockRef::Bare(_) => None,
             BlockRef::Shared(block) => Some(block),
             BlockRef::Own(block) => Some(block),
         }
@@ -80,7 +81,7 @@ impl BlockRef {
 }
 
 impl Branch {
-    /// The block that keeps a page. There is none where the page lies in a part of one permission.
+    /// The block that keeps a page. There is none where no page beside it is kept either.
     #[inline(always)]
     pub fn block(&self, page: usize) -> Option<&Block>
         requires { page < branch_pages }
@@ -96,7 +97,7 @@ impl Branch {
 }
 
 impl BranchRef {
-    /// The block that keeps a page. There is none where the page lies in a part of one permission.
+    /// The block that keeps a page. There is none where no page beside it is kept either.
     #[inline(always)]
     pub fn block(&self, page: usize) -> Option<&Block>
         requires { page < branch_pages }
@@ -113,7 +114,7 @@ impl BranchRef {
 }
 
 impl Tree {
-    /// The block that keeps a page. There is none where the page lies in a part of one permission.
+    /// The block that keeps a page. There is none where no page beside it is kept either.
     #[inline(always)]
     pub fn block(&self, page: usize) -> Option<&Block>
         requires { page < tree_pages }
@@ -129,7 +130,7 @@ impl Tree {
 }
 
 impl TreeRef {
-    /// The block that keeps a page. There is none where the page lies in a part of one permission.
+    /// The block that keeps a page. There is none where no page beside it is kept either.
     #[inline(always)]
     pub fn block(&self, page: usize) -> Option<&Block>
         requires { page < tree_pages }

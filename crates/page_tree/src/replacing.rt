@@ -1,11 +1,12 @@
-ghost use Rattle.std.specs.Prelude.{◌≡◌, ℕ, ◌+◌, ◌/◌, ◌%◌, ◌<◌, ◌==◌, cond, length};
+ghost use Rattle.std.specs.Prelude.{◌≡◌, ℕ, ◌+◌, ◌/◌, ◌%◌, ◌<◌, ◌==◌, cond, length, OnOk};
 ghost use Rattle.page_tree.specs.Blocks.{block_pages, page_in, IsWhole};
-ghost use Rattle.page_tree.specs.BlockRefs.{AreWholeIn, ref_page, ref_row};
-ghost use Rattle.page_tree.specs.Branches.{branch_pages, branch_blocks, block_at, branch_page, AreWholeBelow, branch_row};
-ghost use Rattle.page_tree.specs.BranchRefs.{limb_page, AreWholeLimb, limb_row};
-ghost use Rattle.page_tree.specs.Trees.{tree_pages, tree_branches, branch_at, tree_page, AreWholeTree, tree_row};
-ghost use Rattle.page_tree.specs.TreeRefs.{root_page, AreWholeRoot, root_row};
-ghost use Rattle.page_tree.specs.Ready.{ReadyBlock, ReadyBranch, ReadyLimb, ReadyTree, ReadyRoot, SameOtherBlocks, SameOtherBranches};
+ghost use Rattle.page_tree.specs.BlockRefs.{IsOwnBlock, AreWholeIn, ref_page, ref_row};
+ghost use Rattle.page_tree.specs.Branches.{branch_pages, branch_blocks, block_at, branch_page, SameBelow, SameOwnBelow, AreWholeBelow, branch_row};
+ghost use Rattle.page_tree.specs.BranchRefs.{limb_page, SameLimb, SameOwnLimb, AreWholeLimb, limb_row};
+ghost use Rattle.page_tree.specs.Trees.{tree_pages, tree_branches, branch_at, tree_page, SameTree, SameOwnTree, AreWholeTree, tree_row};
+ghost use Rattle.page_tree.specs.TreeRefs.{root_page, SameRoot, SameOwnRoot, AreWholeRoot, root_row};
+ghost use Rattle.page_tree.specs.Ready.{SameOtherBlocks, SameOtherBranches};
+ghost use Rattle.page_tree.specs.Replaceable.{ReplaceableBelow, ReplaceableLimb, ReplaceableTree, ReplaceableRoot};
 ghost use Rattle.page_tree.specs.Rows.{IsReplacedRow};
 
 use crate::block::{BLOCK_PAGES, Block};
@@ -15,6 +16,7 @@ use crate::branch_ref::BranchRef;
 use crate::tree::Tree;
 use crate::tree_ref::TreeRef;
 use page_store::PageRef;
+use std::alloc::{AllocError, Global};
 
 impl Block {
     /// Exchanges what is kept of a page.
@@ -32,10 +34,10 @@ impl BlockRef {
     /// Exchanges what is kept of a page.
     pub fn replace(&mut self, page: usize, kept: Option<PageRef>) -> Option<PageRef>
         requires within { page < block_pages }
-        requires ready { ReadyBlock page (page + 1) self.old }
+        requires ready { IsOwnBlock self.old }
         ensures was { result ≡ ref_page self.old page }
         ensures replaced { IsReplacedRow block_pages page kept (ref_row self.old) (ref_row self.new) }
-        ensures ready { ReadyBlock page (page + 1) self.new }
+        ensures ready { IsOwnBlock self.new }
         ensures whole { IsWhole kept → AreWholeIn self.old → AreWholeIn self.new }
         ensures given { AreWholeIn self.old → IsWhole result }
     {
@@ -47,13 +49,26 @@ impl BlockRef {
 }
 
 impl Branch {
+    /// Makes the block of a page its holder's own, so that what is kept of the page can be exchanged. Permissions, bytes and owners stay, also
+    /// at the one error, want of memory.
+    pub fn own_block(&mut self, page: usize, alloc: Global) -> Result<(), AllocError>
+        requires { page < branch_pages }
+        ensures same { SameBelow self.old self.new }
+        ensures own { SameOwnBelow self.old self.new }
+        ensures ready { OnOk result (ReplaceableBelow page self.new) }
+        ensures whole { AreWholeBelow self.old → AreWholeBelow self.new }
+    {
+        self.blocks[page / BLOCK_PAGES].own(alloc)?;
+        Ok(())
+    }
+
     /// Exchanges what is kept of a page.
     pub fn replace(&mut self, page: usize, kept: Option<PageRef>) -> Option<PageRef>
         requires within { page < branch_pages }
-        requires ready { ReadyBranch page (page + 1) self.old }
+        requires ready { ReplaceableBelow page self.old }
         ensures was { result ≡ branch_page self.old page }
         ensures replaced { IsReplacedRow branch_pages page kept (branch_row self.old) (branch_row self.new) }
-        ensures ready { ReadyBranch page (page + 1) self.new }
+        ensures ready { ReplaceableBelow page self.new }
         ensures whole { IsWhole kept → AreWholeBelow self.old → AreWholeBelow self.new }
         ensures given { AreWholeBelow self.old → IsWhole result }
     {
@@ -64,10 +79,10 @@ impl Branch {
     fn replace_in_block(&mut self, i: usize, page: usize, kept: Option<PageRef>) -> Option<PageRef>
         requires block { i < branch_blocks }
         requires within { page < block_pages }
-        requires ready { ReadyBlock page (page + 1) (block_at self.old i) }
+        requires ready { IsOwnBlock (block_at self.old i) }
         ensures was { result ≡ ref_page (block_at self.old i) page }
         ensures replaced { IsReplacedRow block_pages page kept (ref_row (block_at self.old i)) (ref_row (block_at self.new i)) }
-        ensures ready { ReadyBlock page (page + 1) (block_at self.new i) }
+        ensures ready { IsOwnBlock (block_at self.new i) }
         ensures whole { IsWhole kept → AreWholeIn (block_at self.old i) → AreWholeIn (block_at self.new i) }
         ensures given { AreWholeIn (block_at self.old i) → IsWhole result }
         ensures others { SameOtherBlocks i self.old self.new }
@@ -77,13 +92,29 @@ impl Branch {
 }
 
 impl BranchRef {
+    /// Makes the block of a page its holder's own, so that what is kept of the page can be exchanged. Permissions, bytes and owners stay, also
+    /// at the one error, want of memory.
+    pub fn own_block(&mut self, page: usize, alloc: Global) -> Result<(), AllocError>
+        requires { page < branch_pages }
+        ensures same { SameLimb self.old self.new }
+        ensures own { SameOwnLimb self.old self.new }
+        ensures ready { OnOk result (ReplaceableLimb page self.new) }
+        ensures whole { AreWholeLimb self.old → AreWholeLimb self.new }
+    {
+        self.own(alloc)?;
+        match self {
+            BranchRef::Own(branch) => branch.own_block(page, alloc),
+            _ => Ok(()),
+        }
+    }
+
     /// Exchanges what is kept of a page.
     pub fn replace(&mut self, page: usize, kept: Option<PageRef>) -> Option<PageRef>
         requires within { page < branch_pages }
-        requires ready { ReadyLimb page (page + 1) self.old }
+        requires ready { ReplaceableLimb page self.old }
         ensures was { result ≡ limb_page self.old page }
         ensures replaced { IsReplacedRow branch_pages page kept (limb_row self.old) (limb_row self.new) }
-        ensures ready { ReadyLimb page (page + 1) self.new }
+        ensures ready { ReplaceableLimb page self.new }
         ensures whole { IsWhole kept → AreWholeLimb self.old → AreWholeLimb self.new }
         ensures given { AreWholeLimb self.old → IsWhole result }
     {
@@ -95,13 +126,26 @@ impl BranchRef {
 }
 
 impl Tree {
+    /// Makes the block of a page its holder's own, so that what is kept of the page can be exchanged. Permissions, bytes and owners stay, also
+    /// at the one error, want of memory.
+    pub fn own_block(&mut self, page: usize, alloc: Global) -> Result<(), AllocError>
+        requires { page < tree_pages }
+        ensures same { SameTree self.old self.new }
+        ensures own { SameOwnTree self.old self.new }
+        ensures ready { OnOk result (ReplaceableTree page self.new) }
+        ensures whole { AreWholeTree self.old → AreWholeTree self.new }
+    {
+        self.branches[page / BRANCH_PAGES].own_block(page % BRANCH_PAGES, alloc)?;
+        Ok(())
+    }
+
     /// Exchanges what is kept of a page.
     pub fn replace(&mut self, page: usize, kept: Option<PageRef>) -> Option<PageRef>
         requires within { page < tree_pages }
-        requires ready { ReadyTree page (page + 1) self.old }
+        requires ready { ReplaceableTree page self.old }
         ensures was { result ≡ tree_page self.old page }
         ensures replaced { IsReplacedRow tree_pages page kept (tree_row self.old) (tree_row self.new) }
-        ensures ready { ReadyTree page (page + 1) self.new }
+        ensures ready { ReplaceableTree page self.new }
         ensures whole { IsWhole kept → AreWholeTree self.old → AreWholeTree self.new }
         ensures given { AreWholeTree self.old → IsWhole result }
     {
@@ -112,10 +156,10 @@ impl Tree {
     fn replace_in_branch(&mut self, i: usize, page: usize, kept: Option<PageRef>) -> Option<PageRef>
         requires branch { i < tree_branches }
         requires within { page < branch_pages }
-        requires ready { ReadyLimb page (page + 1) (branch_at self.old i) }
+        requires ready { ReplaceableLimb page (branch_at self.old i) }
         ensures was { result ≡ limb_page (branch_at self.old i) page }
         ensures replaced { IsReplacedRow branch_pages page kept (limb_row (branch_at self.old i)) (limb_row (branch_at self.new i)) }
-        ensures ready { ReadyLimb page (page + 1) (branch_at self.new i) }
+        ensures ready { ReplaceableLimb page (branch_at self.new i) }
         ensures whole { IsWhole kept → AreWholeLimb (branch_at self.old i) → AreWholeLimb (branch_at self.new i) }
         ensures given { AreWholeLimb (branch_at self.old i) → IsWhole result }
         ensures others { SameOtherBranches i self.old self.new }
@@ -125,13 +169,29 @@ impl Tree {
 }
 
 impl TreeRef {
+    /// Makes the block of a page its holder's own, so that what is kept of the page can be exchanged. Permissions, bytes and owners stay, also
+    /// at the one error, want of memory.
+    pub fn own_block(&mut self, page: usize, alloc: Global) -> Result<(), AllocError>
+        requires { page < tree_pages }
+        ensures same { SameRoot self.old self.new }
+        ensures own { SameOwnRoot self.old self.new }
+        ensures ready { OnOk result (ReplaceableRoot page self.new) }
+        ensures whole { AreWholeRoot self.old → AreWholeRoot self.new }
+    {
+        self.own(alloc)?;
+        match self {
+            TreeRef::Own(tree) => tree.own_block(page, alloc),
+            _ => Ok(()),
+        }
+    }
+
     /// Exchanges what is kept of a page.
     pub fn replace(&mut self, page: usize, kept: Option<PageRef>) -> Option<PageRef>
         requires within { page < tree_pages }
-        requires ready { ReadyRoot page (page + 1) self.old }
+        requires ready { ReplaceableRoot page self.old }
         ensures was { result ≡ root_page self.old page }
         ensures replaced { IsReplacedRow tree_pages page kept (root_row self.old) (root_row self.new) }
-        ensures ready { ReadyRoot page (page + 1) self.new }
+        ensures ready { ReplaceableRoot page self.new }
         ensures whole { IsWhole kept → AreWholeRoot self.old → AreWholeRoot self.new }
         ensures given { AreWholeRoot self.old → IsWhole result }
     {

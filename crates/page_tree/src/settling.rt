@@ -1,6 +1,6 @@
-ghost use Rattle.std.specs.Prelude.{◌≡◌, ℕ, ◌<◌, ◌≤◌, IfSome, IsFalse, IsTrue, None};
+ghost use Rattle.std.specs.Prelude.{◌≡◌, ℕ, ◌<◌, ◌≤◌, IfSome, IsFalse, IsTrue, None, false};
 ghost use Rattle.page_tree.specs.Blocks.{block_pages, page_in, permission_in};
-ghost use Rattle.page_tree.specs.BlockRefs.{AreWholeIn, ref_row};
+ghost use Rattle.page_tree.specs.BlockRefs.{AreWholeIn, ref_own, ref_page, ref_permission, ref_row};
 ghost use Rattle.page_tree.specs.Branches.{branch_pages, branch_blocks, block_at, IsUniformBranch};
 ghost use Rattle.page_tree.specs.BranchRefs.{AreWholeLimb, limb_row};
 ghost use Rattle.page_tree.specs.Ready.{ReadyBlock, ReadyLimb};
@@ -39,16 +39,27 @@ impl Block {
 }
 
 impl BlockRef {
-    /// Makes an own block that keeps no page, and whose pages have one permission, uniform. Pages and permissions stay.
+    /// Makes a block that keeps no page, and whose pages have one permission, uniform. Pages and permissions stay.
     pub(crate) fn settle(&mut self)
         ensures same { IsEqualRow block_pages (ref_row self.old) (ref_row self.new) }
         ensures whole { AreWholeIn self.old → AreWholeIn self.new }
         ensures ready { ReadyBlock 0 block_pages self.old → ReadyBlock 0 block_pages self.new }
     {
-        if let BlockRef::Own(block) = self {
-            if let Some(permission) = block.bare_permission() {
-                *self = BlockRef::Uniform(permission);
-            }
+        if let Some(permission) = self.one_permission() {
+            *self = BlockRef::Uniform(permission);
+        }
+    }
+
+    // The permission of all pages, where no page is kept and all have one.
+    fn one_permission(&self) -> Option<u8>
+        ensures pages { IfSome result (λ permission. (j : ℕ) → j < block_pages → ref_page self.now j ≡ None) }
+        ensures permissions { IfSome result (λ permission. (j : ℕ) → j < block_pages → ref_permission self.now j ≡ permission) }
+        ensures own { IfSome result (λ permission. (j : ℕ) → j < block_pages → ref_own self.now j ≡ false) }
+    {
+        match self {
+            BlockRef::Own(block) => block.bare_permission(),
+            BlockRef::Bare(block) => block.one_permission(),
+            _ => None,
         }
     }
 }

@@ -1,15 +1,16 @@
 ghost use Rattle.std.specs.Prelude.{◌≡◌, ℕ, ◌+◌, ◌-◌, ◌*◌, ◌<◌, ◌≤◌, min, length};
-ghost use Rattle.page_tree.specs.Blocks.{block_pages};
-ghost use Rattle.page_tree.specs.BlockRefs.{AreWholeIn, ref_row};
+ghost use Rattle.page_tree.specs.Blocks.{block_pages, AreWhole};
+ghost use Rattle.page_tree.specs.BlockRows.{block_row};
+ghost use Rattle.page_tree.specs.BlockRefs.{AreWholeIn, IsBareRef, ref_row};
 ghost use Rattle.page_tree.specs.Branches.{branch_pages, branch_blocks, block_at, AreWholeBelow, branch_row};
 ghost use Rattle.page_tree.specs.BranchRefs.{AreWholeLimb, limb_row};
 ghost use Rattle.page_tree.specs.Trees.{tree_pages, tree_branches, branch_at, AreWholeTree, tree_row};
 ghost use Rattle.page_tree.specs.TreeRefs.{AreWholeRoot, root_row};
 ghost use Rattle.page_tree.specs.Cuts.{CutBlock, CutBranch, CutLimb, CutTree, CutRoot};
-ghost use Rattle.page_tree.specs.Ready.{ReadyBlock, ReadyBranch, ReadyLimb, ReadyTree, ReadyRoot, SameOtherBlocks, SameOtherBranches};
+ghost use Rattle.page_tree.specs.Ready.{IsAll, ReadyBlock, ReadyBranch, ReadyLimb, ReadyTree, ReadyRoot, SameOtherBlocks, SameOtherBranches};
 ghost use Rattle.page_tree.specs.Rows.{IsTakenRow};
 
-use crate::block::BLOCK_PAGES;
+use crate::block::{BLOCK_PAGES, Block};
 use crate::block_ref::BlockRef;
 use crate::branch::{BRANCH_PAGES, Branch};
 use crate::branch_ref::BranchRef;
@@ -32,10 +33,52 @@ impl BlockRef {
             *self = mem::replace(other, BlockRef::Uniform(0));
             return;
         }
-        if let BlockRef::Own(mine) = self {
-            if let BlockRef::Own(theirs) = other {
-                mine.take(theirs, from, to);
+        match self {
+            BlockRef::Own(mine) => mine.take_out_of(other, from, to),
+            BlockRef::Bare(_) => self.take_into_bare(other, from, to),
+            _ => {}
+        }
+    }
+
+    // Takes some of the pages, not all, out of another one, where it is bare itself: of an own block it takes the whole, and gives that the
+    // permissions of the pages beside.
+    fn take_into_bare(&mut self, other: &mut BlockRef, from: usize, to: usize)
+        requires rise { from < to }
+        requires within { to ≤ block_pages }
+        requires part { IsAll block_pages from to → ⊥ }
+        requires bare { IsBareRef self.old }
+        requires other { CutBlock from to other.old }
+        ensures taken { IsTakenRow block_pages from to (ref_row self.old) (ref_row other.old) (ref_row self.new) }
+        ensures whole { AreWholeIn other.old → AreWholeIn self.new }
+        ensures ready { ReadyBlock from to self.new }
+    {
+        if let BlockRef::Bare(mine) = self {
+            match other {
+                BlockRef::Bare(theirs) => mine.take(theirs, from, to),
+                BlockRef::Own(theirs) => {
+                    theirs.lay_into(mine, from, to);
+                    *self = mem::replace(other, BlockRef::Uniform(0));
+                }
+                _ => {}
             }
+        }
+    }
+}
+
+impl Block {
+    // Takes some of the pages, not all, and their permissions, out of what is kept of others.
+    fn take_out_of(&mut self, other: &mut BlockRef, from: usize, to: usize)
+        requires rise { from < to }
+        requires within { to ≤ block_pages }
+        requires part { IsAll block_pages from to → ⊥ }
+        requires other { CutBlock from to other.old }
+        ensures taken { IsTakenRow block_pages from to (block_row self.old) (ref_row other.old) (block_row self.new) }
+        ensures whole { AreWhole self.old → AreWholeIn other.old → AreWhole self.new }
+    {
+        match other {
+            BlockRef::Own(theirs) => self.take(theirs, from, to),
+            BlockRef::Bare(theirs) => self.take_bare(theirs, from, to),
+            _ => {}
         }
     }
 }

@@ -66,6 +66,7 @@ impl BlockRef {
     {
         match self {
             BlockRef::Uniform(_) => None,
+            BlockRef::Bare(_) => None,
             BlockRef::Shared(block) => block.next_kept(from, end),
             BlockRef::Own(block) => block.next_kept(from, end),
         }
@@ -81,6 +82,7 @@ impl BlockRef {
     {
         match self {
             BlockRef::Uniform(_) => BLOCK_PAGES,
+            BlockRef::Bare(block) => block.same_end(page),
             BlockRef::Shared(block) => block.bare_end(page),
             BlockRef::Own(block) => block.bare_end(page),
         }

@@ -12,42 +12,41 @@ use Rattle.page_tree.specs.declared.tree_ref.TreeRef.{TreeRef}
 use Rattle.page_tree.specs.declared.block_ref.BlockRef as block_ref
 use Rattle.page_tree.specs.declared.branch_ref.BranchRef as branch_ref
 use Rattle.page_tree.specs.declared.tree_ref.TreeRef as tree_ref
-use Rattle.page_tree.specs.BlockRefs.{ref_page, ref_own}
+use Rattle.page_tree.specs.BlockRefs.{ref_page, ref_own, IsOwnBlock}
 use Rattle.page_tree.specs.Branches.{block_at}
 use Rattle.page_tree.specs.BranchRefs.{limb_page, limb_own}
 use Rattle.page_tree.specs.Trees.{branch_at}
 use Rattle.page_tree.specs.TreeRefs.{root_page, root_own, root_row}
-use Rattle.page_tree.specs.Ready.{ReadyBlock, ReadyLimb, ReadyRoot}
+use Rattle.page_tree.specs.Replaceable.{ReplaceableLimb, ReplaceableRoot}
 use Rattle.page_tree.specs.Rows.{IsReplacedRow}
 use Rattle.space_mem.specs.declared.table.PageTable.{PageTable}
 use Rattle.space_mem.specs.Held.{Owns}
 use Rattle.space_mem.specs.Tables.{held_of}
 use Rattle.space_mem.proofs.Tables.{owned_at, owned_high, owns_own, own_owns}
 
--- in a range that is ready, a page is owned where its bytes are its holder's own
-block_ready : (from to : ℕ) (r : BlockRef) (j : ℕ) → ReadyBlock from to r → ref_own r j ≡ is_own_in (ref_page r j)
-block_ready from to (block_ref.TheVariants.Uniform q) j ready = refl
-block_ready from to (block_ref.TheVariants.Shared b) j ready = absurd ready
-block_ready from to (block_ref.TheVariants.Own b) j ready = refl
+-- in a block that is its holder's own, a page is owned where its bytes are its holder's own
+block_own : (r : BlockRef) (j : ℕ) → IsOwnBlock r → ref_own r j ≡ is_own_in (ref_page r j)
+block_own (block_ref.TheVariants.Uniform q) j own = refl
+block_own (block_ref.TheVariants.Bare b) j own = refl
+block_own (block_ref.TheVariants.Shared b) j own = absurd (false≢true own)
+block_own (block_ref.TheVariants.Own b) j own = refl
 
-limb_ready : (from to : ℕ) (r : BranchRef) (j : ℕ) → from ≤ j → j < to → j < 8192 → ReadyLimb from to r → limb_own r j ≡ is_own_in (limb_page r j)
-limb_ready from to (branch_ref.TheVariants.Uniform q) j low high below ready = refl
-limb_ready from to (branch_ref.TheVariants.Shared b) j low high below ready = absurd ready
-limb_ready from to (branch_ref.TheVariants.Own b) j low high below ready =
-    block_ready (from - 64 * (j / 64)) (min (to - 64 * (j / 64)) 64) (block_at b.value (j / 64)) (j % 64) (ready (j / 64) (omega arith) (omega arith) (omega arith))
+limb_own_in : (r : BranchRef) (j : ℕ) → ReplaceableLimb j r → limb_own r j ≡ is_own_in (limb_page r j)
+limb_own_in (branch_ref.TheVariants.Uniform q) j own = refl
+limb_own_in (branch_ref.TheVariants.Shared b) j own = absurd own
+limb_own_in (branch_ref.TheVariants.Own b) j own = block_own (block_at b.value (j / 64)) (j % 64) own
 
-root_ready : (from to : ℕ) (t : TreeRef) (p : ℕ) → from ≤ p → p < to → p < 1048576 → ReadyRoot from to t → root_own t p ≡ is_own_in (root_page t p)
-root_ready from to (tree_ref.TheVariants.Uniform q) p low high below ready = refl
-root_ready from to (tree_ref.TheVariants.Shared b) p low high below ready = absurd ready
-root_ready from to (tree_ref.TheVariants.Own b) p low high below ready =
-    limb_ready (from - 8192 * (p / 8192)) (min (to - 8192 * (p / 8192)) 8192) (branch_at b.value (p / 8192)) (p % 8192) (omega arith) (omega arith) (omega arith) (ready (p / 8192) (omega arith) (omega arith) (omega arith))
+root_own_in : (t : TreeRef) (p : ℕ) → ReplaceableRoot p t → root_own t p ≡ is_own_in (root_page t p)
+root_own_in (tree_ref.TheVariants.Uniform q) p own = refl
+root_own_in (tree_ref.TheVariants.Shared b) p own = absurd own
+root_own_in (tree_ref.TheVariants.Own b) p own = limb_own_in (branch_at b.value (p / 8192)) (p % 8192) own
 
 -- a page that is its holder's own after it was to be made one that can be shared was owned before
-still_own : {T E : Type 0} (r : Result T E) (t : TreeRef) (page : ℕ) (was now : PageRef) → page < 1048576 → ReadyRoot page (page + 1) t → Some was ≡ root_page t page → OnOk r (is_own now ≡ false) → OnErr r (now ≡ was) → is_own now ≡ true → root_own t page ≡ true
+still_own : {T E : Type 0} (r : Result T E) (t : TreeRef) (page : ℕ) (was now : PageRef) → page < 1048576 → ReplaceableRoot page t → Some was ≡ root_page t page → OnOk r (is_own now ≡ false) → OnErr r (now ≡ was) → is_own now ≡ true → root_own t page ≡ true
 still_own (Ok v) t page was now below ready kept shared same own = absurd (false≢true (sym shared ∙ own))
-still_own (Err e) t page was now below ready kept shared same own = root_ready page (page + 1) t page (omega arith) (omega arith) below ready ∙ ap is_own_in (sym kept) ∙ ap is_own (sym same) ∙ own
+still_own (Err e) t page was now below ready kept shared same own = root_own_in t page ready ∙ ap is_own_in (sym kept) ∙ ap is_own (sym same) ∙ own
 
-pub put_back_less : {T E : Type 0} (r : Result T E) (t u s : TreeRef) (page : ℕ) (was now : PageRef) → page < 1048576 → ReadyRoot page (page + 1) t → Some was ≡ root_page t page → OnOk r (is_own now ≡ false) → OnErr r (now ≡ was)
+pub put_back_less : {T E : Type 0} (r : Result T E) (t u s : TreeRef) (page : ℕ) (was now : PageRef) → page < 1048576 → ReplaceableRoot page t → Some was ≡ root_page t page → OnOk r (is_own now ≡ false) → OnErr r (now ≡ was)
     → IsReplacedRow 1048576 page None (root_row t) (root_row u) → IsReplacedRow 1048576 page (Some now) (root_row u) (root_row s) → (p : ℕ) → p < 1048576 → root_own s p ≡ true → root_own t p ≡ true
 put_back_less r t u s page was now within ready kept shared same out back p below own = elim (cases_eq p page) [
   | inl here ↦

@@ -17,13 +17,13 @@ use Rattle.page_tree.specs.declared.block_ref.BlockRef as block_ref
 use Rattle.page_tree.specs.declared.branch_ref.BranchRef as branch_ref
 use Rattle.page_tree.specs.declared.tree_ref.TreeRef as tree_ref
 use Rattle.page_tree.specs.Blocks.{byte_in, is_own_in, IsWhole, within}
-use Rattle.page_tree.specs.BlockRefs.{ref_own, ref_page}
+use Rattle.page_tree.specs.BlockRefs.{ref_own, ref_page, IsOwnBlock}
 use Rattle.page_tree.specs.Branches.{block_at}
 use Rattle.page_tree.specs.BranchRefs.{limb_own, limb_page, AreWholeLimb}
 use Rattle.page_tree.specs.Trees.{branch_at}
 use Rattle.page_tree.specs.TreeRefs.{root_row, root_permission, root_page, root_own, AreWholeRoot, IsOwnedRoot, SameRoot}
 use Rattle.page_tree.specs.Rows.{SameRow, SameOwners, IsPermittedRow, IsBlankPage}
-use Rattle.page_tree.specs.Ready.{ReadyBlock, ReadyLimb, ReadyRoot}
+use Rattle.page_tree.specs.Replaceable.{ReplaceableLimb, ReplaceableRoot}
 use Rattle.space_mem.specs.declared.table.PageTable.{PageTable}
 use Rattle.space_mem.specs.Held.{Held, Owns, owning, nothing_held, all_pages}
 use Rattle.space_mem.specs.Tables.{memory_of, owned_of, marked_of, IsTable}
@@ -68,6 +68,7 @@ root_whole (tree_ref.TheVariants.Own b) whole p below = limb_whole _ (whole (p /
 -- an owned page is kept as an own one
 block_kept : (r : BlockRef) (p : ℕ) → ref_own r p ≡ true → is_own_in (ref_page r p) ≡ true
 block_kept (block_ref.TheVariants.Uniform q) p own = absurd (false≢true own)
+block_kept (block_ref.TheVariants.Bare b) p own = absurd (false≢true own)
 block_kept (block_ref.TheVariants.Shared b) p own = absurd (false≢true own)
 block_kept (block_ref.TheVariants.Own b) p own = own
 
@@ -81,29 +82,22 @@ own_kept (tree_ref.TheVariants.Uniform q) p own = absurd (false≢true own)
 own_kept (tree_ref.TheVariants.Shared b) p own = absurd (false≢true own)
 own_kept (tree_ref.TheVariants.Own b) p own = limb_kept _ (p % 8192) own
 
--- and can be changed with no memory
-block_ready : (r : BlockRef) (from to p : ℕ) → ref_own r p ≡ true → ReadyBlock from to r
-block_ready (block_ref.TheVariants.Uniform q) from to p own = absurd (false≢true own)
-block_ready (block_ref.TheVariants.Shared b) from to p own = absurd (false≢true own)
-block_ready (block_ref.TheVariants.Own b) from to p own = tt
+-- and can be exchanged for another with no memory
+block_own : (r : BlockRef) (p : ℕ) → ref_own r p ≡ true → IsOwnBlock r
+block_own (block_ref.TheVariants.Uniform q) p own = absurd (false≢true own)
+block_own (block_ref.TheVariants.Bare b) p own = absurd (false≢true own)
+block_own (block_ref.TheVariants.Shared b) p own = absurd (false≢true own)
+block_own (block_ref.TheVariants.Own b) p own = refl
 
-limb_ready : (r : BranchRef) (p : ℕ) → limb_own r p ≡ true → ReadyLimb p (p + 1) r
-limb_ready (branch_ref.TheVariants.Uniform q) p own = absurd (false≢true own)
-limb_ready (branch_ref.TheVariants.Shared b) p own = absurd (false≢true own)
-limb_ready (branch_ref.TheVariants.Own b) p own = λ i low to from.
-    let e : p / 64 ≡ i = omega arith in
-    block_ready (block_at b.value i) _ _ (p % 64) (subst (λ k. ref_own (block_at b.value k) (p % 64) ≡ true) e own)
+limb_replaceable : (r : BranchRef) (p : ℕ) → limb_own r p ≡ true → ReplaceableLimb p r
+limb_replaceable (branch_ref.TheVariants.Uniform q) p own = absurd (false≢true own)
+limb_replaceable (branch_ref.TheVariants.Shared b) p own = absurd (false≢true own)
+limb_replaceable (branch_ref.TheVariants.Own b) p own = block_own (block_at b.value (p / 64)) (p % 64) own
 
-pub own_ready : (t : TreeRef) (p : ℕ) → root_own t p ≡ true → ReadyRoot p (p + 1) t
-own_ready (tree_ref.TheVariants.Uniform q) p own = absurd (false≢true own)
-own_ready (tree_ref.TheVariants.Shared b) p own = absurd (false≢true own)
-own_ready (tree_ref.TheVariants.Own b) p own = λ i low to from.
-    let e : p / 8192 ≡ i = omega arith in
-    let first : p % 8192 ≡ p - 8192 * i = omega arith in
-    let last : p % 8192 + 1 ≡ min (p + 1 - 8192 * i) 8192 = omega arith in
-    let r : BranchRef = branch_at b.value i in
-    let at : ReadyLimb (p % 8192) (p % 8192 + 1) r = limb_ready r (p % 8192) (subst (λ k. limb_own (branch_at b.value k) (p % 8192) ≡ true) e own) in
-    subst (λ n. ReadyLimb n (min (p + 1 - 8192 * i) 8192) r) first (subst (λ n. ReadyLimb (p % 8192) n r) last at)
+pub own_replaceable : (t : TreeRef) (p : ℕ) → root_own t p ≡ true → ReplaceableRoot p t
+own_replaceable (tree_ref.TheVariants.Uniform q) p own = absurd (false≢true own)
+own_replaceable (tree_ref.TheVariants.Shared b) p own = absurd (false≢true own)
+own_replaceable (tree_ref.TheVariants.Own b) p own = limb_replaceable (branch_at b.value (p / 8192)) (p % 8192) own
 
 -- the bounds of a memory
 pub bounded : (t : PageTable) → IsTable t → IsBounded (memory_of t.pages)

@@ -235,9 +235,9 @@ fn move_page(
     ensures whole { AreWholeRoot made.old → AreWholeRoot made.new }
 {
     let kept = share_page(source, at, alloc)?;
-    made.prepare(to, to + 1, alloc)?;
-    made.permit(to, to + 1, source.permission(at));
+    made.own_block(to, alloc)?;
     made.replace(to, kept);
+    made.permit(to, to + 1, source.permission(at));
     Ok(())
 }
 

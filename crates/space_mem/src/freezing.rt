@@ -1,7 +1,7 @@
 ghost use Rattle.std.specs.Prelude.{◌≡◌, ℕ, ◌+◌, ◌<◌, ◌≤◌, OnOk, false, true};
 ghost use Rattle.memory_model.specs.Sizes.{pages};
 ghost use Rattle.memory_model.specs.Sparse.{value_at};
-ghost use Rattle.page_tree.specs.Ready.{ReadyRoot};
+ghost use Rattle.page_tree.specs.Replaceable.{ReplaceableRoot};
 ghost use Rattle.page_tree.specs.Rows.{SameRow};
 ghost use Rattle.page_tree.specs.Trees.{tree_pages};
 ghost use Rattle.page_tree.specs.TreeRefs.{root_own, root_row, AreWholeRoot};
@@ -68,7 +68,7 @@ fn freeze_pages(
 // as it was.
 fn freeze_page(tree: &mut TreeRef, page: usize, alloc: Global) -> Result<(), AllocError>
     requires within { page < tree_pages }
-    requires ready { ReadyRoot page (page + 1) tree.old }
+    requires ready { ReplaceableRoot page tree.old }
     ensures same { SameRow tree_pages (root_row tree.old) (root_row tree.new) }
     ensures none { OnOk result (root_own tree.new page ≡ false) }
     ensures less { (p : ℕ) → p < tree_pages → root_own tree.new p ≡ true → root_own tree.old p ≡ true }

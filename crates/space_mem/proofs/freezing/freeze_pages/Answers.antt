@@ -1,10 +1,10 @@
 use Rattle.std.proofs.Common.{arith, ◌∙◌, refl}
 use Rattle.space_mem.proofs.Freezes.{none_until, none_through}
-use Rattle.space_mem.proofs.Updates.{own_ready}
+use Rattle.space_mem.proofs.Updates.{own_replaceable}
 use Rattle.space_mem.proofs.freezing.freeze_pages.Goals as goal
 
 pub freeze_page-requires-clause-ready : goal.freeze_page-requires-clause-ready
-freeze_page-requires-clause-ready c = own_ready c.loop-page.tree c.in-Some.page c.in-Some.ensures.own
+freeze_page-requires-clause-ready c = own_replaceable c.loop-page.tree c.in-Some.page c.in-Some.ensures.own
 
 pub loop-page-preserved : goal.loop-page-preserved
 loop-page-preserved c =

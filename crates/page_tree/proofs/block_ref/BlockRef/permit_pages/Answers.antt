@@ -5,4 +5,4 @@ use Rattle.page_tree.proofs.block_ref.BlockRef.permit_pages.Goals as goal
 
 pub returns-in-Own-clause-whole : goal.returns-in-Own-clause-whole
 returns-in-Own-clause-whole c whole j low =
-    subst (λ ps. IsWhole (slice_index_or ps j None)) (sym c.permit.ensures.pages) (subst AreWhole (sym c.deref_mut.ensures.value) (subst AreWholeIn c.in-Own.is whole) j low)
+    subst (λ ps. IsWhole (slice_index_or ps j None)) (sym c.permit-in-Own.ensures.pages) (subst AreWhole (sym c.deref_mut-in-Own.ensures.value) (subst AreWholeIn c.in-Own.is whole) j low)

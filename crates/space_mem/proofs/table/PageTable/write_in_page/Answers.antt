@@ -8,13 +8,13 @@ use Rattle.page_tree.specs.TreeRefs.{root_row, root_own}
 use Rattle.space_mem.specs.Held.{Marks}
 use Rattle.space_mem.specs.Tables.{held_of, memory_of}
 use Rattle.space_mem.proofs.Tables.{same_held, owns_own, marked_at}
-use Rattle.space_mem.proofs.Updates.{own_ready, own_kept, owned_row}
+use Rattle.space_mem.proofs.Updates.{own_replaceable, own_kept, owned_row}
 use Rattle.space_mem.proofs.PageEdits.{written_memory, put_back}
 use Rattle.space_mem.proofs.Dirty.{marks_page, bytes_elsewhere}
 use Rattle.space_mem.proofs.table.PageTable.write_in_page.Goals as goal
 
 pub replace-requires-clause-ready : goal.replace-requires-clause-ready
-replace-requires-clause-ready c = own_ready c.args.self.now.pages (c.args.at / 4096) (owns_own c.args.self.now (c.args.at / 4096) (omega arith) c.requires.owned)
+replace-requires-clause-ready c = own_replaceable c.args.self.now.pages (c.args.at / 4096) (owns_own c.args.self.now (c.args.at / 4096) (omega arith) c.requires.owned)
 
 pub write_own_bytes-requires-clause-own : goal.write_own_bytes-requires-clause-own
 write_own_bytes-requires-clause-own c = ap is_own_in c.in-Some.ensures.was ∙ own_kept c.args.self.now.pages (c.args.at / 4096) (owns_own c.args.self.now (c.args.at / 4096) (omega arith) c.requires.owned)

@@ -1,0 +1,10 @@
+use Rattle.std.proofs.Common.{ap, arith, ◌/◌}
+use Rattle.page_tree.specs.BlockRefs.{ref_own}
+use Rattle.page_tree.proofs.Children.{own_set}
+use Rattle.page_tree.proofs.branch.Branch.own_block.Goals as goal
+
+pub returns-clause-own : goal.returns-clause-own
+returns-clause-own c q below = own_set c.args.self.now.blocks (c.args.page / 64) c.index-self-page.result c.own.new.self (omega (arith, c.requires)) c.in_ok-own.ensures.owned q
+
+pub returns-in_err-own-clause-own : goal.returns-in_err-own-clause-own
+returns-in_err-own-clause-own c q below = own_set c.args.self.now.blocks (c.args.page / 64) c.index-self-page.result c.own.new.self (omega (arith, c.requires)) (λ j low. ap (λ r. ref_own r j) c.in_err-own.ensures.err) q
