@@ -1,5 +1,5 @@
 -- The pages of a branch after a range of its blocks is done.
-use Rattle.std.specs.Prelude.{◌≡◌, ℕ, ◌+◌, ◌-◌, ◌*◌, ◌/◌, ◌%◌, ◌<◌, min, false, Option, None}
+use Rattle.std.specs.Prelude.{◌≡◌, ℕ, ◌+◌, ◌-◌, ◌*◌, ◌/◌, ◌%◌, ◌<◌, ◌≤◌, min, true, false, Option, None}
 use Rattle.std.proofs.Common.{ap, sym, arith, subst, refl, inl, inr}
 use Rattle.std.proofs.lemmas.Bool.{cases_eq}
 use Rattle.page_store.specs.declared.PageRef.{PageRef}
@@ -8,7 +8,7 @@ use Rattle.page_tree.specs.declared.branch.Branch.{Branch}
 use Rattle.page_tree.specs.Blocks.{is_own_in}
 use Rattle.page_tree.specs.Rows.{SameRow, SameOwners, IsPermittedRow, IsClearedRow, IsTakenRow, IsReplacedRow}
 use Rattle.page_tree.specs.BlockRefs.{ref_row, ref_permission, ref_page, ref_own, AreWholeIn}
-use Rattle.page_tree.specs.Branches.{block_at, branch_row, AreWholeBelow}
+use Rattle.page_tree.specs.Branches.{block_at, branch_own, branch_row, AreWholeBelow}
 use Rattle.page_tree.specs.Cuts.{CutBlock, CutBranch}
 use Rattle.page_tree.specs.Ready.{ReadyBlock, ReadyBranch, SameOtherBlocks}
 use Rattle.page_tree.proofs.Spread.{IsDone, each, spread_blocks, replace_blocks}
@@ -135,3 +135,38 @@ replaced_whole at a b others one whole k low = elim (cases_eq k (at / 64)) [
   | inl here ↦ subst (λ n. AreWholeIn (block_at b n)) (sym here) (one (subst (λ n. AreWholeIn (block_at a n)) here (whole k low)))
   | inr there ↦ subst AreWholeIn (sym (others k there)) (whole k low)
 ]
+
+-- all that freezing keeps of a block
+pub record IsFrozen (k : ℕ) (r s : BlockRef) : Type 0 where
+  pub same : SameRow 64 (ref_row r) (ref_row s)
+  pub less : (j : ℕ) → j < 64 → ref_own s j ≡ true → ref_own r j ≡ true
+  pub whole : AreWholeIn r → AreWholeIn s
+
+frozen_same : (r : BlockRef) → IsFrozen 0 r r
+frozen_same r = record {
+  same = record { permission = λ p low. refl; byte = λ p k low. refl };
+  less = λ j low own. own;
+  whole = λ w. w;
+}
+
+all_frozen : (first i : ℕ) (a b : Branch) → IsDone IsFrozen first i (block_at a) (block_at b) → (k : ℕ) → IsFrozen 0 (block_at a k) (block_at b k)
+all_frozen first i a b d = each IsFrozen (λ k. IsFrozen 0) first i (block_at a) (block_at b) d (λ k x y h. record { same = h.same; less = h.less; whole = h.whole }) (λ k. frozen_same)
+
+pub frozen_row : (first i : ℕ) (a b : Branch) → IsDone IsFrozen first i (block_at a) (block_at b) → SameRow 8192 (branch_row a) (branch_row b)
+frozen_row first i a b d = record {
+  permission = λ p low. (all_frozen first i a b d (p / 64)).same.permission (p % 64) (omega arith);
+  byte = λ p k low. (all_frozen first i a b d (p / 64)).same.byte (p % 64) k (omega arith);
+}
+
+pub frozen_less : (first i : ℕ) (a b : Branch) → IsDone IsFrozen first i (block_at a) (block_at b) → (p : ℕ) → p < 8192 → branch_own b p ≡ true → branch_own a p ≡ true
+frozen_less first i a b d p low = (all_frozen first i a b d (p / 64)).less (p % 64) (omega arith)
+
+pub frozen_whole : (first i : ℕ) (a b : Branch) → IsDone IsFrozen first i (block_at a) (block_at b) → AreWholeBelow a → AreWholeBelow b
+frozen_whole first i a b d whole k low = (all_frozen first i a b d k).whole (whole k low)
+
+-- what a range has of a block is not owned
+abbrev pub IsShared : ℕ → ℕ → ℕ → BlockRef → BlockRef → Type 0
+IsShared from to k r s = (j : ℕ) → from - 64 * k ≤ j → j < min (to - 64 * k) 64 → ref_own s j ≡ false
+
+pub shared_row : (from to i : ℕ) (a b : Branch) → i ≡ (to - 1) / 64 + 1 → IsDone (IsShared from to) (from / 64) i (block_at a) (block_at b) → (p : ℕ) → from ≤ p → p < to → branch_own b p ≡ false
+shared_row from to i a b last d p low high = d.done (p / 64) (omega arith) (omega arith) (p % 64) (omega arith) (omega arith)

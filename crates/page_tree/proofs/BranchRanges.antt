@@ -1,5 +1,5 @@
 -- The pages of a tree after a range of its branches is done.
-use Rattle.std.specs.Prelude.{◌≡◌, ℕ, ◌+◌, ◌-◌, ◌*◌, ◌/◌, ◌%◌, ◌<◌, min, false, Option, None}
+use Rattle.std.specs.Prelude.{◌≡◌, ℕ, ◌+◌, ◌-◌, ◌*◌, ◌/◌, ◌%◌, ◌<◌, ◌≤◌, min, true, false, Option, None}
 use Rattle.std.proofs.Common.{ap, sym, arith, subst, refl, inl, inr}
 use Rattle.std.proofs.lemmas.Bool.{cases_eq}
 use Rattle.page_store.specs.declared.PageRef.{PageRef}
@@ -8,7 +8,7 @@ use Rattle.page_tree.specs.declared.tree.Tree.{Tree}
 use Rattle.page_tree.specs.Blocks.{is_own_in}
 use Rattle.page_tree.specs.Rows.{SameRow, SameOwners, IsPermittedRow, IsClearedRow, IsTakenRow, IsReplacedRow}
 use Rattle.page_tree.specs.BranchRefs.{limb_row, limb_permission, limb_page, limb_own, AreWholeLimb}
-use Rattle.page_tree.specs.Trees.{branch_at, tree_row, AreWholeTree}
+use Rattle.page_tree.specs.Trees.{branch_at, tree_own, tree_row, AreWholeTree}
 use Rattle.page_tree.specs.Cuts.{CutLimb, CutTree}
 use Rattle.page_tree.specs.Ready.{ReadyLimb, ReadyTree, SameOtherBranches}
 use Rattle.page_tree.proofs.Spread.{IsDone, each, spread_branches, replace_branches}
@@ -136,3 +136,38 @@ replaced_whole at a b others one whole k low = elim (cases_eq k (at / 8192)) [
   | inl here ↦ subst (λ n. AreWholeLimb (branch_at b n)) (sym here) (one (subst (λ n. AreWholeLimb (branch_at a n)) here (whole k low)))
   | inr there ↦ subst AreWholeLimb (sym (others k there)) (whole k low)
 ]
+
+-- all that freezing keeps of a branch
+pub record IsFrozen (k : ℕ) (r s : BranchRef) : Type 0 where
+  pub same : SameRow 8192 (limb_row r) (limb_row s)
+  pub less : (j : ℕ) → j < 8192 → limb_own s j ≡ true → limb_own r j ≡ true
+  pub whole : AreWholeLimb r → AreWholeLimb s
+
+frozen_same : (r : BranchRef) → IsFrozen 0 r r
+frozen_same r = record {
+  same = record { permission = λ p low. refl; byte = λ p k low. refl };
+  less = λ j low own. own;
+  whole = λ w. w;
+}
+
+all_frozen : (first i : ℕ) (a b : Tree) → IsDone IsFrozen first i (branch_at a) (branch_at b) → (k : ℕ) → IsFrozen 0 (branch_at a k) (branch_at b k)
+all_frozen first i a b d = each IsFrozen (λ k. IsFrozen 0) first i (branch_at a) (branch_at b) d (λ k x y h. record { same = h.same; less = h.less; whole = h.whole }) (λ k. frozen_same)
+
+pub frozen_row : (first i : ℕ) (a b : Tree) → IsDone IsFrozen first i (branch_at a) (branch_at b) → SameRow 1048576 (tree_row a) (tree_row b)
+frozen_row first i a b d = record {
+  permission = λ p low. (all_frozen first i a b d (p / 8192)).same.permission (p % 8192) (omega arith);
+  byte = λ p k low. (all_frozen first i a b d (p / 8192)).same.byte (p % 8192) k (omega arith);
+}
+
+pub frozen_less : (first i : ℕ) (a b : Tree) → IsDone IsFrozen first i (branch_at a) (branch_at b) → (p : ℕ) → p < 1048576 → tree_own b p ≡ true → tree_own a p ≡ true
+frozen_less first i a b d p low = (all_frozen first i a b d (p / 8192)).less (p % 8192) (omega arith)
+
+pub frozen_whole : (first i : ℕ) (a b : Tree) → IsDone IsFrozen first i (branch_at a) (branch_at b) → AreWholeTree a → AreWholeTree b
+frozen_whole first i a b d whole k low = (all_frozen first i a b d k).whole (whole k low)
+
+-- what a range has of a branch is not owned
+abbrev pub IsShared : ℕ → ℕ → ℕ → BranchRef → BranchRef → Type 0
+IsShared from to k r s = (j : ℕ) → from - 8192 * k ≤ j → j < min (to - 8192 * k) 8192 → limb_own s j ≡ false
+
+pub shared_row : (from to i : ℕ) (a b : Tree) → i ≡ (to - 1) / 8192 + 1 → IsDone (IsShared from to) (from / 8192) i (branch_at a) (branch_at b) → (p : ℕ) → from ≤ p → p < to → tree_own b p ≡ false
+shared_row from to i a b last d p low high = d.done (p / 8192) (omega arith) (omega arith) (p % 8192) (omega arith) (omega arith)

@@ -8,6 +8,7 @@ mod branch;
 mod branch_ref;
 mod clearing;
 mod cutting;
+mod freezing;
 mod moving;
 mod owners;
 mod permitting;
