@@ -8,3 +8,4 @@ mod BlockEdits
 mod LimbEdits
 mod Blockwise
 pub mod Cuts
+mod Alike

@@ -13,3 +13,4 @@ pub mod Cuts
 pub mod BlockRows
 pub mod Settled
 pub mod Blockwise
+pub mod Uniforms

@@ -15,6 +15,7 @@ mod permitting;
 mod preparing;
 mod reading;
 mod replacing;
+mod same;
 mod settling;
 mod slots;
 mod storing;

@@ -1,0 +1,16 @@
+use Rattle.std.proofs.Common.{sym, subst}
+use Rattle.page_tree.specs.Rows.{SameRow}
+use Rattle.page_tree.specs.Uniforms.{uniform_row}
+use Rattle.page_tree.specs.Branches.{branch_row}
+use Rattle.page_tree.specs.BranchRefs.{limb_row}
+use Rattle.page_tree.proofs.branch_ref.BranchRef.is_all.Goals as goal
+
+pub returns-in-Shared-clause-differs : goal.returns-in-Shared-clause-differs
+returns-in-Shared-clause-differs c other same =
+    let here = subst (λ r. SameRow 8192 (uniform_row c.args.permission) (limb_row r)) c.in-Shared.is same in
+    c.is_all.ensures.differs other (subst (λ b. SameRow 8192 (uniform_row c.args.permission) (branch_row b)) (sym c.deref.ensures) (record { permission = here.permission; byte = here.byte }))
+
+pub returns-in-Own-clause-differs : goal.returns-in-Own-clause-differs
+returns-in-Own-clause-differs c other same =
+    let here = subst (λ r. SameRow 8192 (uniform_row c.args.permission) (limb_row r)) c.in-Own.is same in
+    c.is_all-in-Own.ensures.differs other (subst (λ b. SameRow 8192 (uniform_row c.args.permission) (branch_row b)) (sym c.deref-in-Own.ensures) (record { permission = here.permission; byte = here.byte }))

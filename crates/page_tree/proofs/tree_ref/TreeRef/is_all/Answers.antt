@@ -1,0 +1,16 @@
+use Rattle.std.proofs.Common.{sym, subst}
+use Rattle.page_tree.specs.Rows.{SameRow}
+use Rattle.page_tree.specs.Uniforms.{uniform_row}
+use Rattle.page_tree.specs.Trees.{tree_row}
+use Rattle.page_tree.specs.TreeRefs.{root_row}
+use Rattle.page_tree.proofs.tree_ref.TreeRef.is_all.Goals as goal
+
+pub returns-in-Shared-clause-differs : goal.returns-in-Shared-clause-differs
+returns-in-Shared-clause-differs c other same =
+    let here = subst (λ r. SameRow 1048576 (uniform_row c.args.permission) (root_row r)) c.in-Shared.is same in
+    c.is_all.ensures.differs other (subst (λ b. SameRow 1048576 (uniform_row c.args.permission) (tree_row b)) (sym c.deref.ensures) (record { permission = here.permission; byte = here.byte }))
+
+pub returns-in-Own-clause-differs : goal.returns-in-Own-clause-differs
+returns-in-Own-clause-differs c other same =
+    let here = subst (λ r. SameRow 1048576 (uniform_row c.args.permission) (root_row r)) c.in-Own.is same in
+    c.is_all-in-Own.ensures.differs other (subst (λ b. SameRow 1048576 (uniform_row c.args.permission) (tree_row b)) (sym c.deref-in-Own.ensures) (record { permission = here.permission; byte = here.byte }))
