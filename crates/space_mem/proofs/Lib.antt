@@ -8,3 +8,4 @@ pub mod Dirty
 pub mod PageEdits
 pub mod Freezes
 pub mod Copies
+pub mod Alike

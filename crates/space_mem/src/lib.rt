@@ -12,6 +12,7 @@ mod owning;
 mod ranges;
 mod reading;
 mod rights;
+mod same;
 mod sharing;
 mod table;
 mod writing;
