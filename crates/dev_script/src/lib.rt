@@ -5,6 +5,7 @@ mod devices;
 mod fault;
 mod item;
 mod reading;
+mod same;
 mod words;
 
 pub use devices::Devices;

@@ -1,0 +1,16 @@
+ghost use Rattle.std.specs.Prelude.{◌≡◌, true, false};
+
+use crate::devices::Devices;
+
+impl Devices {
+    /// Whether both have the same left to give, and the same on the console. It takes no memory.
+    pub fn same(&self, other: &Devices) -> bool
+        ensures same { result ≡ true → self.now ≡ other.now }
+        ensures differs { result ≡ false → self.now ≡ other.now → ⊥ }
+    {
+        self.input == other.input
+            && self.clocks == other.clocks
+            && self.numbers == other.numbers
+            && self.console == other.console
+    }
+}
