@@ -8,3 +8,4 @@ pub mod Copies
 pub mod Sizes
 pub mod Sounds
 pub mod Words
+pub mod Alike
