@@ -79,7 +79,10 @@ fn write_root<O: Sink, E: Sink>(
     let Ok(text) = report(alloc, space, digest) else {
         return End::NoMemory;
     };
-    if let Err(error) = write_all(out, space.top.console()) {
+    let Ok(console) = space.top.console(alloc) else {
+        return End::NoMemory;
+    };
+    if let Err(error) = write_all(out, &console) {
         return write_end(error);
     }
     if let Err(error) = write_all(err, &text) {

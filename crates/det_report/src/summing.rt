@@ -38,7 +38,7 @@ pub fn summary(alloc: Global, space: &Space) -> Result<Vec<u8>, AllocError>
 {
     let threads = space.children.entries().len();
     let Sums { spaces, used } = sums_of(space);
-    let console = space.top.console().len();
+    let console = space.top.console_len();
     let root = stop_text(alloc, space.top.status)?;
     let text = format!(in alloc;
         "threads {threads} spaces {spaces} used {used} console {console} root {root}\n"

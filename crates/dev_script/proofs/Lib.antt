@@ -1,3 +1,4 @@
 pub mod Loops
 pub mod Pairs
 pub mod Found
+mod Runs

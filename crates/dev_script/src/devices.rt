@@ -1,22 +1,23 @@
 ghost use Rattle.std.specs.Prelude.{◌≡◌, IfOk};
 ghost use Rattle.dev_script.specs.View.{no_devices};
 
+use crate::console::Console;
+use crate::feeds::{ByteFeed, NumberFeed};
 use std::alloc::{AllocError, Global};
-use std::collections::VecDeque;
 use std::marker::Model;
 
 /// What only the root has: what its script gives it, as far as it has not been taken yet, and its console. Each has its
-/// first one in front.
+/// first one in front. Copies share what is given, and all but the last bytes of the console.
 #[derive(Drop)]
 pub struct Devices {
     /// The bytes of the console's input that are left.
-    pub input: VecDeque<u8>,
+    pub input: ByteFeed,
     /// The readings of the clock that are left.
-    pub clocks: VecDeque<u32>,
+    pub clocks: NumberFeed,
     /// The random numbers that are left.
-    pub numbers: VecDeque<u32>,
+    pub numbers: NumberFeed,
     /// The bytes that were written to the console.
-    pub console: Vec<u8>,
+    pub console: Console,
 }
 
 impl Model for Devices {
@@ -27,10 +28,10 @@ impl Model for Devices {
     ghost coded = { coded_devices };
 
     ghost view = { λ d. record {
-      input = d.input.items;
-      clocks = d.clocks.items;
-      numbers = d.numbers.items;
-      console = d.console.items;
+      input = d.input;
+      clocks = d.clocks;
+      numbers = d.numbers;
+      console = d.console;
     } };
 }
 
@@ -40,22 +41,22 @@ impl Devices {
         ensures { result ≡ no_devices }
     {
         Devices {
-            input: VecDeque::new(alloc),
-            clocks: VecDeque::new(alloc),
-            numbers: VecDeque::new(alloc),
-            console: Vec::new(alloc),
+            input: ByteFeed::none(),
+            clocks: NumberFeed::none(),
+            numbers: NumberFeed::none(),
+            console: Console::new(alloc),
         }
     }
 
-    /// Equal devices. The one error is want of memory.
+    /// Equal devices, which share what is given, and all but the last bytes of the console. The one error is want of memory.
     pub fn copy(&self) -> Result<Devices, AllocError>
         ensures { IfOk result (λ d. d ≡ self.now) }
     {
         Ok(Devices {
-            input: self.input.clone()?,
-            clocks: self.clocks.clone()?,
-            numbers: self.numbers.clone()?,
-            console: self.console.clone()?,
+            input: self.input.copy()?,
+            clocks: self.clocks.copy()?,
+            numbers: self.numbers.copy()?,
+            console: self.console.copy()?,
         })
     }
 }

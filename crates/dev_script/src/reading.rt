@@ -6,11 +6,12 @@ ghost use Rattle.device_model.specs.Devices as model;
 ghost use Rattle.script_model.specs.Reading.{script_of};
 ghost use Rattle.script_model.specs.Script.{ScriptOf, IsFirstRefused};
 
+use crate::console::Console;
 use crate::devices::Devices;
 use crate::fault::{ScriptFault, bad};
+use crate::feeds::{ByteFeed, NumberFeed};
 use crate::item::{Item, item_of};
 use std::alloc::{AllocError, Global};
-use std::collections::VecDeque;
 use text_lines::first_line;
 
 /// What the lines so far have said.
@@ -64,22 +65,23 @@ fn lines_of(alloc: Global, bytes: &[u8]) -> Result<Script, ScriptFault>
 }
 
 // The devices of these lines, with nothing on the console.
-fn devices_of(alloc: Global, script: Script) -> Devices
-    ensures { result ≡ script_view script }
+fn devices_of(alloc: Global, script: Script) -> Result<Devices, AllocError>
+    ensures { IfOk result (λ devices. devices ≡ script_view script) }
 {
-    Devices {
-        input: VecDeque::from_vec(script.input),
-        clocks: VecDeque::from_vec(script.clocks),
-        numbers: VecDeque::from_vec(script.numbers),
-        console: Vec::new(alloc),
-    }
+    Ok(Devices {
+        input: ByteFeed::new(alloc, script.input)?,
+        clocks: NumberFeed::new(alloc, script.clocks)?,
+        numbers: NumberFeed::new(alloc, script.numbers)?,
+        console: Console::new(alloc),
+    })
 }
 
 fn whole(alloc: Global, bytes: &[u8]) -> Result<Devices, ScriptFault>
     ensures { Gives (λ d. d) result (script_of bytes.now) }
 {
     let script = lines_of(alloc, bytes)?;
-    Ok(devices_of(alloc, script))
+    let devices = devices_of(alloc, script)?;
+    Ok(devices)
 }
 
 /// The devices that a script makes, with nothing on the console. Each of its lines is `in TEXT`, `in`, `raw HEX`, `clock N`,

@@ -8,9 +8,9 @@ impl Devices {
         ensures same { result ≡ true → self.now ≡ other.now }
         ensures differs { result ≡ false → self.now ≡ other.now → ⊥ }
     {
-        self.input == other.input
-            && self.clocks == other.clocks
-            && self.numbers == other.numbers
-            && self.console == other.console
+        self.input.left() == other.input.left()
+            && self.clocks.left() == other.clocks.left()
+            && self.numbers.left() == other.numbers.left()
+            && self.console.same(&other.console)
     }
 }

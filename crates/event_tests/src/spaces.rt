@@ -57,7 +57,7 @@ fn root(alloc: Global) -> Result<Top, AllocError> {
     memory.set_perm(Pages { first: 2, count: 1 }, 3)?;
     memory.write(0x2000, 9)?;
     let mut devices = Devices::new(alloc);
-    devices.console.push(b'c')?;
+    devices.console.extend_from_slice(b"c")?;
     Ok(Top::root(0x2000, 0x3000, memory, 50, devices))
 }
 
@@ -70,7 +70,7 @@ fn copy_of(top: &mut Top) -> Result<Top, AllocError> {
     Ok(copy)
 }
 
-fn assert_copy(rt: &impl Abort, copy: &Top) {
+fn assert_copy(rt: &impl Abort, alloc: Global, copy: &Top) -> Result<(), AllocError> {
     let numbers = [
         u32::from(copy.memory.byte(0x2000)),
         copy.total_fuel(),
@@ -79,16 +79,18 @@ fn assert_copy(rt: &impl Abort, copy: &Top) {
     assert_eq!(rt; numbers, [9, 50, 0x2000]);
     let dirty = [copy.memory.next_dirty(0), copy.memory.next_dirty(3)];
     assert_eq!(rt; dirty, [Some(2), None]);
+    let console = copy.console(alloc)?;
     assert_eq!(rt;
-        (copy.console(), copy.is_stopped()),
+        (console.as_slice(), copy.is_stopped()),
         (b"c".as_slice(), false)
     );
+    Ok(())
 }
 
 #[test]
 fn copies(rt: HostRuntime) -> Result<(), Fail> {
     let mut top = root(rt.alloc())?;
     let copy = copy_of(&mut top)?;
-    assert_copy(&rt, &copy);
+    assert_copy(&rt, rt.alloc(), &copy)?;
     Ok(())
 }

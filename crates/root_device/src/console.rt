@@ -6,8 +6,7 @@ ghost use Rattle.space_model.specs.Event.{MayPay, moves, charge, with_devices};
 
 use space_model::{Cause, Refusal};
 use space_tree::{Devices, Top};
-use std::alloc::AllocError;
-use std::io::BufRead;
+use std::alloc::{AllocError, Global};
 
 // A space that has no devices pays for a call of one, and stops.
 pub(crate) fn stop_without(top: &mut Top)
@@ -63,12 +62,12 @@ pub(crate) fn console_out(top: &mut Top, addr: u32, len: u32) -> Result<(), Allo
 }
 
 // The first bytes of the input that is left, at most so many.
-fn first_input(devices: &Devices, len: u32) -> Result<Vec<u8>, AllocError>
+fn first_input(alloc: Global, devices: &Devices, len: u32) -> Result<Vec<u8>, AllocError>
     ensures { IfOk result (λ bytes. bytes.items ≡ take len devices.now.input) }
 {
-    let alloc = *devices.input.allocator();
     devices
         .input
+        .left()
         .iter()
         .take(len as usize)
         .copied()
@@ -105,7 +104,7 @@ fn move_input(top: &mut Top, addr: u32, len: u32) -> Result<u32, AllocError>
     let Some(devices) = &top.devices else {
         return Ok(0);
     };
-    let bytes = first_input(devices, len)?;
+    let bytes = first_input(top.memory.allocator(), devices, len)?;
     write_memory(top, addr, &bytes)?;
     drop_input(top, len);
     Ok(bytes.len() as u32)

@@ -1,4 +1,4 @@
-ghost use Rattle.std.specs.Prelude.{◌≡◌, ◌≤◌, ◌<◌, ◌+◌, ◌%◌, ◌^◌, true, IfSome, IfOk};
+ghost use Rattle.std.specs.Prelude.{◌≡◌, ◌≤◌, ◌<◌, ◌+◌, ◌%◌, ◌^◌, true, length, IfSome, IfOk};
 ghost use Rattle.call_model.specs.Limits.{block_size};
 ghost use Rattle.space_model.specs.Stop.{is_stopped};
 ghost use Rattle.space_model.specs.Sound.{has_devices};
@@ -116,13 +116,23 @@ impl Top {
         }
     }
 
-    /// The bytes that it wrote to its console; without devices there are none.
-    pub fn console(&self) -> &[u8]
-        ensures { result.now ≡ console_bytes self.now.devices }
+    /// How many bytes it wrote to its console; without devices there are none.
+    pub fn console_len(&self) -> usize
+        ensures { result ≡ length (console_bytes self.now.devices) }
     {
         match &self.devices {
-            Some(devices) => &devices.console,
-            None => &[],
+            Some(devices) => devices.console.len(),
+            None => 0,
+        }
+    }
+
+    /// The bytes that it wrote to its console, in one list; without devices there are none. The one error is want of memory.
+    pub fn console(&self, alloc: Global) -> Result<Vec<u8>, AllocError>
+        ensures { IfOk result (λ bytes. bytes.items ≡ console_bytes self.now.devices) }
+    {
+        match &self.devices {
+            Some(devices) => devices.console.bytes(alloc),
+            None => Ok(Vec::new(alloc)),
         }
     }
 
