@@ -1,0 +1,189 @@
+// What one worker does, from its first turn to its last.
+//
+// No worker sleeps for ever beside a job. A worker sleeps only in `wait_for_turn`, where its own turn under the same lock was `Rest`. Whoever changes
+// the shop is awake and has the lock, and does not leave it to sleep before it has looked again:
+// - A turn that is a job: the worker comes back with the result. If there may be more, it rings for one that sleeps, once it has left the lock.
+//   That one looks, and does the same in its turn, so one after another is woken for as long as there may be more.
+// - A turn that met: the worker comes back at once.
+// - A result that was handed in: the same worker takes its next turn under the same lock.
+// - A turn that is `Rest` changes nothing, so whatever it found wanting is wanting still; the shop answers it only while a job is out, and whoever
+//   has that job comes back.
+// - `Over`, and want of memory, ring for all.
+// A ring is heard: a sleeper is counted under the lock, and has read the bell's number there, before it lets the lock go; who rings does so after it had
+// the lock. So either the sleeper looked later than the change, or the ring changes the number and the sleep does not begin, or it ends. That the
+// count is of sleepers that were rung for already does no harm: they are awake, and come under the lock. If the one that hears the ring finds the
+// job gone, then whoever took it has rung, too, or saw that there was no more.
+
+ghost use Rattle.std.specs.Prelude.{◌≡◌, ℕ, ◌+◌, ◌-◌, ◌^◌, ◌<◌, Bool, true, false, cond, IfOk, IfErr, OnOk, OnErr};
+ghost use Rattle.worker_pool.specs.Turns.{is_idle, is_job};
+
+use crate::desk::{Desk, Ring};
+use crate::shop::{Shop, Turn};
+use det_host::{Gate, GateEvent};
+use std::alloc::{AllocError, Global};
+use std::sync::ledger::{Ledger, Share};
+use std::sync::{Condvar, Mutex, Wait};
+
+/// A worker that has not begun: its number, and its share of both books.
+#[derive(Drop)]
+pub(crate) struct Worker<L: Ledger, M: Ledger> {
+    pub(crate) number: usize,
+    pub(crate) out: Share<L>,
+    pub(crate) done: Share<M>,
+    pub(crate) ghost out_is: { out.parts ≡ 1 },
+    pub(crate) ghost none_out: { out.amount ≡ 0 },
+    pub(crate) ghost done_is: { done.parts ≡ 1 },
+    pub(crate) ghost none_done: { done.amount ≡ 0 },
+}
+
+/// A worker that has ended: it owes nothing, and so many of its results were accepted.
+#[derive(Drop)]
+pub(crate) struct Served<L: Ledger, M: Ledger> {
+    pub(crate) count: u64,
+    pub(crate) out: Share<L>,
+    pub(crate) done: Share<M>,
+    pub(crate) ghost out_is: { out.parts ≡ 1 },
+    pub(crate) ghost none_out: { out.amount ≡ 0 },
+    pub(crate) ghost done_is: { done.parts ≡ 1 },
+    pub(crate) ghost counted: { done.amount ≡ count },
+}
+
+/// Serves the shop until it is over, or until memory is wanting somewhere.
+pub(crate) fn serve<S: Shop, L: Ledger, M: Ledger, G: Gate, R: Wait>(
+    rt: &R,
+    alloc: Global,
+    desk: &Mutex<Desk<S, L, M>>,
+    bell: &Condvar,
+    gate: &G,
+    worker: Worker<L, M>,
+) -> Result<Served<L, M>, AllocError> {
+    let Worker {
+        number,
+        mut out,
+        done: mut tally,
+    } = worker;
+    let Ok(mut tools) = S::tools(alloc) else {
+        return Err(fail(rt, desk, bell));
+    };
+    let mut count: u64 = 0;
+    let mut turn = take(rt, desk, bell, number, &mut out)?;
+    for _ in rt.forever() {
+        turn = match turn {
+            Turn::Job(job) => {
+                gate.pass(number, GateEvent::Took);
+                let Ok(done) = S::work(&mut tools, job) else {
+                    return Err(fail(rt, desk, bell));
+                };
+                let (taken, next) = hand_in(rt, desk, bell, number, done, &mut out, &mut tally);
+                if taken {
+                    count += 1;
+                }
+                gate.pass(number, GateEvent::Committed);
+                next?
+            }
+            Turn::Met => {
+                gate.pass(number, GateEvent::Met);
+                take(rt, desk, bell, number, &mut out)?
+            }
+            Turn::Rest => {
+                gate.pass(number, GateEvent::Resting);
+                wait_for_turn(rt, desk, bell, number, &mut out)?
+            }
+            Turn::Over => return Ok(ended_with(count, out, tally)),
+        };
+    }
+    unreachable!()
+}
+
+fn ended_with<L: Ledger, M: Ledger>(count: u64, out: Share<L>, done: Share<M>) -> Served<L, M>
+    requires out { (out.parts ≡ 1) × (out.amount ≡ 0) }
+    requires done { (done.parts ≡ 1) × (done.amount ≡ count) }
+{
+    Served { count, out, done }
+}
+
+// One turn under the lock.
+fn take<S: Shop, L: Ledger, M: Ledger, R: Wait>(
+    rt: &R,
+    desk: &Mutex<Desk<S, L, M>>,
+    bell: &Condvar,
+    number: usize,
+    out: &mut Share<L>,
+) -> Result<Turn<S::Job>, AllocError>
+    requires { 0 < out.old.parts }
+    ensures parts { out.new.parts ≡ out.old.parts }
+    ensures amount { IfOk result (λ t. out.new.amount ≡ cond (is_job t) (out.old.amount + 1) out.old.amount) }
+{
+    let mut guard = desk.lock(rt);
+    let turn = guard.turn(number, out);
+    let ring = guard.ring_after(&turn);
+    drop(guard);
+    ring.sound(bell);
+    turn
+}
+
+// A turn that is not `Rest`: the worker sleeps until there is one.
+fn wait_for_turn<S: Shop, L: Ledger, M: Ledger, R: Wait>(
+    rt: &R,
+    desk: &Mutex<Desk<S, L, M>>,
+    bell: &Condvar,
+    number: usize,
+    out: &mut Share<L>,
+) -> Result<Turn<S::Job>, AllocError>
+    requires { 0 < out.old.parts }
+    ensures parts { out.new.parts ≡ out.old.parts }
+    ensures amount { IfOk result (λ t. out.new.amount ≡ cond (is_job t) (out.old.amount + 1) out.old.amount) }
+{
+    let mut guard = desk.lock(rt);
+    for _ in rt.forever() {
+        let turn = guard.turn(number, out);
+        let Ok(Turn::Rest) = turn else {
+            let ring = guard.ring_after(&turn);
+            drop(guard);
+            ring.sound(bell);
+            return turn;
+        };
+        guard.asleep = guard.asleep.saturating_add(1);
+        guard = bell.wait(rt, guard);
+        guard.asleep = guard.asleep.saturating_sub(1);
+    }
+    unreachable!()
+}
+
+// A result is handed in, and the next turn taken, under one lock. Answers whether the result was accepted.
+fn hand_in<S: Shop, L: Ledger, M: Ledger, R: Wait>(
+    rt: &R,
+    desk: &Mutex<Desk<S, L, M>>,
+    bell: &Condvar,
+    number: usize,
+    done: S::Done,
+    out: &mut Share<L>,
+    tally: &mut Share<M>,
+) -> (bool, Result<Turn<S::Job>, AllocError>)
+    requires out { (out.old.amount ≡ 1) × (0 < out.old.parts) }
+    requires part { 0 < tally.old.parts }
+    ensures parts { out.new.parts ≡ out.old.parts }
+    ensures amount { IfOk result.1 (λ t. out.new.amount ≡ cond (is_job t) 1 0) }
+    ensures tally_parts { tally.new.parts ≡ tally.old.parts }
+    ensures tally { tally.new.amount ≡ cond result.0 (tally.old.amount + 1) tally.old.amount }
+    ensures small { tally.new.amount < 2 ^ 64 }
+{
+    let mut guard = desk.lock(rt);
+    let taken = guard.commit(done, out, tally);
+    let turn = guard.turn(number, out);
+    let ring = guard.ring_after(&turn);
+    drop(guard);
+    ring.sound(bell);
+    (taken, turn)
+}
+
+// Memory is wanting at this worker, which ends all of them.
+fn fail<S: Shop, L: Ledger, M: Ledger, R: Wait>(
+    rt: &R,
+    desk: &Mutex<Desk<S, L, M>>,
+    bell: &Condvar,
+) -> AllocError {
+    desk.lock(rt).failed = true;
+    Ring::All.sound(bell);
+    AllocError
+}
