@@ -1,7 +1,7 @@
 // What lies under the lock, and the bell that wakes workers.
 
-ghost use Rattle.std.specs.Prelude.{◌≡◌, ℕ, ◌+◌, ◌-◌, ◌^◌, ◌<◌, Bool, true, false, cond, IfOk, IfErr, OnOk, OnErr};
-ghost use Rattle.worker_pool.specs.Turns.{is_idle, is_job};
+ghost use Rattle.std.specs.Prelude.{◌≡◌, ◌+◌, ◌^◌, ◌<◌, cond, IfOk, OnErr};
+ghost use Rattle.worker_pool.specs.Turns.{is_job};
 
 use crate::shop::{Shop, Turn};
 use std::alloc::AllocError;

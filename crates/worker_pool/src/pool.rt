@@ -1,7 +1,6 @@
 // The pool: a shop is served by workers until it is over.
 
-ghost use Rattle.std.specs.Prelude.{◌≡◌, ℕ, ◌+◌, ◌-◌, ◌^◌, ◌<◌, Bool, true, false, cond, IfOk, IfErr, OnOk, OnErr, sum, length, vec_len};
-ghost use Rattle.worker_pool.specs.Turns.{is_idle, is_job};
+ghost use Rattle.std.specs.Prelude.{◌≡◌, ◌+◌, ◌^◌, ◌<◌, true, IfOk, OnOk, sum, length, vec_len};
 
 use crate::desk::Desk;
 use crate::shop::{Shop, Turn};

@@ -1,6 +1,6 @@
 // Workers in threads.
 
-ghost use Rattle.std.specs.Prelude.{◌≡◌, ℕ, ◌+◌, ◌<◌, IfOk, vec_len};
+ghost use Rattle.std.specs.Prelude.{◌≡◌, IfOk, vec_len};
 ghost use Rattle.std.specs.Thread.{IsSync, IsSend};
 
 use std::alloc::{AllocError, Global};

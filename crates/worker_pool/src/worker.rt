@@ -14,8 +14,8 @@
 // count is of sleepers that were rung for already does no harm: they are awake, and come under the lock. If the one that hears the ring finds the
 // job gone, then whoever took it has rung, too, or saw that there was no more.
 
-ghost use Rattle.std.specs.Prelude.{◌≡◌, ℕ, ◌+◌, ◌-◌, ◌^◌, ◌<◌, Bool, true, false, cond, IfOk, IfErr, OnOk, OnErr};
-ghost use Rattle.worker_pool.specs.Turns.{is_idle, is_job};
+ghost use Rattle.std.specs.Prelude.{◌≡◌, ◌+◌, ◌^◌, ◌<◌, cond, IfOk};
+ghost use Rattle.worker_pool.specs.Turns.{is_job};
 
 use crate::desk::{Desk, Ring};
 use crate::shop::{Shop, Turn};
