@@ -9,3 +9,6 @@ mod worker;
 
 pub use pool::run_pool;
 pub use shop::{Shop, Turn};
+
+#[cfg(test)]
+mod tests;

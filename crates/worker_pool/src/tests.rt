@@ -1,0 +1,277 @@
+use crate::{Shop, Turn, run_pool};
+use det_host::{Gate, GateEvent, OpenGate};
+use std::alloc::{AllocError, Global};
+use std::sync::atomic::{AtomicU64, Ordering};
+use std::sync::{Arc, Wait};
+use std::test::*;
+use std::thread::{Threads, yield_now};
+
+// Where memory is wanting, if at all: once 500 results came back.
+#[derive(Clone, Copy, PartialEq, Eq)]
+enum Want {
+    Nowhere,
+    InTurn,
+    InWork,
+}
+
+// So many turns are ready, of which so many are due to be meetings; so many jobs become ready when others come back; so many are out, and came back.
+#[derive(Drop)]
+struct Row {
+    ready: u32,
+    due: u32,
+    later: u32,
+    out: u32,
+    taken: u32,
+    want: Want,
+}
+
+// Runs so many jobs, of which `wide` may be out at once, by 1 to 64 workers. Answers how many came back, and the workers' counts.
+fn run_jobs<R: Threads + Wait + Sync, G: Gate>(
+    rt: &R,
+    alloc: Global,
+    jobs: (u32, u32, Want),
+    workers: usize,
+    gate: &G,
+) -> Result<(u32, Vec<u64>), AllocError> {
+    let (count, wide, want) = jobs;
+    if workers == 0 || workers > 64 {
+        return Err(AllocError);
+    }
+    let row = Row {
+        ready: count.min(wide),
+        due: 0,
+        later: count.saturating_sub(wide),
+        out: 0,
+        taken: 0,
+        want,
+    };
+    let (row, counts) = run_pool(rt, alloc, row, workers, gate)?;
+    Ok((row.taken, counts))
+}
+
+#[derive(Drop)]
+struct Sum {
+    number: u32,
+    fits: bool,
+}
+
+impl Shop for Row {
+    ghost use Rattle.std.specs.Prelude.{◌==◌};
+
+    type Job = Sum;
+
+    type Done = u32;
+
+    type Tools = u32;
+
+    ghost accepted = { λ r. r.taken };
+
+    ghost owed = { λ r. r.out };
+
+    ghost idle = { λ r. r.ready == 0 };
+
+    fn turn(&mut self, worker: usize) -> Result<Turn<Sum>, AllocError> {
+        let _ = worker;
+        if self.ready == 0 {
+            if self.out == 0 {
+                return Ok(Turn::Over);
+            }
+            return Ok(Turn::Rest);
+        }
+        if self.out == u32::MAX || self.want == Want::InTurn && self.taken >= 500 {
+            return Err(AllocError);
+        }
+        self.ready -= 1;
+        if self.due > 0 {
+            self.due -= 1;
+            return Ok(Turn::Met);
+        }
+        self.out += 1;
+        Ok(Turn::Job(Sum {
+            number: self.taken,
+            fits: self.want != Want::InWork || self.taken < 500,
+        }))
+    }
+
+    fn has_more(&self) -> bool {
+        self.ready > 0
+    }
+
+    fn tools(alloc: Global) -> Result<u32, AllocError> {
+        let _ = alloc;
+        Ok(7)
+    }
+
+    fn work(tools: &mut u32, job: Sum) -> Result<u32, AllocError> {
+        if !job.fits {
+            return Err(AllocError);
+        }
+        Ok(job.number.wrapping_mul(*tools))
+    }
+
+    fn commit(&mut self, done: u32) -> bool {
+        if self.out > 0 {
+            self.out -= 1;
+        }
+        if self.later > 0 {
+            self.later -= 1;
+            self.ready = self.ready.saturating_add(1);
+        }
+        if self.taken == u32::MAX {
+            return false;
+        }
+        self.taken += 1;
+        if done % 8 == 0 {
+            self.due = self.due.saturating_add(1);
+            self.ready = self.ready.saturating_add(1);
+        }
+        true
+    }
+}
+
+// Counts the events of a pool.
+#[derive(Drop)]
+struct Counting {
+    took: AtomicU64,
+    committed: AtomicU64,
+    met: AtomicU64,
+}
+
+impl Gate for Counting {
+    fn pass(&self, worker: usize, event: GateEvent) {
+        let _ = worker;
+        match event {
+            GateEvent::Took => self.took.fetch_add(1, Ordering::SeqCst),
+            GateEvent::Committed => self.committed.fetch_add(1, Ordering::SeqCst),
+            GateEvent::Met => self.met.fetch_add(1, Ordering::SeqCst),
+            GateEvent::Resting => 0,
+        };
+    }
+}
+
+// Two jobs, each of which waits until both have begun.
+#[derive(Drop)]
+struct Pair {
+    left: u32,
+    out: u32,
+    met: u32,
+    begun: Arc<AtomicU64, Global>,
+}
+
+impl Shop for Pair {
+    ghost use Rattle.std.specs.Prelude.{◌==◌};
+
+    type Job = Arc<AtomicU64, Global>;
+
+    type Done = bool;
+
+    type Tools = ();
+
+    ghost accepted = { λ p. p.met };
+
+    ghost owed = { λ p. p.out };
+
+    ghost idle = { λ p. p.left == 0 };
+
+    fn turn(&mut self, worker: usize) -> Result<Turn<Arc<AtomicU64, Global>>, AllocError> {
+        let _ = worker;
+        if self.left == 0 {
+            return Ok(if self.out == 0 {
+                Turn::Over
+            } else {
+                Turn::Rest
+            });
+        }
+        if self.out == u32::MAX {
+            return Err(AllocError);
+        }
+        let begun = Arc::try_clone(&self.begun)?;
+        self.left -= 1;
+        self.out += 1;
+        Ok(Turn::Job(begun))
+    }
+
+    fn tools(alloc: Global) -> Result<(), AllocError> {
+        let _ = alloc;
+        Ok(())
+    }
+
+    fn work(tools: &mut (), job: Arc<AtomicU64, Global>) -> Result<bool, AllocError> {
+        let _ = tools;
+        job.fetch_add(1, Ordering::SeqCst);
+        for _ in 0..10_000_000u32 {
+            if job.load(Ordering::SeqCst) >= 2 {
+                return Ok(true);
+            }
+            yield_now();
+        }
+        Ok(false)
+    }
+
+    fn commit(&mut self, done: bool) -> bool {
+        if self.out > 0 {
+            self.out -= 1;
+        }
+        if !done || self.met == u32::MAX {
+            return false;
+        }
+        self.met += 1;
+        true
+    }
+}
+
+#[test]
+fn jobs_are_accepted_and_counted(rt: HostRuntime) -> Result<(), Fail> {
+    for (wide, workers) in [(1000, 1), (1000, 4), (1000, 64), (1, 64), (3, 64)] {
+        let gate = Counting {
+            took: AtomicU64::new(0),
+            committed: AtomicU64::new(0),
+            met: AtomicU64::new(0),
+        };
+        let all = (1000, wide, Want::Nowhere);
+        let (taken, counts) = run_jobs(&rt, rt.alloc(), all, workers, &gate)?;
+        assert_eq!(rt; taken, 1000);
+        assert_eq!(rt; counts.len(), workers);
+        assert_eq!(rt; gate.took.load(Ordering::SeqCst), 1000);
+        assert_eq!(rt; gate.committed.load(Ordering::SeqCst), 1000);
+        assert!(rt; gate.met.load(Ordering::SeqCst) > 0);
+    }
+    Ok(())
+}
+
+#[test]
+fn two_at_work(rt: HostRuntime) -> Result<(), Fail> {
+    let pair = Pair {
+        left: 2,
+        out: 0,
+        met: 0,
+        begun: Arc::new(rt.alloc(), AtomicU64::new(0))?,
+    };
+    let (pair, counts) = run_pool(&rt, rt.alloc(), pair, 2, &OpenGate)?;
+    assert_eq!(rt; pair.met, 2);
+    assert_eq!(rt; counts.as_slice(), [1u64, 1].as_slice());
+    Ok(())
+}
+
+#[test]
+fn want_of_memory_ends_all(rt: HostRuntime) {
+    for want in [Want::InTurn, Want::InWork] {
+        for (wide, workers) in [(1000, 1), (1000, 64), (1, 64)] {
+            let all = (1000, wide, want);
+            assert!(rt; run_jobs(&rt, rt.alloc(), all, workers, &OpenGate).is_err());
+        }
+    }
+}
+
+#[test]
+fn nobody_sleeps_for_ever(rt: HostRuntime) -> Result<(), Fail> {
+    for _ in 0..200u32 {
+        let one = (100, 1, Want::Nowhere);
+        let (taken, _) = run_jobs(&rt, rt.alloc(), one, 64, &OpenGate)?;
+        assert_eq!(rt; taken, 100);
+        let all = (1000, 1000, Want::Nowhere);
+        let (taken, _) = run_jobs(&rt, rt.alloc(), all, 1, &OpenGate)?;
+        assert_eq!(rt; taken, 1000);
+    }
+    Ok(())
+}
