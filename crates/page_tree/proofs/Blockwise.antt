@@ -1,4 +1,4 @@
--- Blocks that are read from a tree, and kept in it.
+-- Blocks and branches that are read from a tree, and kept in it.
 use Rattle.std.specs.Prelude.{◌≡◌, ℕ, ◌+◌, ◌*◌, ◌/◌, ◌%◌, ◌<◌, Bool, false, nat_eq, cond, length, Result, Ok, Err, IfOk}
 use Rattle.std.proofs.Common.{◌∙◌, ap, sym, arith, subst, inl, inr, get_or}
 use Rattle.std.proofs.lemmas.Bool.{cases_eq}
@@ -9,10 +9,11 @@ use Rattle.page_tree.specs.declared.branch_ref.BranchRef.TheVariants.{Uniform}
 use Rattle.page_tree.specs.declared.tree.Tree.{Tree}
 use Rattle.page_tree.specs.Blocks.{byte_in}
 use Rattle.page_tree.specs.BlockRefs.{ref_permission, ref_page}
-use Rattle.page_tree.specs.BranchRefs.{limb_permission, limb_page, limb_row}
+use Rattle.page_tree.specs.BranchRefs.{limb_permission, limb_page, limb_row, SameLimb}
 use Rattle.page_tree.specs.Trees.{branch_at, tree_row}
 use Rattle.page_tree.specs.Ready.{SameOtherBranches}
 use Rattle.page_tree.specs.Blockwise.{IsBlockOf, IsBlockPutRow}
+use Rattle.page_tree.specs.Branchwise.{IsBranchOf}
 use Rattle.page_tree.proofs.Spread.{eq_same, not_eq}
 
 pub ok_too : {T E : Type 0} (r : Result T E) (P Q : T → Type 0) → ((x : T) → P x → Q x) → IfOk r P → IfOk r Q
@@ -59,4 +60,17 @@ pub put_in_tree : (t u : Tree) (i : ℕ) (block : BlockRef) → SameOtherBranche
 put_in_tree t u i block others put = record {
   permission = λ p below. put_branches i (branch_at t) (branch_at u) limb_permission (ref_permission block) others (λ q low. put.permission q low) p;
   page = λ p below. put_branches i (branch_at t) (branch_at u) limb_page (ref_page block) others (λ q low. put.page q low) p;
+}
+
+-- a branch of a tree has pages of the tree
+pub branch_of : (t : Tree) (i : ℕ) (branch : BranchRef) → SameLimb (branch_at t i) branch → IsBranchOf (tree_row t) i branch
+branch_of t i branch one = record {
+  permission = λ j below.
+      let e : i ≡ (8192 * i + j) / 8192 = omega arith in
+      let f : j ≡ (8192 * i + j) % 8192 = omega arith in
+      one.permission j below ∙ ap (λ n. limb_permission (branch_at t n) j) e ∙ ap (limb_permission (branch_at t ((8192 * i + j) / 8192))) f;
+  byte = λ j k below.
+      let e : i ≡ (8192 * i + j) / 8192 = omega arith in
+      let f : j ≡ (8192 * i + j) % 8192 = omega arith in
+      one.byte j k below ∙ ap (λ n. byte_in (limb_page (branch_at t n) j) k) e ∙ ap (λ n. byte_in (limb_page (branch_at t ((8192 * i + j) / 8192)) n) k) f;
 }

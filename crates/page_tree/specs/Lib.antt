@@ -14,3 +14,4 @@ pub mod BlockRows
 pub mod Settled
 pub mod Blockwise
 pub mod Uniforms
+pub mod Branchwise

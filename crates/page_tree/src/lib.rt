@@ -27,7 +27,7 @@ mod walking;
 pub use bare_block::BareBlock;
 pub use block::{BLOCK_PAGES, Block};
 pub use block_ref::BlockRef;
-pub use branch::{BLOCKS, Branch};
+pub use branch::{BLOCKS, BRANCH_PAGES, Branch};
 pub use branch_ref::BranchRef;
 pub use slots::Slots;
 pub use tree::{BRANCHES, Tree};

@@ -7,6 +7,7 @@ ghost use Rattle.page_tree.specs.Trees.{tree_pages, tree_branches, branch_at, Ar
 ghost use Rattle.page_tree.specs.TreeRefs.{AreWholeRoot, root_row};
 ghost use Rattle.page_tree.specs.Ready.{ReadyLimb, ReadyRoot, ReadyTree, SameOtherBranches};
 ghost use Rattle.page_tree.specs.Blockwise.{IsBlockOf, IsBlockPutRow};
+ghost use Rattle.page_tree.specs.Branchwise.{IsBranchOf, IsBranchPutRow};
 
 use crate::block_ref::BlockRef;
 use crate::branch::{BLOCKS, Branch};
@@ -84,6 +85,24 @@ impl Tree {
         self.put_in_branch(i / BLOCKS, i % BLOCKS, block);
     }
 
+    /// A branch with the permissions and bytes of the i-th one, which shares what that shares.
+    pub fn share_branch(&self, i: usize, alloc: Global) -> Result<BranchRef, AllocError>
+        requires { i < tree_branches }
+        ensures same { IfOk result (λ branch. IsBranchOf (tree_row self.now) i branch) }
+        ensures whole { AreWholeTree self.now → IfOk result (λ branch. AreWholeLimb branch) }
+    {
+        self.share_at(i, alloc)
+    }
+
+    /// Keeps a branch in the place of the i-th one.
+    pub fn put_branch(&mut self, i: usize, branch: BranchRef)
+        requires { i < tree_branches }
+        ensures put { IsBranchPutRow i branch (tree_row self.old) (tree_row self.new) }
+        ensures whole { AreWholeLimb branch → AreWholeTree self.old → AreWholeTree self.new }
+    {
+        self.branches[i] = branch;
+    }
+
     // Keeps a block in the place of one of a branch.
     fn put_in_branch(&mut self, k: usize, i: usize, block: BlockRef)
         requires branch { k < tree_branches }
@@ -122,6 +141,33 @@ impl TreeRef {
             TreeRef::Uniform(_) => {}
             TreeRef::Shared(_) => {}
             TreeRef::Own(tree) => tree.put_block(i, block),
+        }
+    }
+
+    /// A branch with the permissions and bytes of the i-th one, which shares what that shares.
+    pub fn share_branch(&self, i: usize, alloc: Global) -> Result<BranchRef, AllocError>
+        requires { i < tree_branches }
+        ensures same { IfOk result (λ branch. IsBranchOf (root_row self.now) i branch) }
+        ensures whole { AreWholeRoot self.now → IfOk result (λ branch. AreWholeLimb branch) }
+    {
+        match self {
+            TreeRef::Uniform(permission) => Ok(BranchRef::Uniform(*permission)),
+            TreeRef::Shared(tree) => tree.share_branch(i, alloc),
+            TreeRef::Own(tree) => tree.share_branch(i, alloc),
+        }
+    }
+
+    /// Keeps a branch in the place of the i-th one.
+    pub fn put_branch(&mut self, i: usize, branch: BranchRef)
+        requires within { i < tree_branches }
+        requires ready { ReadyRoot (branch_pages * i) (branch_pages * i + branch_pages) self.old }
+        ensures put { IsBranchPutRow i branch (root_row self.old) (root_row self.new) }
+        ensures whole { AreWholeLimb branch → AreWholeRoot self.old → AreWholeRoot self.new }
+    {
+        match self {
+            TreeRef::Uniform(_) => {}
+            TreeRef::Shared(_) => {}
+            TreeRef::Own(tree) => tree.put_branch(i, branch),
         }
     }
 }

@@ -74,7 +74,7 @@ impl Tree {
 
     // What is kept of a block, shared.
     #[inline(always)]
-    fn share_at(&self, i: usize, alloc: Global) -> Result<BranchRef, AllocError>
+    pub(crate) fn share_at(&self, i: usize, alloc: Global) -> Result<BranchRef, AllocError>
         ensures same { IfOk result (λ copy. SameLimb (branch_at self.now i) copy) }
         ensures own { IfOk result (λ copy. SameOwnLimb (branch_at self.now i) copy) }
         ensures whole { AreWholeLimb (branch_at self.now i) → IfOk result (λ copy. AreWholeLimb copy) }

@@ -9,9 +9,12 @@ use Rattle.memory_model.specs.Ranges.{with_copies, with_row}
 use Rattle.memory_model.proofs.Rows.{value_at-row_key, value_at-row_before, value_at-row_after}
 use Rattle.page_tree.specs.declared.tree_ref.TreeRef.{TreeRef}
 use Rattle.page_tree.specs.declared.block_ref.BlockRef.{BlockRef}
+use Rattle.page_tree.specs.declared.branch_ref.BranchRef.{BranchRef}
 use Rattle.page_tree.specs.Blocks.{byte_in, within}
 use Rattle.page_tree.specs.BlockRefs.{ref_permission, ref_page}
+use Rattle.page_tree.specs.BranchRefs.{limb_permission, limb_page}
 use Rattle.page_tree.specs.Blockwise.{IsBlockOf, IsBlockPutRow}
+use Rattle.page_tree.specs.Branchwise.{IsBranchOf, IsBranchPutRow}
 use Rattle.page_tree.specs.Rows.{SameRow, SameOwners, IsTakenRow, IsPermittedRow}
 use Rattle.page_tree.specs.TreeRefs.{root_permission, root_page, root_own, root_row, AreWholeRoot, SameRoot}
 use Rattle.space_mem.specs.declared.table.PageTable.{PageTable}
@@ -225,14 +228,35 @@ block_bytes source ready new at to block from first within one put j k below =
     ap (λ o. byte_in o k) (put.page (to + j) (omega arith) ∙ ap (λ b. cond b (ref_page block q) (root_page ready (to + j))) (eq-eqb ((to + j) / 64) (to / 64) here))
     ∙ ap (λ n. byte_in (ref_page block n) k) same ∙ one.byte j k below ∙ ap (λ n. byte_in (root_page source n) k) there
 
+-- a branch is kept that is like a source's
+pub branch_permission : (source ready new : TreeRef) (at to : ℕ) (branch : BranchRef) → at % 8192 ≡ 0 → to % 8192 ≡ 0 → to + 8192 ≤ 1048576 → IsBranchOf (root_row source) (at / 8192) branch → IsBranchPutRow (to / 8192) branch (root_row ready) (root_row new)
+    → (j : ℕ) → j < 8192 → root_permission new (to + j) ≡ root_permission source (at + j)
+branch_permission source ready new at to branch from first within one put j below =
+    let q : ℕ = (to + j) % 8192 in
+    let here : (to + j) / 8192 ≡ to / 8192 = omega arith in
+    let same : q ≡ j = omega arith in
+    let there : 8192 * (at / 8192) + j ≡ at + j = omega arith in
+    put.permission (to + j) (omega arith) ∙ ap (λ b. cond b (limb_permission branch q) (root_permission ready (to + j))) (eq-eqb ((to + j) / 8192) (to / 8192) here)
+    ∙ ap (limb_permission branch) same ∙ one.permission j below ∙ ap (root_permission source) there
+
+pub branch_bytes : (source ready new : TreeRef) (at to : ℕ) (branch : BranchRef) → at % 8192 ≡ 0 → to % 8192 ≡ 0 → to + 8192 ≤ 1048576 → IsBranchOf (root_row source) (at / 8192) branch → IsBranchPutRow (to / 8192) branch (root_row ready) (root_row new)
+    → (j k : ℕ) → j < 8192 → byte_in (root_page new (to + j)) k ≡ byte_in (root_page source (at + j)) k
+branch_bytes source ready new at to branch from first within one put j k below =
+    let q : ℕ = (to + j) % 8192 in
+    let here : (to + j) / 8192 ≡ to / 8192 = omega arith in
+    let same : q ≡ j = omega arith in
+    let there : 8192 * (at / 8192) + j ≡ at + j = omega arith in
+    ap (λ o. byte_in o k) (put.page (to + j) (omega arith) ∙ ap (λ b. cond b (limb_page branch q) (root_page ready (to + j))) (eq-eqb ((to + j) / 8192) (to / 8192) here))
+    ∙ ap (λ n. byte_in (limb_page branch n) k) same ∙ one.byte j k below ∙ ap (λ n. byte_in (root_page source n) k) there
+
 -- and stands behind the pages that were moved before
-pub moved_block : (source made new : TreeRef) (at to from first before : ℕ) → to + 64 ≤ 1048576
-    → ((j : ℕ) → j < 64 → root_permission new (to + j) ≡ root_permission source (at + j))
-    → ((j k : ℕ) → j < 64 → byte_in (root_page new (to + j)) k ≡ byte_in (root_page source (at + j)) k)
-    → ((p : ℕ) → p < 1048576 → IsOutside to (to + 64) p → root_permission new p ≡ root_permission made p)
-    → ((p k : ℕ) → p < 1048576 → IsOutside to (to + 64) p → byte_in (root_page new p) k ≡ byte_in (root_page made p) k)
-    → at ≡ from + before → to ≡ first + before → HasMoved (root_row source) from first before (root_row made) → HasMoved (root_row source) from first (before + 64) (root_row new)
-moved_block source made new at to from first before within here bytes beside rest at_is to_is moved = record {
+pub moved_part : (source made new : TreeRef) (n at to from first before : ℕ) → to + n ≤ 1048576
+    → ((j : ℕ) → j < n → root_permission new (to + j) ≡ root_permission source (at + j))
+    → ((j k : ℕ) → j < n → byte_in (root_page new (to + j)) k ≡ byte_in (root_page source (at + j)) k)
+    → ((p : ℕ) → p < 1048576 → IsOutside to (to + n) p → root_permission new p ≡ root_permission made p)
+    → ((p k : ℕ) → p < 1048576 → IsOutside to (to + n) p → byte_in (root_page new p) k ≡ byte_in (root_page made p) k)
+    → at ≡ from + before → to ≡ first + before → HasMoved (root_row source) from first before (root_row made) → HasMoved (root_row source) from first (before + n) (root_row new)
+moved_part source made new n at to from first before within here bytes beside rest at_is to_is moved = record {
   permission = λ k below. elim (cases_lt k before) [
     | inl early ↦ beside (first + k) (omega arith) (inl (omega arith)) ∙ moved.permission k early
     | inr late ↦

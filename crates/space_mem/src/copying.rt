@@ -2,6 +2,7 @@ ghost use Rattle.std.specs.Prelude.{◌≡◌, ℕ, ◌+◌, ◌-◌, ◌%◌, �
 ghost use Rattle.memory_model.specs.Ranges.{with_copies};
 ghost use Rattle.memory_model.specs.Sizes.{pages};
 ghost use Rattle.page_tree.specs.Blocks.{block_pages, byte_in, within, IsWhole};
+ghost use Rattle.page_tree.specs.Branches.{branch_pages};
 ghost use Rattle.page_tree.specs.Trees.{tree_pages};
 ghost use Rattle.page_tree.specs.TreeRefs.{root_page, root_permission, root_row, AreWholeRoot};
 ghost use Rattle.space_mem.specs.Held.{IsOutside, KeepsMarksOutside, Marks};
@@ -13,7 +14,7 @@ use crate::memory::Mem;
 use crate::table::PageTable;
 use memory_model::PAGES;
 use page_store::PageRef;
-use page_tree::{BLOCK_PAGES, TreeRef};
+use page_tree::{BLOCK_PAGES, BRANCH_PAGES, TreeRef};
 use std::alloc::{AllocError, Global};
 
 impl Mem {
@@ -136,8 +137,8 @@ pub fn move_pages(
     Ok(made)
 }
 
-// Makes some pages from `to` on, at most `count`, like a source's from `at` on, and tells how many: a whole block where one begins at each
-// place. The pages from `to` on have no byte other than 0 before.
+// Makes some pages from `to` on, at most `count`, like a source's from `at` on, and tells how many: a whole branch or block where one begins at
+// each place. The pages from `to` on have no byte other than 0 before.
 fn move_some(
     made: &mut TreeRef,
     source: &TreeRef,
@@ -156,6 +157,10 @@ fn move_some(
     ensures whole { AreWholeRoot made.old → AreWholeRoot made.new }
 {
     let bare = (source.bare_end(at) - at).min(count);
+    if bare < BRANCH_PAGES && begin_branches(at, to) && count >= BRANCH_PAGES {
+        move_branch(made, source, at, to, alloc)?;
+        return Ok(BRANCH_PAGES);
+    }
     if bare < BLOCK_PAGES && begin_blocks(at, to) && count >= BLOCK_PAGES {
         move_block(made, source, at, to, alloc)?;
         return Ok(BLOCK_PAGES);
@@ -174,6 +179,39 @@ fn begin_blocks(at: usize, to: usize) -> bool
     ensures to { IsTrue result → to % block_pages ≡ 0 }
 {
     at % BLOCK_PAGES == 0 && to % BLOCK_PAGES == 0
+}
+
+// Whether two pages each are the first of a branch.
+fn begin_branches(at: usize, to: usize) -> bool
+    ensures at { IsTrue result → at % branch_pages ≡ 0 }
+    ensures to { IsTrue result → to % branch_pages ≡ 0 }
+{
+    at % BRANCH_PAGES == 0 && to % BRANCH_PAGES == 0
+}
+
+// Gives the branch that begins with the page `to` the pages of a source's branch, which it shares.
+fn move_branch(
+    made: &mut TreeRef,
+    source: &TreeRef,
+    at: usize,
+    to: usize,
+    alloc: Global,
+) -> Result<(), AllocError>
+    requires at { at % branch_pages ≡ 0 }
+    requires to { to % branch_pages ≡ 0 }
+    requires within { to + branch_pages ≤ tree_pages }
+    requires in_range { at + branch_pages ≤ tree_pages }
+    requires whole { AreWholeRoot source.now }
+    ensures here { OnOk result ((j : ℕ) → j < branch_pages → root_permission made.new (to + j) ≡ root_permission source.now (at + j)) }
+    ensures bytes { OnOk result ((j k : ℕ) → j < branch_pages → byte_in (root_page made.new (to + j)) k ≡ byte_in (root_page source.now (at + j)) k) }
+    ensures beside { OnOk result ((p : ℕ) → p < tree_pages → IsOutside to (to + branch_pages) p → root_permission made.new p ≡ root_permission made.old p) }
+    ensures rest { OnOk result ((p k : ℕ) → p < tree_pages → IsOutside to (to + branch_pages) p → byte_in (root_page made.new p) k ≡ byte_in (root_page made.old p) k) }
+    ensures whole { AreWholeRoot made.old → AreWholeRoot made.new }
+{
+    let branch = source.share_branch(at / BRANCH_PAGES, alloc)?;
+    made.prepare(to, to + BRANCH_PAGES, alloc)?;
+    made.put_branch(to / BRANCH_PAGES, branch);
+    Ok(())
 }
 
 // Gives the block that begins with the page `to` the pages of a source's block, which it shares.
