@@ -9,3 +9,5 @@ pub mod PageEdits
 pub mod Freezes
 pub mod Copies
 pub mod Alike
+pub mod Exchanges
+pub mod AtHand
