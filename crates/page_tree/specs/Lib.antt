@@ -11,6 +11,7 @@ pub mod Ready
 pub mod Replaceable
 pub mod Cuts
 pub mod BlockRows
+pub mod BareRows
 pub mod Settled
 pub mod Blockwise
 pub mod Uniforms

@@ -3,6 +3,7 @@ ghost use Rattle.page_store.specs.Bytes.{bytes_of};
 ghost use Rattle.page_tree.specs.Rows.{SameRow};
 ghost use Rattle.page_tree.specs.Uniforms.{uniform_row};
 ghost use Rattle.page_tree.specs.Blocks.{block_pages, page_in, byte_in};
+ghost use Rattle.page_tree.specs.BareRows.{bare_row};
 ghost use Rattle.page_tree.specs.BlockRows.{block_row};
 ghost use Rattle.page_tree.specs.BlockRefs.{ref_row};
 ghost use Rattle.page_tree.specs.Branches.{branch_pages, branch_blocks, block_at, branch_row};
@@ -10,6 +11,7 @@ ghost use Rattle.page_tree.specs.BranchRefs.{limb_row};
 ghost use Rattle.page_tree.specs.Trees.{tree_pages, tree_branches, branch_at, tree_row};
 ghost use Rattle.page_tree.specs.TreeRefs.{root_row};
 
+use crate::bare_block::BareBlock;
 use crate::block::{BLOCK_PAGES, Block};
 use crate::block_ref::BlockRef;
 use crate::branch::{BLOCKS, Branch};
@@ -34,6 +36,29 @@ fn same_permissions(own: &[u8; BLOCK_PAGES], others: &[u8; BLOCK_PAGES]) -> bool
     ensures differs { IsFalse result → ((j : ℕ) → j < block_pages → slice_index others.now j ≡ slice_index own.now j) → ⊥ }
 {
     own == others
+}
+
+impl BareBlock {
+    /// Whether two blocks have the same permissions.
+    pub fn same(&self, other: &BareBlock) -> bool
+        ensures same { IsTrue result → SameRow block_pages (bare_row self.now) (bare_row other.now) }
+        ensures differs { IsFalse result → SameRow block_pages (bare_row self.now) (bare_row other.now) → ⊥ }
+    {
+        same_permissions(&self.permissions, &other.permissions)
+    }
+
+    /// Whether each page has the permission.
+    pub fn is_all(&self, permission: u8) -> bool
+        ensures same { IsTrue result → SameRow block_pages (uniform_row permission) (bare_row self.now) }
+        ensures differs { IsFalse result → SameRow block_pages (uniform_row permission) (bare_row self.now) → ⊥ }
+    {
+        for j in 0..BLOCK_PAGES {
+            if self.permissions[j] != permission {
+                return false;
+            }
+        }
+        true
+    }
 }
 
 impl Block {
@@ -93,6 +118,25 @@ impl Block {
         }
         true
     }
+
+    /// Whether each page has its permission in a bare block, and no byte other than 0. It looks at no page where none is kept.
+    pub fn is_like_bare(&self, bare: &BareBlock) -> bool
+        ensures same { IsTrue result → SameRow block_pages (bare_row bare.now) (block_row self.now) }
+        ensures differs { IsFalse result → SameRow block_pages (bare_row bare.now) (block_row self.now) → ⊥ }
+    {
+        if !same_permissions(&bare.permissions, &self.permissions) {
+            return false;
+        }
+        if self.pages.is_empty() {
+            return true;
+        }
+        for j in 0..BLOCK_PAGES {
+            if !self.is_zero_at(j) {
+                return false;
+            }
+        }
+        true
+    }
 }
 
 impl BlockRef {
@@ -103,8 +147,22 @@ impl BlockRef {
     {
         match self {
             BlockRef::Uniform(permission) => other.is_all(*permission),
+            BlockRef::Bare(bare) => other.same_as_bare(bare),
             BlockRef::Shared(block) => other.same_as_block(block),
             BlockRef::Own(block) => other.same_as_block(block),
+        }
+    }
+
+    // Whether it has the permissions of a bare block, and no byte other than 0.
+    fn same_as_bare(&self, bare: &BareBlock) -> bool
+        ensures same { IsTrue result → SameRow block_pages (bare_row bare.now) (ref_row self.now) }
+        ensures differs { IsFalse result → SameRow block_pages (bare_row bare.now) (ref_row self.now) → ⊥ }
+    {
+        match self {
+            BlockRef::Uniform(permission) => bare.is_all(*permission),
+            BlockRef::Bare(kept) => bare.same(kept),
+            BlockRef::Shared(block) => block.is_like_bare(bare),
+            BlockRef::Own(block) => block.is_like_bare(bare),
         }
     }
 
@@ -115,6 +173,7 @@ impl BlockRef {
     {
         match self {
             BlockRef::Uniform(permission) => block.is_all(*permission),
+            BlockRef::Bare(bare) => block.is_like_bare(bare),
             BlockRef::Shared(kept) => block.same(kept),
             BlockRef::Own(kept) => block.same(kept),
         }
@@ -127,6 +186,7 @@ impl BlockRef {
     {
         match self {
             BlockRef::Uniform(of_all) => *of_all == permission,
+            BlockRef::Bare(bare) => bare.is_all(permission),
             BlockRef::Shared(block) => block.is_all(permission),
             BlockRef::Own(block) => block.is_all(permission),
         }

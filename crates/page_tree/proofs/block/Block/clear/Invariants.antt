@@ -1,5 +1,5 @@
-use Rattle.std.proofs.Common.{◌≡◌, ℕ, cond, length, None}
-use Rattle.page_tree.specs.Blocks.{block_pages, page_in, within}
+use Rattle.std.proofs.Common.{◌≡◌, ℕ, cond, None}
+use Rattle.page_tree.specs.Blocks.{page_in, within}
 use Rattle.page_tree.proofs.block.Block.clear.Given as goal
 
 abbrev pub invariant-loop-j : goal.invariant-loop-j

@@ -1,5 +1,5 @@
-use Rattle.std.proofs.Common.{◌≡◌, ℕ, ◌<◌, length, true, false}
-use Rattle.page_tree.specs.Blocks.{block_pages, page_in, is_own_in, SameBytes, AreWhole}
+use Rattle.std.proofs.Common.{◌≡◌, ℕ, ◌<◌, true, false}
+use Rattle.page_tree.specs.Blocks.{page_in, is_own_in, SameBytes, AreWhole}
 use Rattle.page_tree.proofs.block.Block.freeze.Given as goal
 
 abbrev pub invariant-loop-j : goal.invariant-loop-j

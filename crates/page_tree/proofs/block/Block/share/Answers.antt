@@ -1,4 +1,4 @@
-use Rattle.std.proofs.Common.{◌≡◌, ℕ, None, arith, inl, inr, ap, ◌∙◌, sym, subst}
+use Rattle.std.proofs.Common.{◌≡◌, arith, inl, inr, ap, ◌∙◌, sym, subst}
 use Rattle.std.proofs.lemmas.Bool.{cases_eq}
 use Rattle.page_tree.specs.Blocks.{page_in, is_own_in, byte_in, IsWhole}
 use Rattle.page_tree.specs.Kept.{slot_in}

@@ -1,5 +1,5 @@
-use Rattle.std.proofs.Common.{◌≡◌, ℕ, ◌<◌, length, slice_index_or, None}
-use Rattle.page_tree.specs.Blocks.{block_pages, page_in, is_own_in, byte_in, IsWhole}
+use Rattle.std.proofs.Common.{◌≡◌, ℕ, ◌<◌, slice_index_or, None}
+use Rattle.page_tree.specs.Blocks.{page_in, is_own_in, byte_in, IsWhole}
 use Rattle.page_tree.proofs.block.Block.share.Given as goal
 
 abbrev pub invariant-loop-j : goal.invariant-loop-j

@@ -1,4 +1,4 @@
-use Rattle.std.proofs.Common.{◌≡◌, ◌≤◌, ◌+◌, ◌-◌, arith, sym, ap, ◌∙◌}
+use Rattle.std.proofs.Common.{arith, sym, ap, ◌∙◌}
 use Rattle.page_tree.specs.Kept.{kept_in}
 use Rattle.page_tree.proofs.Counts.{count_most, counted_set, kept_least, kept_most, slot_is}
 use Rattle.page_tree.proofs.slots.Slots.replace.Goals as goal
