@@ -4,12 +4,15 @@ use Rattle.page_tree.specs.Blocks.{bytes_in, is_own_in}
 use Rattle.memory_model.specs.Ranges.{with_page}
 use Rattle.space_mem.specs.Tables.{memory_of}
 use Rattle.space_mem.proofs.Tables.{same_held, owns_own, own_owns, marked_at}
-use Rattle.space_mem.proofs.Updates.{own_kept, owned_row}
+use Rattle.space_mem.proofs.Updates.{own_replaceable, own_kept, owned_row}
 use Rattle.space_mem.proofs.Exchanges.{exchanged_memory, exchanged_own, given_page}
 use Rattle.space_mem.proofs.table.PageTable.exchange.Goals as goal
 
 pub returns-then-not-owns-clause-sure : goal.returns-then-not-owns-clause-sure
 returns-then-not-owns-clause-sure c = λ owns. absurd (false≢true (c.if-not-owns.ensures ∙ owns_own c.args.self.now c.args.n c.requires.within owns))
+
+pub replace-requires-clause-ready : goal.replace-requires-clause-ready
+replace-requires-clause-ready c = own_replaceable c.args.self.now.pages c.args.n (sym c.if-not-owns.ensures)
 
 pub returns-clause-given : goal.returns-clause-given
 returns-clause-given c = λ _. given_page c.args.self.now c.args.n c.replace.result c.requires.table c.requires.within c.replace.ensures.was (ap is_own_in c.replace.ensures.was ∙ own_kept c.args.self.now.pages c.args.n (sym c.if-not-owns.ensures))
