@@ -4,7 +4,7 @@ use Rattle.std.specs.Prelude.{option_to_list}
 use Rattle.device_model.specs.Devices.{Devices}
 use Rattle.space_model.specs.Space.{Top}
 use Rattle.space_model.specs.Change.{after_success, after_error, with_count, after_payment}
-use Rattle.space_model.specs.Event.{moves, charge, next_number, clock, random}
+use Rattle.space_model.specs.Event.{moves, charge, with_devices, next_number, clock, random}
 use Rattle.root_device.specs.Calls.{after_number}
 
 -- the next number, by what a queue gave and what is left in it
@@ -36,3 +36,14 @@ clock_told t u d rest o is split off e = ap moves (paid_number_told t u d.clocks
 pub random_told : (t u : Top) (d : Devices) (rest : List ℕ) (o : Option ℕ) → t.devices ≡ Some d → d.numbers ≡ option_to_list o ++ rest → rest ≡ drop 1 d.numbers
     → u ≡ after_number o (after_payment (record t { devices = Some (record d { numbers = rest }) }) (record t { devices = Some (record d { numbers = rest }) })) → charge t (random t d) ≡ moves u
 random_told t u d rest o is split off e = ap moves (paid_number_told t u d.numbers rest o (λ ns. record d { numbers = ns }) is split off e)
+
+-- the same of a space whose devices are there
+pub clock_given : (t u : Top) (d : Devices) (rest : List ℕ) (o : Option ℕ) → t.devices ≡ Some d → d.clocks ≡ option_to_list o ++ rest → rest ≡ drop 1 d.clocks
+    → u ≡ after_number o (after_payment (record t { devices = Some (record d { clocks = rest }) }) (record t { devices = Some (record d { clocks = rest }) }))
+    → charge t (with_devices t t.devices (clock t)) ≡ moves u
+clock_given t u d rest o is split off e = ap (λ (ds : Option Devices). charge t (with_devices t ds (clock t))) is ∙ clock_told t u d rest o is split off e
+
+pub random_given : (t u : Top) (d : Devices) (rest : List ℕ) (o : Option ℕ) → t.devices ≡ Some d → d.numbers ≡ option_to_list o ++ rest → rest ≡ drop 1 d.numbers
+    → u ≡ after_number o (after_payment (record t { devices = Some (record d { numbers = rest }) }) (record t { devices = Some (record d { numbers = rest }) }))
+    → charge t (with_devices t t.devices (random t)) ≡ moves u
+random_given t u d rest o is split off e = ap (λ (ds : Option Devices). charge t (with_devices t ds (random t))) is ∙ random_told t u d rest o is split off e

@@ -23,7 +23,7 @@ fn tell_number(top: &mut Top, number: Option<u32>)
 }
 
 // The next reading of the clock, which is paid for.
-#[tactic(auto, using(crate::proofs::ConsoleEvents::refused, crate::proofs::NumberEvents::clock_told))]
+#[tactic(auto, using(crate::proofs::ConsoleEvents::refused))]
 pub(crate) fn read_clock(top: &mut Top)
     requires { MayPay top.old }
     ensures { charge top.old (with_devices top.old top.old.devices (event.clock top.old)) ≡ moves top.new }
@@ -36,7 +36,7 @@ pub(crate) fn read_clock(top: &mut Top)
 }
 
 // The next random number, which is paid for.
-#[tactic(auto, using(crate::proofs::ConsoleEvents::refused, crate::proofs::NumberEvents::random_told))]
+#[tactic(auto, using(crate::proofs::ConsoleEvents::refused))]
 pub(crate) fn draw_number(top: &mut Top)
     requires { MayPay top.old }
     ensures { charge top.old (with_devices top.old top.old.devices (event.random top.old)) ≡ moves top.new }
