@@ -1,0 +1,50 @@
+use Rattle.std.proofs.Common.{◌≡◌, ℕ, Some, true, sym, ap, ◌∙◌, subst, arith}
+use Rattle.run_model.specs.Schedule.{is_local_at}
+use Rattle.det_core.specs.Legal.{Legal}
+use Rattle.path_set.specs.Paths.{paths_in}
+use Rattle.arrayvec.specs.ArrayVec.{ArrayVec}
+use Rattle.det_laws.specs.Tops.{top_at}
+use Rattle.board.specs.declared.job.Out.{Out}
+use Rattle.board.specs.Jobs.{MayBeTaken, Sets}
+use Rattle.board.specs.Listed.{IsListed}
+use Rattle.board.specs.Value.{Shown}
+use Rattle.board.proofs.Kept.{put_out_listed}
+use Rattle.board.proofs.Histories.{legal_sound, alone_sound, goes_stands}
+use Rattle.board.proofs.board.Board.put_out.Goals as goal
+
+pub unreachable-requires : goal.unreachable-requires
+unreachable-requires c =
+    let goes : is_local_at c.args.path.items 8 c.self.inside.tree ≡ true = ap (λ (s : Shown). is_local_at c.args.path.items 8 s.tree) c.self.view_is ∙ c.requires.goes in
+    goes_stands c.args.path.items c.self.inside.tree c.in_ok-top.field-0 goes c.in_ok-top.ensures.equal c.in_default.is
+
+pub invariant_of-result : goal.invariant_of-result
+invariant_of-result c =
+    let b = c.self.inside in
+    let kept = c.self.invariant in
+    let stood : top_at c.args.path.items b.tree ≡ Some c.in-Some.top = sym c.in_ok-top.ensures.equal ∙ c.in-Some.is in
+    record { sound = alone_sound c.args.path.items b.tree c.in-Some.top (legal_sound b.history.items b.boot b.tree kept.legal kept.sound) stood }
+
+pub invariant_of-self-2 : goal.invariant_of-self-2
+invariant_of-self-2 c =
+    let b = c.self.inside in
+    let kept = c.self.invariant in
+    let o : Out = record { ticket = b.next_ticket; path = c.in_ok-copy_path.field-0 } in
+    let may : MayBeTaken b.tree b.out.slots c.args.path.items = subst (λ (s : Shown). MayBeTaken s.tree s.out c.args.path.items) (sym c.self.view_is) c.requires in
+    let may_out : MayBeTaken b.tree b.out.slots o.path.items = subst (λ (p : ArrayVec ℕ). MayBeTaken b.tree b.out.slots p.items) (sym c.in_ok-copy_path.ensures) may in
+    let sets : Sets c.in_ok-slot.slot (Some o) b.out.slots c.insert.new.self.slots = record { here = c.in_ok-slot.ensures.updates.changed; others = c.in_ok-slot.ensures.updates.others } in
+    let listed = put_out_listed b.tree b.run b.calls (paths_in b.news.items) b.out.slots c.insert.new.self.slots c.in_ok-slot.slot o kept.listed may_out c.in_ok-slot.ensures.was_vacant sets in
+    let tree = c.in_ok-top.ensures.same in
+    let places = c.in_ok-make_places.ensures.places in
+    let room = places.0 in
+    let news_room = places.1 in
+    let count = c.in_ok-count.ensures in
+    let jobs = c.len.ensures in
+    let more = c.in_ok-slot.ensures.len in
+    record {
+      sound = kept.sound;
+      legal = subst (λ s. Legal b.boot c.make_places.new.history.items s) (sym tree) (subst (λ es. Legal b.boot es b.tree) (sym c.make_places.ensures.history) kept.legal);
+      listed = subst (λ s. IsListed s b.run b.calls (paths_in c.make_places.new.news.items) c.insert.new.self.slots) (sym tree)
+          (subst (λ ns. IsListed b.tree b.run b.calls (paths_in ns) c.insert.new.self.slots) (sym c.make_places.ensures.news) listed);
+      places = omega (arith, room, count, jobs, more);
+      news_places = omega (arith, news_room, count, jobs, more);
+    }

@@ -1,0 +1,30 @@
+use Rattle.std.proofs.Common.{◌+◌, arith, length, take, ap, ◌∙◌}
+use Rattle.space_model.specs.Meeting.{awaits}
+use Rattle.board.proofs.Ways.{next_awaited, one_more_awaited, awaited_end}
+use Rattle.board.proofs.listing.list_awaited.Goals as goal
+
+pub loop-index-preserved : goal.loop-index-preserved
+loop-index-preserved c =
+    let so_far = c.loop-index.invariant in
+    let there = c.in_ok-list_child.ensures.there in
+    let all = c.awaits-all.result in
+    let i = c.loop-index.index in
+    let a = c.get-awaited.result in
+    let q = c.args.path.now.items in
+    let more = next_awaited all i a c.get-awaited.ensures in (
+      λ p has. c.list_child.ensures.run p (so_far.0 p has),
+      λ p has. c.list_child.ensures.calls p (so_far.1 p has),
+      one_more_awaited c.loop-index.run c.list_child.new.run (take i all) (take (i + 1) all) a q more so_far.2 c.list_child.ensures.run (λ short. (there short).0),
+      one_more_awaited c.loop-index.calls c.list_child.new.calls (take i all) (take (i + 1) all) a q more so_far.3 c.list_child.ensures.calls (λ short. (there short).1),
+    )
+
+pub returns-clause-awaited : goal.returns-clause-awaited
+returns-clause-awaited c =
+    let so_far = c.loop-index.invariant in
+    let all = c.awaits-all.result in
+    let i = c.loop-index.index in
+    let q = c.args.path.now.items in
+    let end = c.len-index-end.ensures in
+    let past = c.loop-index-test.false in
+    let named = c.awaits-all.ensures ∙ ap awaits c.call.ensures.value in
+    (awaited_end c.loop-index.run all (awaits c.args.call) q i so_far.2 (omega (arith, end, past)) named, awaited_end c.loop-index.calls all (awaits c.args.call) q i so_far.3 (omega (arith, end, past)) named)

@@ -1,0 +1,6 @@
+pub mod Sound
+pub mod Jobs
+pub mod Listed
+pub mod Value
+pub mod View
+pub mod Steps

@@ -1,0 +1,63 @@
+-- Where a board looks: sets that have at least all paths at which an event may happen.
+-- Our choice: a set may have more, since each path is looked at before it is used.
+use Rattle.std.specs.Prelude.{◌≡◌, ◌⊎◌, ◌≤◌, ℕ, Bool, true, List, ◌∷◌, ◌++◌, Some, length}
+use Rattle.call_model.specs.Limits.{greatest_depth}
+use Rattle.call_model.specs.declared.Call.{Call}
+use Rattle.space_model.specs.Space.{Space}
+use Rattle.run_model.specs.Schedule.{is_local_at, call_at, is_enabled}
+use Rattle.space_model.specs.Sound.{IsSoundAt}
+use Rattle.space_model.specs.declared.Await.{Await}
+use Rattle.det_laws.specs.Near.{IsOnWay, IsAwaitedBelow}
+use Rattle.path_set.specs.Paths.{Paths, Has}
+use Rattle.board.specs.Jobs.{Slots, out_at, IsOut}
+use Rattle.board.specs.declared.job.Out.{Out}
+
+-- a path on the way to one at which something new has happened
+abbrev pub IsOnNews : Paths → List ℕ → Type 0
+IsOnNews news p = (q : List ℕ) × Has news q × IsOnWay p q
+
+-- each space that has local events is listed, or is out
+abbrev pub ListsRunning : Space → Paths → Paths → Slots → Type 0
+ListsRunning tree run news out = (p : List ℕ) → is_local_at p greatest_depth tree ≡ true → Has run p ⊎ (IsOnNews news p ⊎ IsOut out p)
+
+-- each call that may meet its children is listed
+abbrev pub ListsCalls : Space → Paths → Paths → Type 0
+ListsCalls tree calls news = (p : List ℕ) (k : Call) → call_at p greatest_depth tree ≡ Some k → Has calls p ⊎ IsOnNews news p
+
+-- each space that is out has local events
+abbrev pub OutsRun : Space → Slots → Type 0
+OutsRun tree out = (p : List ℕ) → IsOut out p → is_local_at p greatest_depth tree ≡ true
+
+-- and no space is out twice
+abbrev pub OutsApart : Slots → Type 0
+OutsApart out = (i j : ℕ) (o r : Out) → out_at out i ≡ Some o → out_at out j ≡ Some r → o.path.items ≡ r.path.items → i ≡ j
+
+pub record IsListed (tree : Space) (run calls news : Paths) (out : Slots) : Type 0 where
+  pub running : ListsRunning tree run news out
+  pub meeting : ListsCalls tree calls news
+  pub goes : OutsRun tree out
+  pub apart : OutsApart out
+
+-- sets that have at least what others had
+abbrev pub HasAll : Paths → Paths → Type 0
+HasAll new old = (p : List ℕ) → Has old p → Has new p
+
+-- all that stand on the way to a path
+abbrev pub HasWay : Paths → List ℕ → Type 0
+HasWay ps q = (p : List ℕ) → IsOnWay p q → Has ps p
+
+-- all children of q that are awaited, as far as a space can stand there
+abbrev pub HasAwaited : Paths → List Await → List ℕ → Type 0
+HasAwaited ps all q = (p : List ℕ) → length p ≤ greatest_depth → IsAwaitedBelow all p q → Has ps p
+
+-- a space that is sound with so many levels of children left below it
+abbrev pub IsSoundSomewhere : ℕ → Space → Type 0
+IsSoundSomewhere levels s = (root : Bool) × (fuel : ℕ) × IsSoundAt levels root fuel s
+
+-- each path from a space on, which stands at q, at which an event may happen
+abbrev pub HasEnabled : Paths → List ℕ → ℕ → Space → Type 0
+HasEnabled ps q levels s = (p : List ℕ) → is_enabled p levels s ≡ true → Has ps (q ++ p)
+
+-- and each from its child of this number on
+abbrev pub HasEnabledBelow : Paths → List ℕ → ℕ → ℕ → Space → Type 0
+HasEnabledBelow ps q levels number s = (p : List ℕ) → is_enabled (number ∷ p) levels s ≡ true → Has ps (q ++ number ∷ p)

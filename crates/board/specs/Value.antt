@@ -1,0 +1,30 @@
+-- What contracts see of a board.
+-- Our choice: the tree that it began with, the history since, the tree that it has, and the jobs that are out.
+use Rattle.std.specs.Prelude.{ℕ, List, [], Option, refl}
+use Rattle.std.specs.Coded.{Coded, coded_ℕ, coded×, coded_list, coded_option, code_by}
+use Rattle.space_model.specs.Space.{Space}
+use Rattle.space_model.specs.Encoding.{coded_space}
+use Rattle.det_core.specs.declared.entry.Entry.{Entry}
+use Rattle.det_core.specs.contracts.entry.Entry as entry
+use Rattle.board.specs.contracts.job.Out as out
+use Rattle.board.specs.declared.job.Out.{Out}
+use Rattle.board.specs.Jobs.{Slots}
+
+pub record Shown : Type 0 where
+  pub boot : Space
+  pub nodes : ℕ
+  pub tree : Space
+  pub history : List Entry
+  pub out : Slots
+  -- the number of the next ticket
+  pub next_ticket : ℕ
+
+abbrev pub coded_shown : Coded Shown
+coded_shown = code_by (Space × (ℕ × (Space × (List Entry × (List (Option Out) × ℕ)))))
+    (coded× coded_space (coded× coded_ℕ (coded× coded_space (coded× (coded_list entry.the_row.coded) (coded× (coded_list (coded_option out.the_row.coded)) coded_ℕ)))))
+    (λ b. (b.boot, (b.nodes, (b.tree, (b.history, (b.out, b.next_ticket))))))
+    (λ p. record { boot = p.0; nodes = p.1.0; tree = p.1.1.0; history = p.1.1.1.0; out = p.1.1.1.1.0; next_ticket = p.1.1.1.1.1 }) (λ _. refl)
+
+-- a board that begins
+abbrev pub begun : Space → ℕ → Shown
+begun s nodes = record { boot = s; nodes = nodes; tree = s; history = []; out = []; next_ticket = 0 }

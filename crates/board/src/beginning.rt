@@ -1,0 +1,94 @@
+ghost use Rattle.std.specs.Prelude.{◌≡◌, ◌+◌, ◌-◌, ◌<◌, Some, slice_get, IfOk, OnOk, length};
+ghost use Rattle.space_model.specs.Sound.{IsSound};
+ghost use Rattle.board.specs.Listed.{HasAll, HasEnabled, HasEnabledBelow, IsSoundSomewhere};
+ghost use Rattle.board.specs.Value.{begun};
+
+use crate::board::Board;
+use crate::listing::{child_path, list};
+use path_set::PathSet;
+use slab::Slab;
+use space_tree::{Path, Space, copy_tree};
+use std::alloc::{AllocError, Global};
+
+// The number at a place of a list.
+fn number_at(numbers: &[u16], index: usize) -> u16
+    requires { index < length numbers.now }
+    ensures { slice_get numbers.now index ≡ Some result }
+{
+    numbers[index]
+}
+
+// Lists the paths of a space, which stands at a path, and of all below it, so many levels at most, that may have an event.
+#[cycle(all)]
+fn list_all(
+    alloc: Global,
+    run: &mut PathSet,
+    calls: &mut PathSet,
+    space: &Space,
+    path: &Path,
+    levels: u8,
+) -> Result<(), AllocError>
+    requires sound { IsSoundSomewhere levels space.now }
+    requires deep { length path.now.items + levels ≡ 8 }
+    ensures run { HasAll run.new run.old }
+    ensures calls { HasAll calls.new calls.old }
+    ensures all { OnOk result (HasEnabled run.new path.now.items levels space.now × HasEnabled calls.new path.now.items levels space.now) }
+{
+    list(run, calls, path)?;
+    let numbers = space.children.numbers(alloc)?;
+    for index in 0..numbers.len() {
+        let number = number_at(&numbers, index);
+        list_child(alloc, run, calls, space, path, levels, number)?;
+    }
+    Ok(())
+}
+
+// As `list_all`, of the child of that number, where there is one.
+#[cycle(all)]
+fn list_child(
+    alloc: Global,
+    run: &mut PathSet,
+    calls: &mut PathSet,
+    space: &Space,
+    path: &Path,
+    levels: u8,
+    number: u16,
+) -> Result<(), AllocError>
+    requires sound { IsSoundSomewhere levels space.now }
+    requires deep { length path.now.items + levels ≡ 8 }
+    ensures run { HasAll run.new run.old }
+    ensures calls { HasAll calls.new calls.old }
+    ensures child { OnOk result (HasEnabledBelow run.new path.now.items levels number space.now × HasEnabledBelow calls.new path.now.items levels number space.now) }
+{
+    let Some(child) = space.children.get(number) else {
+        return Ok(());
+    };
+    let below = child_path(path, number)?;
+    list_all(alloc, run, calls, child, &below, levels - 1)
+}
+
+impl Board {
+    /// A board over a sound tree, which is the tree that it begins with and the tree that it has, on so many nodes (one so far): no job is out, and nothing
+    /// has happened. The one error is want of memory.
+    pub fn begin(alloc: Global, mut space: Space, nodes: u32) -> Result<Board, AllocError>
+        requires sound { IsSound space }
+        requires nodes { nodes ≡ 1 }
+        ensures { IfOk result (λ b. b ≡ begun space nodes) }
+    {
+        let mut run = PathSet::new(alloc);
+        let mut calls = PathSet::new(alloc);
+        list_all(alloc, &mut run, &mut calls, &space, &Path::new(), 8)?;
+        Ok(Board {
+            alloc,
+            boot: copy_tree(alloc, &mut space)?,
+            nodes,
+            tree: space,
+            history: Vec::new(alloc),
+            out: Slab::new(alloc),
+            next_ticket: 0,
+            run,
+            calls,
+            news: Vec::new(alloc),
+        })
+    }
+}

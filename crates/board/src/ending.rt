@@ -1,0 +1,51 @@
+ghost use Rattle.std.specs.Prelude.{◌≡◌, true};
+ghost use Rattle.space_model.specs.Space.{is_settled};
+ghost use Rattle.space_model.specs.Sound.{IsSound};
+ghost use Rattle.det_core.specs.Legal.{Legal};
+ghost use Rattle.board.specs.Jobs.{IsNoneOut};
+
+use crate::board::Board;
+use crate::closed::Closed;
+use det_core::Entry;
+use space_tree::is_settled;
+
+impl Board {
+    /// Whether no job is out and no space in the tree runs. It takes no memory.
+    pub fn finished(&self) -> bool
+        ensures yes { result ≡ true → IsNoneOut self.now.out × (is_settled self.now.tree ≡ true) }
+        ensures no { IsNoneOut self.now.out → is_settled self.now.tree ≡ true → result ≡ true }
+    {
+        self.out.is_empty() && is_settled(&self.tree)
+    }
+
+    /// What has happened, from the tree that the board began with on.
+    pub fn history(&self) -> &[Entry]
+        ensures is { result.now ≡ self.now.history }
+        ensures legal { IsSound self.now.boot × Legal self.now.boot self.now.history self.now.tree }
+    {
+        self.history.as_slice()
+    }
+
+    /// Closes the board. The jobs that are out are forgotten.
+    pub fn close(self) -> Closed
+        ensures boot { result.boot ≡ self.boot }
+        ensures nodes { result.nodes ≡ self.nodes }
+        ensures tree { result.tree ≡ self.tree }
+        ensures history { result.history.items ≡ self.history }
+        ensures legal { IsSound result.boot × Legal result.boot result.history.items result.tree }
+    {
+        let Board {
+            boot,
+            nodes,
+            tree,
+            history,
+            ..
+        } = self;
+        Closed {
+            boot,
+            nodes,
+            tree,
+            history,
+        }
+    }
+}

@@ -1,0 +1,63 @@
+ghost use Rattle.std.specs.Prelude.{◌≡◌, None, IsSome};
+ghost use Rattle.board.specs.declared.job.Out.{Out};
+ghost use Rattle.board.specs.Jobs.{Sets, out_at};
+ghost use Rattle.board.specs.Steps.{Commits, IsOfJob, IsTaken};
+
+use crate::board::Board;
+use crate::committing::{is_of_slot, ticket_in};
+use crate::done::Done;
+use crate::result::Commit;
+use det_core::Entry;
+use space_tree::swap_top;
+
+impl Board {
+    // The result of the job that is out in its slot: its last top stands in the tree, and its events in the history.
+    fn accept(&mut self, done: Done)
+        requires { (o : Out) × IsOfJob self.old done o }
+        ensures { IsTaken self.old done self.new }
+    {
+        let Done {
+            slot,
+            ticket: _,
+            path,
+            run,
+        } = done;
+        run.leads();
+        let events = run.ran();
+        let (_, top) = run.into_parts();
+        let out = self.out.remove(slot);
+        swap_top(&mut self.tree, &path, top);
+        self.news.push_reserved(out.path);
+        self.history.push_reserved(Entry::Ran { path, events });
+    }
+
+    // The job of a slot is out no longer; its space stands in the tree as it did.
+    fn forget(&mut self, slot: usize)
+        requires { IsSome (out_at self.old.out slot) }
+        ensures out { Sets slot None self.old.out self.new.out }
+        ensures others { self.new ≡ record self.old { out = self.new.out } }
+    {
+        let out = self.out.remove(slot);
+        self.news.push_reserved(out.path);
+    }
+
+    /// Hands in a result. It is taken exactly where it is of the job that is out in its slot: its ticket and path are the job's, and it began with what
+    /// stands in the tree there. Then its last top stands there, and its events are the last entry of the history. A result of another job changes
+    /// nothing, but that the job of its slot is out no longer where the ticket is that one's. It takes no memory.
+    pub fn commit(&mut self, done: Done) -> Commit
+        ensures { Commits self.old done result self.new }
+    {
+        let Some(ticket) = ticket_in(&self.out, done.slot) else {
+            return Commit::Stale { kept: None };
+        };
+        if ticket != done.ticket {
+            return Commit::Stale { kept: Some(ticket) };
+        }
+        if is_of_slot(&self.tree, &self.out, &done) {
+            self.accept(done);
+            return Commit::Taken;
+        }
+        self.forget(done.slot);
+        Commit::Stale { kept: Some(ticket) }
+    }
+}

@@ -1,0 +1,23 @@
+//! A board of jobs over a tree of spaces: any number of workers take spaces that have local events, in any order, and hand in what became of
+//! them; calls meet their children here. The board is the value behind a lock, and it carries a history that leads from the tree it began with to
+//! the tree it has.
+#![tactic(auto)]
+
+mod beginning;
+mod board;
+mod closed;
+mod committing;
+mod done;
+mod ending;
+mod handing_in;
+mod job;
+mod listing;
+mod meeting;
+mod result;
+mod taking;
+
+pub use board::Board;
+pub use closed::Closed;
+pub use done::Done;
+pub use job::{Job, Out};
+pub use result::Commit;

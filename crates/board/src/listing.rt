@@ -1,0 +1,130 @@
+ghost use Rattle.std.specs.Prelude.{◌≡◌, ℕ, ◌+◌, ◌<◌, ◌≤◌, ◌++◌, [], ◌∷◌, IfOk, OnOk, take, length, vec_len, vec_capacity};
+ghost use Rattle.space_model.specs.Space.{Space};
+ghost use Rattle.path_set.specs.Paths.{Has, paths_in};
+ghost use Rattle.board.specs.Jobs.{Slots};
+ghost use Rattle.board.specs.Listed.{HasAll, HasAwaited, HasWay, IsListed};
+ghost use Rattle.space_model.specs.Meeting.{awaits};
+
+use path_set::PathSet;
+use space_step::AcceptedCall;
+use space_tree::Path;
+use std::alloc::AllocError;
+use trap_ret::awaits;
+
+/// Lists a path among the spaces that may run and among the calls that may meet their children.
+pub(crate) fn list(run: &mut PathSet, calls: &mut PathSet, path: &Path) -> Result<(), AllocError>
+    ensures run { HasAll run.new run.old }
+    ensures calls { HasAll calls.new calls.old }
+    ensures there { OnOk result (Has run.new path.now.items × Has calls.new path.now.items) }
+{
+    run.insert(path.clone()?)?;
+    calls.insert(path.clone()?)
+}
+
+/// One more than so many. The one error stands for want of memory: no list is so long.
+pub(crate) fn one_more(count: usize) -> Result<usize, AllocError>
+    ensures { IfOk result (λ n. n ≡ count + 1) }
+{
+    count.checked_add(1).ok_or(AllocError)
+}
+
+/// A path that is equal.
+pub(crate) fn copy_path(path: &Path) -> Result<Path, AllocError>
+    ensures { IfOk result (λ p. p ≡ path.now) }
+{
+    path.clone()
+}
+
+/// The path of a child of the space at a path, where there is a level for one.
+pub(crate) fn child_path(path: &Path, number: u16) -> Result<Path, AllocError>
+    requires { length path.now.items < 8 }
+    ensures { IfOk result (λ p. p.items ≡ path.now.items ++ number ∷ []) }
+{
+    let mut child = path.clone()?;
+    child.push(number);
+    Ok(child)
+}
+
+// The first so many numbers of a path.
+fn beginning(path: &Path, length: usize) -> Result<Path, AllocError>
+    ensures { IfOk result (λ p. p.items ≡ take length path.now.items) }
+{
+    let mut above = path.clone()?;
+    above.truncate(length);
+    Ok(above)
+}
+
+/// Lists a path, and all that stand on the way to it.
+#[tactic(auto, using(crate::proofs::Ways::none_shorter))]
+pub(crate) fn list_way(
+    run: &mut PathSet,
+    calls: &mut PathSet,
+    path: &Path,
+) -> Result<(), AllocError>
+    ensures run { HasAll run.new run.old }
+    ensures calls { HasAll calls.new calls.old }
+    ensures way { OnOk result (HasWay run.new path.now.items × HasWay calls.new path.now.items) }
+{
+    for length in 0..path.len() + 1 {
+        let above = beginning(path, length)?;
+        list(run, calls, &above)?;
+    }
+    Ok(())
+}
+
+// Lists a child of the space at a path, where a space can stand there.
+fn list_child(
+    run: &mut PathSet,
+    calls: &mut PathSet,
+    path: &Path,
+    number: u16,
+) -> Result<(), AllocError>
+    ensures run { HasAll run.new run.old }
+    ensures calls { HasAll calls.new calls.old }
+    ensures there { OnOk result (length path.now.items < 8 → Has run.new (path.now.items ++ number ∷ []) × Has calls.new (path.now.items ++ number ∷ [])) }
+{
+    let mut child = path.clone()?;
+    if child.try_push(number).is_err() {
+        return Ok(());
+    }
+    list(run, calls, &child)
+}
+
+/// Lists the children of the space at a path that its call awaits.
+pub(crate) fn list_awaited(
+    run: &mut PathSet,
+    calls: &mut PathSet,
+    path: &Path,
+    call: AcceptedCall,
+) -> Result<(), AllocError>
+    ensures run { HasAll run.new run.old }
+    ensures calls { HasAll calls.new calls.old }
+    ensures awaited { OnOk result (HasAwaited run.new (awaits call) path.now.items × HasAwaited calls.new (awaits call) path.now.items) }
+{
+    let all = awaits(call.call());
+    for index in 0..all.len() {
+        let awaited = all.get(index);
+        list_child(run, calls, path, awaited.number)?;
+    }
+    Ok(())
+}
+
+/// Brings the lists up to date: what stands on the way to the news is listed, and no news are left.
+pub(crate) fn list_news(
+    run: &mut PathSet,
+    calls: &mut PathSet,
+    news: &mut Vec<Path>,
+) -> Result<(), AllocError>
+    ensures listed { (tree : Space) (out : Slots) → IsListed tree run.old calls.old (paths_in news.old.items) out → IsListed tree run.new calls.new (paths_in news.new.items) out }
+    ensures none { OnOk result (news.new.items ≡ []) }
+    ensures fewer { vec_len news.new ≤ vec_len news.old }
+    ensures capacity { vec_capacity news.new ≡ vec_capacity news.old }
+{
+    while let Some(path) = news.pop() {
+        if list_way(run, calls, &path).is_err() {
+            news.push_reserved(path);
+            return Err(AllocError);
+        }
+    }
+    Ok(())
+}

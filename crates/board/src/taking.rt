@@ -1,0 +1,163 @@
+ghost use Rattle.std.specs.Prelude.{◌≡◌, ◌+◌, ◌-◌, ◌≤◌, ◌<◌, [], length, true, false, IfOk, IfSome, IsNone, OnOk, OnErr, List, ℕ, vec_len, vec_capacity};
+ghost use Rattle.call_model.specs.Limits.{greatest_depth, levels_below};
+ghost use Rattle.space_model.specs.Space.{Space, top_of};
+ghost use Rattle.space_model.specs.Event.{next};
+ghost use Rattle.run_model.specs.Schedule.{is_local, is_local_at};
+ghost use Rattle.path_set.specs.Paths.{IsFirst, Paths};
+ghost use Rattle.board.specs.Jobs.{IsFor, IsOut, MayBeTaken};
+ghost use Rattle.board.specs.Listed.{IsListed};
+ghost use Rattle.board.specs.Steps.{IsLeast, IsPutOut, Takes};
+
+use crate::board::Board;
+use crate::job::{Job, Out};
+use crate::listing::{copy_path, list_news, one_more};
+use det_core::Entry;
+use path_set::PathSet;
+use slab::Slab;
+use space_step::{Next, peek};
+use space_tree::{Path, Space, at, copy_top_at};
+use std::alloc::AllocError;
+
+// Whether the job of a slot is for a path.
+fn is_for(out: &Slab<Out>, slot: usize, path: &Path) -> bool
+    ensures yes { result ≡ true → IsFor out.now.slots slot path.now.items }
+    ensures no { IsFor out.now.slots slot path.now.items → result ≡ true }
+{
+    match out.get(slot) {
+        Some(job) => job.path.as_slice() == path.as_slice(),
+        None => false,
+    }
+}
+
+// Whether a job is out for a path.
+#[tactic(auto, using(crate::proofs::Outs::is_out_there, crate::proofs::Outs::none_out_yet, crate::proofs::Outs::one_more_not, crate::proofs::Outs::none_out))]
+fn is_out(out: &Slab<Out>, path: &Path) -> bool
+    ensures yes { result ≡ true → IsOut out.now.slots path.now.items }
+    ensures no { IsOut out.now.slots path.now.items → result ≡ true }
+{
+    for slot in 0..out.capacity() {
+        if is_for(out, slot, path) {
+            return true;
+        }
+    }
+    false
+}
+
+// Whether a space at this depth has a local event next.
+fn goes(space: &Space, depth: u8) -> bool
+    requires { depth ≤ greatest_depth }
+    ensures { result ≡ is_local (next (levels_below depth) (top_of space.now)) }
+{
+    match peek(&space.top, depth) {
+        Next::Local => true,
+        Next::Meet(_) | Next::Stopped => false,
+    }
+}
+
+// Whether the space at a path has a local event next.
+#[tactic(auto, using(crate::proofs::Kept::local_found, crate::proofs::Kept::local_missing))]
+fn goes_at(tree: &Space, path: &Path) -> bool
+    ensures { result ≡ is_local_at path.now.items greatest_depth tree.now }
+{
+    match at(tree, path) {
+        Some(found) => goes(found, path.len() as u8),
+        None => false,
+    }
+}
+
+// Whether the space at a path may be taken.
+fn may_be_taken(tree: &Space, out: &Slab<Out>, path: &Path) -> bool
+    ensures yes { result ≡ true → MayBeTaken tree.now out.now.slots path.now.items }
+    ensures no { result ≡ false → is_local_at path.now.items greatest_depth tree.now ≡ true → IsOut out.now.slots path.now.items }
+{
+    if !goes_at(tree, path) {
+        return false;
+    }
+    !is_out(out, path)
+}
+
+// The first of those listed that may be taken; those before it are listed no more.
+fn find_first(tree: &Space, run: &mut PathSet, out: &Slab<Out>) -> Result<Option<Path>, AllocError>
+    ensures listed { (calls : Paths) → IsListed tree.now run.old calls [] out.now.slots → IsListed tree.now run.new calls [] out.now.slots }
+    ensures some { IfOk result (λ o. IfSome o (λ p. IsFirst p.items run.new × MayBeTaken tree.now out.now.slots p.items)) }
+    ensures none { IfOk result (λ o. IsNone o → run.new ≡ []) }
+{
+    while let Some(first) = run.first() {
+        if may_be_taken(tree, out, first) {
+            return Ok(Some(first.clone()?));
+        }
+        run.pop_first();
+    }
+    Ok(None)
+}
+
+// A place in the history and in the news for so many more.
+fn make_places(
+    history: &mut Vec<Entry>,
+    news: &mut Vec<Path>,
+    count: usize,
+) -> Result<(), AllocError>
+    ensures history { history.new.items ≡ history.old.items }
+    ensures news { news.new.items ≡ news.old.items }
+    ensures history_len { vec_len history.new ≡ vec_len history.old }
+    ensures news_len { vec_len news.new ≡ vec_len news.old }
+    ensures history_grows { vec_capacity history.old ≤ vec_capacity history.new }
+    ensures news_grows { vec_capacity news.old ≤ vec_capacity news.new }
+    ensures places { OnOk result ((vec_len history.new + count ≤ vec_capacity history.new) × (vec_len news.new + count ≤ vec_capacity news.new)) }
+{
+    history.reserve(count)?;
+    news.reserve(count)
+}
+
+impl Board {
+    // The least space that may be taken.
+    fn to_take(&mut self) -> Result<Option<Path>, AllocError>
+        ensures same { self.new ≡ self.old }
+        ensures some { IfOk result (λ o. IfSome o (λ p. IsLeast (MayBeTaken self.old.tree self.old.out) p.items)) }
+        ensures none { IfOk result (λ o. IsNone o → (p : List ℕ) → MayBeTaken self.old.tree self.old.out p → ⊥) }
+    {
+        list_news(&mut self.run, &mut self.calls, &mut self.news)?;
+        find_first(&self.tree, &mut self.run, &self.out)
+    }
+
+    // Puts out a job for a space that may be taken, with a copy of its state and the next ticket.
+    fn put_out(&mut self, path: Path) -> Result<Job, AllocError>
+        requires { MayBeTaken self.old.tree self.old.out path.items }
+        ensures ok { IfOk result (λ job. (job.path ≡ path) × IsPutOut self.old job self.new) }
+        ensures err { OnErr result (self.new ≡ self.old) }
+    {
+        let count = one_more(self.out.len())?;
+        make_places(&mut self.history, &mut self.news, count)?;
+        let Some(top) = copy_top_at(&mut self.tree, &path)? else {
+            unreachable!()
+        };
+        let ticket = self.next_ticket;
+        let out = Out {
+            ticket,
+            path: copy_path(&path)?,
+        };
+        let slot = self.out.insert(out)?;
+        self.next_ticket = ticket.wrapping_add(1);
+        Ok(Job {
+            slot,
+            ticket,
+            path,
+            top,
+        })
+    }
+
+    /// Puts a job out: the least space that has a local event next and is not out, on that node (there is one so far), with an equal copy of its
+    /// state and the next ticket. None exactly where there is no such space. The one error is want of memory, and then nothing has changed.
+    pub fn take(&mut self, node: u32) -> Result<Option<Job>, AllocError>
+        requires { node < self.old.nodes }
+        ensures some { IfOk result (λ o. IfSome o (λ job. Takes self.old job self.new)) }
+        ensures none { IfOk result (λ o. IsNone o → (self.new ≡ self.old) × ((p : List ℕ) → MayBeTaken self.old.tree self.old.out p → ⊥)) }
+        ensures err { OnErr result (self.new ≡ self.old) }
+    {
+        let _ = node;
+        match self.to_take()? {
+            Some(path) => Ok(Some(self.put_out(path)?)),
+            None => Ok(None),
+        }
+    }
+}
