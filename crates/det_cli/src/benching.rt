@@ -23,6 +23,13 @@ use rv_asm::generated;
 use std::alloc::{AllocError, Global};
 use std::thread::Threads;
 
+// The devices of an empty script.
+fn no_script(alloc: Global) -> Devices
+    ensures { result ≡ devices_from [] }
+{
+    Devices::new(alloc)
+}
+
 // The summary of a generated image that has run on an empty script.
 fn summary_of(
     rt: &(impl Threads + Sync),
@@ -33,7 +40,7 @@ fn summary_of(
     ensures { IfOk result (λ v. v.items ≡ summary (settled_root (generated seed) (devices_from []) BENCH_FUEL)) }
 {
     let image = generated(alloc, seed)?;
-    let root = settled_root(rt, alloc, &image, Devices::new(alloc), plan, BENCH_FUEL)?;
+    let root = settled_root(rt, alloc, &image, no_script(alloc), plan, BENCH_FUEL)?;
     summary(alloc, &root)
 }
 
