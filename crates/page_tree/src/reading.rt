@@ -160,7 +160,7 @@ impl TreeRef {
     }
 
     // A zero, where a page of which no bytes are kept may be read.
-    #[inline(always)]
+    #[inline(never)]
     fn load_zero(&self, page: usize) -> Option<u32>
         requires page { page < tree_pages }
         ensures { result ≡ (if root_permission self.now page % 2 == 1 then Some 0 else None) }
@@ -186,7 +186,7 @@ impl TreeRef {
     }
 
     // A zero, where a page of which no bytes are kept may be executed.
-    #[inline(always)]
+    #[inline(never)]
     fn fetch_zero(&self, page: usize) -> Option<u32>
         requires page { page < tree_pages }
         ensures { result ≡ (if root_permission self.now page / 4 % 2 == 1 then Some 0 else None) }

@@ -1,0 +1,13 @@
+; COUNT times the same 64 bytes are written to the console.
+.segment 0x1000 1
+        li s1, COUNT
+        lui a1, 2
+        addi a2, zero, 64
+        addi a7, zero, 4        ; console out
+write:  ecall
+        addi s1, s1, -1
+        bne s1, zero, write
+        addi a7, zero, 3        ; Ret
+        ecall
+.segment 0x2000 1
+        .zero 64
