@@ -1,4 +1,4 @@
-ghost use Rattle.std.specs.Prelude.{◌≡◌, ◌/◌, ◌%◌, ◌<◌, ◌==◌, if◌then◌else◌, IfSome, IsNone};
+ghost use Rattle.std.specs.Prelude.{◌≡◌, ◌/◌, ◌%◌, ◌<◌, ◌==◌, if◌then◌else◌, Some, None, IfSome, IsNone};
 ghost use Rattle.memory_model.specs.Memory.{number_from, width_bytes};
 ghost use Rattle.memory_model.specs.Sizes.{page_size};
 ghost use Rattle.memory_model.specs.declared.Width.TheVariants.{Four};
@@ -47,6 +47,23 @@ impl Block {
         Some(self.number(j, at, width))
     }
 
+    /// The number of the bytes at an aligned place of a page that is kept and may be read.
+    #[inline(always)]
+    pub fn load_kept(&self, j: usize, at: u16, width: Width) -> Option<u32>
+        requires page { j < block_pages }
+        requires within { at < page_size }
+        requires aligned { at % width_bytes width ≡ 0 }
+        ensures { IfSome result (λ number. Some number ≡ (if permission_in self.now j % 2 == 1 then Some (number_from (byte_in (page_in self.now j)) width at) else None)) }
+    {
+        if !may_read(self.permissions[j]) {
+            return None;
+        }
+        match self.page(j) {
+            Some(page) => Some(page.number(at, width)),
+            None => None,
+        }
+    }
+
     /// The word at an aligned place of a page that may be executed.
     #[inline(always)]
     pub fn fetch(&self, j: usize, at: u16) -> Option<u32>
@@ -78,6 +95,20 @@ impl BlockRef {
             BlockRef::Own(block) => Some(block),
         }
     }
+
+    /// The number of the bytes at an aligned place of a page that may be read, where no part above it is shared. None says nothing.
+    #[inline(always)]
+    pub fn load_own(&self, page: usize, at: u16, width: Width) -> Option<u32>
+        requires page { page < block_pages }
+        requires within { at < page_size }
+        requires aligned { at % width_bytes width ≡ 0 }
+        ensures { IfSome result (λ number. Some number ≡ (if ref_permission self.now page % 2 == 1 then Some (number_from (byte_in (ref_page self.now page)) width at) else None)) }
+    {
+        match self {
+            BlockRef::Own(block) => block.load_kept(page, at, width),
+            _ => None,
+        }
+    }
 }
 
 impl Branch {
@@ -93,6 +124,17 @@ impl Branch {
             Some(block) => block.block(page % BLOCK_PAGES),
             None => None,
         }
+    }
+
+    /// The number of the bytes at an aligned place of a page that may be read, where no part above it is shared. None says nothing.
+    #[inline(always)]
+    pub fn load_own(&self, page: usize, at: u16, width: Width) -> Option<u32>
+        requires page { page < branch_pages }
+        requires within { at < page_size }
+        requires aligned { at % width_bytes width ≡ 0 }
+        ensures { IfSome result (λ number. Some number ≡ (if branch_permission self.now page % 2 == 1 then Some (number_from (byte_in (branch_page self.now page)) width at) else None)) }
+    {
+        self.blocks[page / BLOCK_PAGES].load_own(page % BLOCK_PAGES, at, width)
     }
 }
 
@@ -111,6 +153,20 @@ impl BranchRef {
             BranchRef::Own(branch) => branch.block(page),
         }
     }
+
+    /// The number of the bytes at an aligned place of a page that may be read, where no part above it is shared. None says nothing.
+    #[inline(always)]
+    pub fn load_own(&self, page: usize, at: u16, width: Width) -> Option<u32>
+        requires page { page < branch_pages }
+        requires within { at < page_size }
+        requires aligned { at % width_bytes width ≡ 0 }
+        ensures { IfSome result (λ number. Some number ≡ (if limb_permission self.now page % 2 == 1 then Some (number_from (byte_in (limb_page self.now page)) width at) else None)) }
+    {
+        match self {
+            BranchRef::Own(branch) => branch.load_own(page, at, width),
+            _ => None,
+        }
+    }
 }
 
 impl Tree {
@@ -126,6 +182,17 @@ impl Tree {
             Some(branch) => branch.block(page % BRANCH_PAGES),
             None => None,
         }
+    }
+
+    /// The number of the bytes at an aligned place of a page that may be read, where no part above it is shared. None says nothing.
+    #[inline(always)]
+    pub fn load_own(&self, page: usize, at: u16, width: Width) -> Option<u32>
+        requires page { page < tree_pages }
+        requires within { at < page_size }
+        requires aligned { at % width_bytes width ≡ 0 }
+        ensures { IfSome result (λ number. Some number ≡ (if tree_permission self.now page % 2 == 1 then Some (number_from (byte_in (tree_page self.now page)) width at) else None)) }
+    {
+        self.branches[page / BRANCH_PAGES].load_own(page % BRANCH_PAGES, at, width)
     }
 }
 
@@ -145,9 +212,38 @@ impl TreeRef {
         }
     }
 
-    /// The number of the bytes at an aligned place of a page that may be read.
+    /// The number of the bytes at an aligned place of a page that may be read, where no part above it is shared. None says nothing.
+    #[inline(always)]
+    pub fn load_own(&self, page: usize, at: u16, width: Width) -> Option<u32>
+        requires page { page < tree_pages }
+        requires within { at < page_size }
+        requires aligned { at % width_bytes width ≡ 0 }
+        ensures { IfSome result (λ number. Some number ≡ (if root_permission self.now page % 2 == 1 then Some (number_from (byte_in (root_page self.now page)) width at) else None)) }
+    {
+        match self {
+            TreeRef::Own(tree) => tree.load_own(page, at, width),
+            _ => None,
+        }
+    }
+
+    /// The number of the bytes at an aligned place of a page that may be read. Where no part above the page is shared, one test for each
+    /// part finds it; whatever else it may be is left to a call.
     #[inline(always)]
     pub fn load(&self, page: usize, at: u16, width: Width) -> Option<u32>
+        requires page { page < tree_pages }
+        requires within { at < page_size }
+        requires aligned { at % width_bytes width ≡ 0 }
+        ensures { result ≡ (if root_permission self.now page % 2 == 1 then Some (number_from (byte_in (root_page self.now page)) width at) else None) }
+    {
+        match self.load_own(page, at, width) {
+            Some(number) => Some(number),
+            None => self.load_any(page, at, width),
+        }
+    }
+
+    // The number of the bytes at an aligned place of a page that may be read, whatever is above it.
+    #[inline(never)]
+    fn load_any(&self, page: usize, at: u16, width: Width) -> Option<u32>
         requires page { page < tree_pages }
         requires within { at < page_size }
         requires aligned { at % width_bytes width ≡ 0 }
