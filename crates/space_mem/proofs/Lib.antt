@@ -9,5 +9,3 @@ pub mod PageEdits
 pub mod Freezes
 pub mod Copies
 pub mod Alike
-pub mod Exchanges
-pub mod AtHand

@@ -2,4 +2,3 @@ pub mod Held
 pub mod Tables
 pub mod Stored
 pub mod Moves
-pub mod AtHand

@@ -1,14 +1,11 @@
 //! The memory of a space: bytes of 2^32 addresses and permissions of 2^20 pages, kept by a page table.
 #![tactic(auto)]
 
-mod at_hand;
 mod bus;
 mod byte_string;
 mod copying;
-mod exchanging;
 mod filling;
 mod freezing;
-mod hot_memory;
 mod layout;
 mod memory;
 mod owning;
@@ -20,6 +17,5 @@ mod sharing;
 mod table;
 mod writing;
 
-pub use hot_memory::HotMemory;
 pub use layout::Pages;
 pub use memory::Mem;
