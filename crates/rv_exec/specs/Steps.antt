@@ -1,11 +1,15 @@
 -- What a step answers and changes, by an instruction's outcome.
 -- Our choice: a restatement for proofs.
-use Rattle.std.specs.Prelude.{◌≡◌, ℕ, Bool, true, Result, Ok, Err}
+use Rattle.std.specs.Prelude.{◌≡◌, ℕ, Bool, true, List, Result, Ok, Err}
 use Rattle.std.specs.declared.alloc.AllocError.{AllocError}
 use Rattle.memory_model.specs.declared.Width.{Width}
 use Rattle.instruction_model.specs.Outcome.{Registers, Outcome, goes, stores, calls, traps}
 use Rattle.rv_exec.specs.declared.stepping.Stepped.{Stepped}
 use Rattle.rv_exec.specs.declared.stepping.Stepped.TheVariants.{Next, Call, Trap}
+
+-- x0 to x31, with pc there
+abbrev pub registers_at : ℕ → List ℕ → Registers
+registers_at pc x = record { pc = pc; x = x }
 
 -- registers and bus before, registers and bus after; a store may want memory, where the bus takes any, and then nothing changes
 abbrev pub Steps : {B : Type 0} → (B → ℕ → Width → ℕ → B) → Bool → Outcome → Result Stepped AllocError → Registers → B → Registers → B → Type 0

@@ -1,15 +1,15 @@
-ghost use Rattle.std.specs.Prelude.{◌≡◌, ℕ, ◌<◌, ◌%◌, ◌^◌};
+ghost use Rattle.std.specs.Prelude.{◌≡◌, ℕ, ◌+◌, ◌<◌, ◌%◌, ◌^◌, slice_index};
 ghost use Rattle.instruction_model.specs.Form.{HasFields, IsRegister};
 ghost use Rattle.instruction_model.specs.Arithmetic as arithmetic;
 ghost use Rattle.instruction_model.specs.Outcome as outcome;
 ghost use Rattle.instruction_model.specs.Outcome.{Outcome, goes};
 ghost use Rattle.rv_exec.specs.Flat.{meaning};
-ghost use Rattle.rv_exec.specs.Steps.{Moves, Steps};
+ghost use Rattle.rv_exec.specs.Steps.{Moves, Steps, registers_at};
 
 use crate::arithmetic::{compares, extension_of, loaded_width, operation_result, width_bytes};
 use crate::bus::{Bus, StoreFault};
 use crate::flat::{FlatInstruction, flat_of};
-use crate::regs::Regs;
+use crate::regs::{RegisterFile, Regs};
 use rv_decode::{Comparison, LoadKind, Operation, Width, decode};
 use std::alloc::AllocError;
 
@@ -31,47 +31,53 @@ fn trap(cause: u8, value: u32) -> Result<Stepped, AllocError>
     Ok(Stepped::Trap { cause, value })
 }
 
+// Has pc stand at the next instruction.
+#[inline(always)]
+fn advance(pc: &mut u32)
+    ensures { pc.new ≡ (pc.old + 4) % 2 ^ 32 }
+{
+    *pc = pc.wrapping_add(4);
+}
+
 #[inline(always)]
 fn load<B: Bus>(
-    regs: &mut Regs,
+    pc: &mut u32,
+    x: &mut RegisterFile,
     bus: &mut B,
     kind: LoadKind,
     rd: u8,
     at: u32,
 ) -> Result<Stepped, AllocError>
     requires { rd < 32 }
-    ensures { Steps B.stored (B.takes_memory bus.old) (outcome.loads kind (B.view bus.old) regs.old rd at) result regs.old bus.old regs.new bus.new }
+    ensures { Steps B.stored (B.takes_memory bus.old) (outcome.loads kind (B.view bus.old) (registers_at pc.old x.old) rd at) result (registers_at pc.old x.old) bus.old (registers_at pc.new x.new) bus.new }
 {
     let width = loaded_width(kind);
     if at % width_bytes(width) != 0 {
         return trap(4, at);
     }
     match bus.load(at, width) {
-        Ok(value) => {
-            regs.advance();
-            regs.set_register(rd, extension_of(kind, value));
-            Ok(Stepped::Next)
-        }
+        Ok(value) => finish(pc, x, rd, extension_of(kind, value)),
         Err(fault) => trap(fault.cause, fault.addr),
     }
 }
 
 #[inline(always)]
 fn store<B: Bus>(
-    regs: &mut Regs,
+    pc: &mut u32,
+    x: &RegisterFile,
     bus: &mut B,
     width: Width,
     at: u32,
     value: u32,
 ) -> Result<Stepped, AllocError>
-    ensures { Steps B.stored (B.takes_memory bus.old) (outcome.writes width (B.view bus.old) regs.old at value) result regs.old bus.old regs.new bus.new }
+    ensures { Steps B.stored (B.takes_memory bus.old) (outcome.writes width (B.view bus.old) (registers_at pc.old x.now) at value) result (registers_at pc.old x.now) bus.old (registers_at pc.new x.now) bus.new }
 {
     if at % width_bytes(width) != 0 {
         return trap(6, at);
     }
     match bus.store(at, width, value) {
         Ok(()) => {
-            regs.advance();
+            advance(pc);
             Ok(Stepped::Next)
         }
         Err(StoreFault::Fault(fault)) => trap(fault.cause, fault.addr),
@@ -81,50 +87,34 @@ fn store<B: Bus>(
 
 // A jump, which writes its link only where it is made.
 #[inline(always)]
-fn jump(regs: &mut Regs, rd: u8, target: u32) -> Result<Stepped, AllocError>
+fn jump(pc: &mut u32, x: &mut RegisterFile, rd: u8, target: u32) -> Result<Stepped, AllocError>
     requires { rd < 32 }
-    ensures { Moves (outcome.jumps (outcome.with_link regs.old rd) target) result regs.old regs.new }
+    ensures { Moves (outcome.jumps (outcome.with_link (registers_at pc.old x.old) rd) target) result (registers_at pc.old x.old) (registers_at pc.new x.new) }
 {
     if target % 4 != 0 {
         return trap(0, target);
     }
-    let link = regs.pc.wrapping_add(4);
-    regs.set_register(rd, link);
-    regs.pc = target;
-    Ok(Stepped::Next)
-}
-
-#[inline(always)]
-fn branch(regs: &mut Regs, taken: bool, immediate: u32) -> Result<Stepped, AllocError>
-    ensures { Moves (outcome.branches taken regs.old (outcome.offset regs.old.pc immediate)) result regs.old regs.new }
-{
-    if taken {
-        let target = regs.pc.wrapping_add(immediate);
-        if target % 4 != 0 {
-            return trap(0, target);
-        }
-        regs.pc = target;
-    } else {
-        regs.advance();
-    }
+    x.set_register(rd, pc.wrapping_add(4));
+    *pc = target;
     Ok(Stepped::Next)
 }
 
 // A result, and the next instruction.
 #[inline(always)]
-fn finish(regs: &mut Regs, rd: u8, value: u32) -> Result<Stepped, AllocError>
+fn finish(pc: &mut u32, x: &mut RegisterFile, rd: u8, value: u32) -> Result<Stepped, AllocError>
     requires { rd < 32 }
-    ensures { Moves (goes (outcome.results regs.old rd value)) result regs.old regs.new }
+    ensures { Moves (goes (outcome.results (registers_at pc.old x.old) rd value)) result (registers_at pc.old x.old) (registers_at pc.new x.new) }
 {
-    regs.advance();
-    regs.set_register(rd, value);
+    advance(pc);
+    x.set_register(rd, value);
     Ok(Stepped::Next)
 }
 
 // A branch by a comparison of two registers.
 #[inline(always)]
 fn branch_by(
-    regs: &mut Regs,
+    pc: &mut u32,
+    x: &RegisterFile,
     comparison: Comparison,
     rs1: u8,
     rs2: u8,
@@ -132,16 +122,25 @@ fn branch_by(
 ) -> Result<Stepped, AllocError>
     requires first { rs1 < 32 }
     requires second { rs2 < 32 }
-    ensures { Moves (outcome.branches (arithmetic.compares comparison (outcome.register regs.old rs1) (outcome.register regs.old rs2)) regs.old (outcome.offset regs.old.pc immediate)) result regs.old regs.new }
+    ensures { Moves (outcome.branches (arithmetic.compares comparison (slice_index x.now rs1) (slice_index x.now rs2)) (registers_at pc.old x.now) (outcome.offset pc.old immediate)) result (registers_at pc.old x.now) (registers_at pc.new x.now) }
 {
-    let taken = compares(comparison, regs.register(rs1), regs.register(rs2));
-    branch(regs, taken, immediate)
+    if compares(comparison, x.register(rs1), x.register(rs2)) {
+        let to = pc.wrapping_add(immediate);
+        if to % 4 != 0 {
+            return trap(0, to);
+        }
+        *pc = to;
+    } else {
+        advance(pc);
+    }
+    Ok(Stepped::Next)
 }
 
 // A load from an address that a register and an immediate make.
 #[inline(always)]
 fn load_by<B: Bus>(
-    regs: &mut Regs,
+    pc: &mut u32,
+    x: &mut RegisterFile,
     bus: &mut B,
     kind: LoadKind,
     rd: u8,
@@ -150,16 +149,17 @@ fn load_by<B: Bus>(
 ) -> Result<Stepped, AllocError>
     requires result { rd < 32 }
     requires first { rs1 < 32 }
-    ensures { Steps B.stored (B.takes_memory bus.old) (outcome.loads kind (B.view bus.old) regs.old rd (outcome.offset (outcome.register regs.old rs1) immediate)) result regs.old bus.old regs.new bus.new }
+    ensures { Steps B.stored (B.takes_memory bus.old) (outcome.loads kind (B.view bus.old) (registers_at pc.old x.old) rd (outcome.offset (slice_index x.old rs1) immediate)) result (registers_at pc.old x.old) bus.old (registers_at pc.new x.new) bus.new }
 {
-    let at = regs.register(rs1).wrapping_add(immediate);
-    load(regs, bus, kind, rd, at)
+    let at = x.register(rs1).wrapping_add(immediate);
+    load(pc, x, bus, kind, rd, at)
 }
 
 // An operation on a register and an immediate.
 #[inline(always)]
 fn operate_immediate(
-    regs: &mut Regs,
+    pc: &mut u32,
+    x: &mut RegisterFile,
     operation: Operation,
     rd: u8,
     rs1: u8,
@@ -167,16 +167,17 @@ fn operate_immediate(
 ) -> Result<Stepped, AllocError>
     requires result { rd < 32 }
     requires first { rs1 < 32 }
-    ensures { Moves (goes (outcome.results regs.old rd (arithmetic.operation_result operation (outcome.register regs.old rs1) immediate))) result regs.old regs.new }
+    ensures { Moves (goes (outcome.results (registers_at pc.old x.old) rd (arithmetic.operation_result operation (slice_index x.old rs1) immediate))) result (registers_at pc.old x.old) (registers_at pc.new x.new) }
 {
-    let value = operation_result(operation, regs.register(rs1), immediate);
-    finish(regs, rd, value)
+    let value = operation_result(operation, x.register(rs1), immediate);
+    finish(pc, x, rd, value)
 }
 
 // An operation on two registers.
 #[inline(always)]
 fn operate(
-    regs: &mut Regs,
+    pc: &mut u32,
+    x: &mut RegisterFile,
     operation: Operation,
     rd: u8,
     rs1: u8,
@@ -185,68 +186,71 @@ fn operate(
     requires result { rd < 32 }
     requires first { rs1 < 32 }
     requires second { rs2 < 32 }
-    ensures { Moves (goes (outcome.results regs.old rd (arithmetic.operation_result operation (outcome.register regs.old rs1) (outcome.register regs.old rs2)))) result regs.old regs.new }
+    ensures { Moves (goes (outcome.results (registers_at pc.old x.old) rd (arithmetic.operation_result operation (slice_index x.old rs1) (slice_index x.old rs2)))) result (registers_at pc.old x.old) (registers_at pc.new x.new) }
 {
-    let value = operation_result(operation, regs.register(rs1), regs.register(rs2));
-    finish(regs, rd, value)
+    let value = operation_result(operation, x.register(rs1), x.register(rs2));
+    finish(pc, x, rd, value)
 }
 
-/// What an instruction does where pc stands, as `step` does it that has fetched and decoded it.
+/// What an instruction does where pc stands, as `step` does it that has fetched and decoded it. pc stands apart from the other registers, so that
+/// it can be held in a register of the machine while those are found by their numbers.
 #[inline(always)]
 pub fn perform<B: Bus>(
-    regs: &mut Regs,
+    pc: &mut u32,
+    x: &mut RegisterFile,
     bus: &mut B,
     instruction: FlatInstruction,
 ) -> Result<Stepped, AllocError>
     requires { HasFields (meaning instruction) }
-    ensures { Steps B.stored (B.takes_memory bus.old) (outcome.perform (meaning instruction) (B.view bus.old) regs.old) result regs.old bus.old regs.new bus.new }
+    ensures { Steps B.stored (B.takes_memory bus.old) (outcome.perform (meaning instruction) (B.view bus.old) (registers_at pc.old x.old)) result (registers_at pc.old x.old) bus.old (registers_at pc.new x.new) bus.new }
 {
     match instruction {
-        FlatInstruction::Lui { rd, immediate } => finish(regs, rd, immediate),
+        FlatInstruction::Lui { rd, immediate } => finish(pc, x, rd, immediate),
         FlatInstruction::Auipc { rd, immediate } => {
-            let value = regs.pc.wrapping_add(immediate);
-            finish(regs, rd, value)
+            let value = pc.wrapping_add(immediate);
+            finish(pc, x, rd, value)
         }
         FlatInstruction::Jal { rd, immediate } => {
-            let target = regs.pc.wrapping_add(immediate);
-            jump(regs, rd, target)
+            let target = pc.wrapping_add(immediate);
+            jump(pc, x, rd, target)
         }
         FlatInstruction::Jalr { rd, rs1, immediate } => {
-            let target = regs.register(rs1).wrapping_add(immediate);
-            jump(regs, rd, target - target % 2)
+            let target = x.register(rs1).wrapping_add(immediate);
+            jump(pc, x, rd, target - target % 2)
         }
         FlatInstruction::Beq {
             rs1,
             rs2,
             immediate,
-        } => branch_by(regs, Comparison::Beq, rs1, rs2, immediate),
+        } => branch_by(pc, x, Comparison::Beq, rs1, rs2, immediate),
         FlatInstruction::Bne {
             rs1,
             rs2,
             immediate,
-        } => branch_by(regs, Comparison::Bne, rs1, rs2, immediate),
+        } => branch_by(pc, x, Comparison::Bne, rs1, rs2, immediate),
         FlatInstruction::Blt {
             rs1,
             rs2,
             immediate,
-        } => branch_by(regs, Comparison::Blt, rs1, rs2, immediate),
+        } => branch_by(pc, x, Comparison::Blt, rs1, rs2, immediate),
         FlatInstruction::Bge {
             rs1,
             rs2,
             immediate,
-        } => branch_by(regs, Comparison::Bge, rs1, rs2, immediate),
+        } => branch_by(pc, x, Comparison::Bge, rs1, rs2, immediate),
         FlatInstruction::Bltu {
             rs1,
             rs2,
             immediate,
-        } => branch_by(regs, Comparison::Bltu, rs1, rs2, immediate),
+        } => branch_by(pc, x, Comparison::Bltu, rs1, rs2, immediate),
         FlatInstruction::Bgeu {
             rs1,
             rs2,
             immediate,
-        } => branch_by(regs, Comparison::Bgeu, rs1, rs2, immediate),
+        } => branch_by(pc, x, Comparison::Bgeu, rs1, rs2, immediate),
         FlatInstruction::Lb { rd, rs1, immediate } => load_by(
-            regs,
+            pc,
+            x,
             bus,
             LoadKind::Lb,
             rd,
@@ -254,7 +258,8 @@ pub fn perform<B: Bus>(
             immediate,
         ),
         FlatInstruction::Lh { rd, rs1, immediate } => load_by(
-            regs,
+            pc,
+            x,
             bus,
             LoadKind::Lh,
             rd,
@@ -262,7 +267,8 @@ pub fn perform<B: Bus>(
             immediate,
         ),
         FlatInstruction::Lw { rd, rs1, immediate } => load_by(
-            regs,
+            pc,
+            x,
             bus,
             LoadKind::Lw,
             rd,
@@ -270,7 +276,8 @@ pub fn perform<B: Bus>(
             immediate,
         ),
         FlatInstruction::Lbu { rd, rs1, immediate } => load_by(
-            regs,
+            pc,
+            x,
             bus,
             LoadKind::Lbu,
             rd,
@@ -278,7 +285,8 @@ pub fn perform<B: Bus>(
             immediate,
         ),
         FlatInstruction::Lhu { rd, rs1, immediate } => load_by(
-            regs,
+            pc,
+            x,
             bus,
             LoadKind::Lhu,
             rd,
@@ -291,89 +299,98 @@ pub fn perform<B: Bus>(
             rs2,
             immediate,
         } => {
-            let at = regs.register(rs1).wrapping_add(immediate);
-            let value = regs.register(rs2);
-            store(regs, bus, width, at, value)
+            let at = x.register(rs1).wrapping_add(immediate);
+            let value = x.register(rs2);
+            store(pc, x, bus, width, at, value)
         }
         FlatInstruction::Addi { rd, rs1, immediate } => operate_immediate(
-            regs,
+            pc,
+            x,
             Operation::Add,
             rd,
             rs1,
             immediate,
         ),
         FlatInstruction::Slli { rd, rs1, immediate } => operate_immediate(
-            regs,
+            pc,
+            x,
             Operation::Sll,
             rd,
             rs1,
             immediate,
         ),
         FlatInstruction::Slti { rd, rs1, immediate } => operate_immediate(
-            regs,
+            pc,
+            x,
             Operation::Slt,
             rd,
             rs1,
             immediate,
         ),
         FlatInstruction::Sltiu { rd, rs1, immediate } => operate_immediate(
-            regs,
+            pc,
+            x,
             Operation::Sltu,
             rd,
             rs1,
             immediate,
         ),
         FlatInstruction::Xori { rd, rs1, immediate } => operate_immediate(
-            regs,
+            pc,
+            x,
             Operation::Xor,
             rd,
             rs1,
             immediate,
         ),
         FlatInstruction::Srli { rd, rs1, immediate } => operate_immediate(
-            regs,
+            pc,
+            x,
             Operation::Srl,
             rd,
             rs1,
             immediate,
         ),
         FlatInstruction::Srai { rd, rs1, immediate } => operate_immediate(
-            regs,
+            pc,
+            x,
             Operation::Sra,
             rd,
             rs1,
             immediate,
         ),
         FlatInstruction::Ori { rd, rs1, immediate } => operate_immediate(
-            regs,
+            pc,
+            x,
             Operation::Or,
             rd,
             rs1,
             immediate,
         ),
         FlatInstruction::Andi { rd, rs1, immediate } => operate_immediate(
-            regs,
+            pc,
+            x,
             Operation::And,
             rd,
             rs1,
             immediate,
         ),
-        FlatInstruction::Add { rd, rs1, rs2 } => operate(regs, Operation::Add, rd, rs1, rs2),
-        FlatInstruction::Sub { rd, rs1, rs2 } => operate(regs, Operation::Sub, rd, rs1, rs2),
-        FlatInstruction::Sll { rd, rs1, rs2 } => operate(regs, Operation::Sll, rd, rs1, rs2),
-        FlatInstruction::Slt { rd, rs1, rs2 } => operate(regs, Operation::Slt, rd, rs1, rs2),
-        FlatInstruction::Sltu { rd, rs1, rs2 } => operate(regs, Operation::Sltu, rd, rs1, rs2),
-        FlatInstruction::Xor { rd, rs1, rs2 } => operate(regs, Operation::Xor, rd, rs1, rs2),
-        FlatInstruction::Srl { rd, rs1, rs2 } => operate(regs, Operation::Srl, rd, rs1, rs2),
-        FlatInstruction::Sra { rd, rs1, rs2 } => operate(regs, Operation::Sra, rd, rs1, rs2),
-        FlatInstruction::Or { rd, rs1, rs2 } => operate(regs, Operation::Or, rd, rs1, rs2),
-        FlatInstruction::And { rd, rs1, rs2 } => operate(regs, Operation::And, rd, rs1, rs2),
+        FlatInstruction::Add { rd, rs1, rs2 } => operate(pc, x, Operation::Add, rd, rs1, rs2),
+        FlatInstruction::Sub { rd, rs1, rs2 } => operate(pc, x, Operation::Sub, rd, rs1, rs2),
+        FlatInstruction::Sll { rd, rs1, rs2 } => operate(pc, x, Operation::Sll, rd, rs1, rs2),
+        FlatInstruction::Slt { rd, rs1, rs2 } => operate(pc, x, Operation::Slt, rd, rs1, rs2),
+        FlatInstruction::Sltu { rd, rs1, rs2 } => operate(pc, x, Operation::Sltu, rd, rs1, rs2),
+        FlatInstruction::Xor { rd, rs1, rs2 } => operate(pc, x, Operation::Xor, rd, rs1, rs2),
+        FlatInstruction::Srl { rd, rs1, rs2 } => operate(pc, x, Operation::Srl, rd, rs1, rs2),
+        FlatInstruction::Sra { rd, rs1, rs2 } => operate(pc, x, Operation::Sra, rd, rs1, rs2),
+        FlatInstruction::Or { rd, rs1, rs2 } => operate(pc, x, Operation::Or, rd, rs1, rs2),
+        FlatInstruction::And { rd, rs1, rs2 } => operate(pc, x, Operation::And, rd, rs1, rs2),
         FlatInstruction::Fence => {
-            regs.advance();
+            advance(pc);
             Ok(Stepped::Next)
         }
         FlatInstruction::Ecall => Ok(Stepped::Call),
-        FlatInstruction::Ebreak => trap(3, regs.pc),
+        FlatInstruction::Ebreak => trap(3, *pc),
     }
 }
 
@@ -390,7 +407,13 @@ pub fn step<B: Bus>(regs: &mut Regs, bus: &mut B) -> Result<Stepped, AllocError>
     }
     match bus.fetch(pc) {
         Ok(word) => match decode(word) {
-            Some(instr) => perform(regs, bus, flat_of(instr)),
+            Some(instr) => {
+                let mut next = pc;
+                let mut x = regs.file();
+                let stepped = perform(&mut next, &mut x, bus, flat_of(instr));
+                *regs = Regs::from_parts(next, x);
+                stepped
+            }
             None => trap(2, word),
         },
         Err(fault) => trap(fault.cause, fault.addr),
