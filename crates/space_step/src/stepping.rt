@@ -3,24 +3,24 @@ ghost use Rattle.memory_model.specs.Memory.{Memory, with_number};
 ghost use Rattle.instruction_model.specs.Form.{HasFields};
 ghost use Rattle.instruction_model.specs.Outcome.{View, view_of, outcome};
 ghost use Rattle.rv_exec.specs.Flat.{meaning};
-ghost use Rattle.rv_exec.specs.Steps.{Steps};
+ghost use Rattle.rv_exec.specs.Steps.{Steps, registers_at};
 ghost use Rattle.space_mem.specs.Held.{Marks};
 ghost use Rattle.space_step.specs.Source.{Outlives};
 
 use crate::source::Source;
-use rv_exec::{FlatInstruction, Regs, Stepped, perform};
+use rv_exec::{FlatInstruction, RegisterFile, Stepped, perform};
 use space_mem::Mem;
 use std::alloc::AllocError;
 
 // Has the source forget the word that an instruction stores to, if it is a store.
 #[inline(always)]
-fn forget_stored<S: Source>(source: &mut S, regs: &Regs, instruction: FlatInstruction)
+fn forget_stored<S: Source>(source: &mut S, x: &RegisterFile, instruction: FlatInstruction)
     requires { HasFields (meaning instruction) }
     ensures before { (v : View) → S.agrees source.old v → S.agrees source.new v }
-    ensures after { (m : Memory) → S.agrees source.old (view_of m) → Outlives (S.agrees source.new) m regs.now (meaning instruction) }
+    ensures after { (m : Memory) → S.agrees source.old (view_of m) → Outlives (S.agrees source.new) m x.now (meaning instruction) }
 {
     if let FlatInstruction::Store { rs1, immediate, .. } = instruction {
-        source.forget(regs.register(rs1).wrapping_add(immediate));
+        source.forget(x.register(rs1).wrapping_add(immediate));
     }
 }
 
@@ -30,18 +30,19 @@ fn forget_stored<S: Source>(source: &mut S, regs: &Regs, instruction: FlatInstru
 #[tactic(auto, using(crate::proofs::Seen::steps_seen))]
 pub(crate) fn step_from<S: Source>(
     source: &mut S,
-    regs: &mut Regs,
+    pc: &mut u32,
+    x: &mut RegisterFile,
     memory: &mut Mem,
 ) -> Result<Stepped, AllocError>
     requires { S.agrees source.old (view_of memory.old.memory) }
-    ensures steps { Steps with_number true (outcome (view_of memory.old.memory) regs.old) result regs.old memory.old.memory regs.new memory.new.memory }
+    ensures steps { Steps with_number true (outcome (view_of memory.old.memory) (registers_at pc.old x.old)) result (registers_at pc.old x.old) memory.old.memory (registers_at pc.new x.new) memory.new.memory }
     ensures agrees { S.agrees source.new (view_of memory.new.memory) }
     ensures marks { Marks memory.old memory.new }
 {
-    match source.instruction_at(memory, regs.pc) {
+    match source.instruction_at(memory, *pc) {
         Ok(instruction) => {
-            forget_stored(source, regs, instruction);
-            perform(regs, memory, instruction)
+            forget_stored(source, x, instruction);
+            perform(pc, x, memory, instruction)
         }
         Err(trap) => Ok(Stepped::Trap {
             cause: trap.number,

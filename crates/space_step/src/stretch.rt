@@ -44,10 +44,11 @@ pub(crate) fn execute<S: Source>(
     ensures marks { Marks memory.old memory.new }
     ensures agrees { S.agrees source.new (view_of memory.new.memory) }
 {
-    // a copy, so that pc can stand in a register of the machine
-    let mut working = *registers;
+    // pc stands apart from the other registers, so that it can be held in a register of the machine
+    let mut pc = registers.pc;
+    let mut file = registers.file();
     for count in 0..budget {
-        let end = match step_from(source, &mut working, memory) {
+        let end = match step_from(source, &mut pc, &mut file, memory) {
             Ok(Stepped::Next) => continue,
             Ok(Stepped::Call) => End::Call,
             Ok(Stepped::Trap { cause, value }) => End::Trap {
@@ -56,10 +57,10 @@ pub(crate) fn execute<S: Source>(
             },
             Err(_) => End::Memory,
         };
-        *registers = working;
+        *registers = Regs::from_parts(pc, file);
         return Stretch { count, end };
     }
-    *registers = working;
+    *registers = Regs::from_parts(pc, file);
     Stretch {
         count: budget,
         end: End::Budget,

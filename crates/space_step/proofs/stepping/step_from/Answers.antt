@@ -1,7 +1,8 @@
 use Rattle.instruction_model.specs.Outcome.{view_of}
 use Rattle.rv_exec.specs.Flat.{meaning}
+use Rattle.rv_exec.specs.Steps.{registers_at}
 use Rattle.space_step.proofs.Marking.{performed_marks}
 use Rattle.space_step.proofs.stepping.step_from.Goals as goal
 
 pub returns-in-Ok-clause-marks : goal.returns-in-Ok-clause-marks
-returns-in-Ok-clause-marks g c = performed_marks (meaning c.in-Ok.instruction) (view_of c.args.memory.now.memory) c.perform.result _ c.perform.new.regs c.args.memory.now c.perform.new.bus c.perform.ensures
+returns-in-Ok-clause-marks g c = performed_marks (meaning c.in-Ok.instruction) (view_of c.args.memory.now.memory) c.perform.result (registers_at c.args.pc.now c.args.x.now) (registers_at c.perform.new.pc c.perform.new.x) c.args.memory.now c.perform.new.bus c.perform.ensures
