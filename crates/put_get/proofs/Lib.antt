@@ -4,3 +4,5 @@ pub mod Entries
 pub mod Trees
 pub mod Meetings
 pub mod Tests
+pub mod Local
+pub mod Around

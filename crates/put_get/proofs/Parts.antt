@@ -1,16 +1,17 @@
 -- The parts of Put and Get in the order in which the code does them.
-use Rattle.std.proofs.Common.{◌≡◌, ℕ, Bool, true, false, ◌&&◌, ◌||◌, List, [], ◌∷◌, Option, refl, sym, ◌∙◌, ap}
-use Rattle.memory_model.specs.Memory.{Memory}
+use Rattle.std.proofs.Common.{◌≡◌, ℕ, Bool, true, false, ◌&&◌, ◌||◌, List, [], ◌∷◌, Option, Some, None, refl, sym, ◌∙◌, ap}
+use Rattle.std.specs.Prelude.{if◌then◌else◌}
+use Rattle.memory_model.specs.Memory.{Memory, with_bytes, with_permissions}
+use Rattle.memory_model.specs.Ranges.{with_copies, with_zeros}
+use Rattle.merge_model.specs.Merge.{with_merge}
 use Rattle.instruction_model.specs.Outcome.{Registers}
 use Rattle.call_model.specs.declared.Transfer.{Transfer}
-use Rattle.call_model.specs.Options.{has, regs, copy, zeroing, merging, perm, start, agreeing, permission, has_two_changes}
-use Rattle.space_model.specs.declared.Refusal.{Refusal}
+use Rattle.call_model.specs.Block.{block_bytes}
+use Rattle.call_model.specs.Options.{has, regs, copy, zeroing, merging, perm, start, permission, has_two_changes}
 use Rattle.space_model.specs.Space.{Top}
-use Rattle.space_model.specs.Block.{registers_at}
-use Rattle.space_model.specs.Meeting.{conflict_refusal, refusal_if}
-use Rattle.space_model.specs.Part.{Part, part_if, with_parts, registers_part, zero_part, copy_part, merge_part, permission_part, block_part, start_part, start_limit, source_page, destination_page, page_count, child_after, caller_after}
-use Rattle.put_get.specs.Meetings.{get_conflict}
-use Rattle.put_get.specs.Ranges.{fill_parts, memory_parts, range_parts}
+use Rattle.space_model.specs.Block.{registers_at, block_of}
+use Rattle.space_model.specs.Part.{Part, part_if, with_parts, registers_part, permission_part, block_part, start_part, start_limit, with_changes, source_page, destination_page, page_count, child_after, caller_after}
+use Rattle.put_get.specs.Ranges.{copied, memory_parts, merged, permitted, range_parts, ranged, told, zeroed}
 
 -- registers pass what changes memory and snapshot alone
 abbrev Passes : Part → Type 0
@@ -40,74 +41,114 @@ put_in_order x t c d e f filled given started =
     let order = all_pass x.options (memory_parts x t.memory) (has regs x.options) (registers_at t.memory x.block) c ((λ r u. refl), ((λ r u. refl), ((λ r u. refl), ((λ r u. refl), tt)))) in
     started ∙ ap finish (given ∙ ap registers filled ∙ order)
 
--- the parts of a Get
-pub get_in_order : (x : Transfer) (c t u v w y : Top) → u ≡ with_parts x.options (fill_parts x c.memory) t → v ≡ part_if (has merging x.options) (merge_part c.snapshot c.memory (destination_page x) (page_count x)) u
-    → w ≡ part_if (has perm x.options) (permission_part (destination_page x) (page_count x) (permission x.options)) v → y ≡ part_if (has regs x.options) (block_part x.block c) w → y ≡ caller_after x c t
+-- a part that changes the memory alone, where it is asked for
+part_is : (b : Bool) (F : Memory → Memory) (t : Top) → part_if b (λ u. record u { memory = F u.memory }) t ≡ record t { memory = if b then F t.memory else t.memory }
+part_is true F t = refl
+part_is false F t = refl
+
+-- three of them
+parts_are : (a b c : Bool) (F G H : Memory → Memory) (t : Top) → part_if c (λ u. record u { memory = H u.memory }) (part_if b (λ u. record u { memory = G u.memory }) (part_if a (λ u. record u { memory = F u.memory }) t))
+    ≡ record t { memory = let m : Memory = if a then F t.memory else t.memory in let n : Memory = if b then G m else m in if c then H n else n }
+parts_are a b c F G H t =
+    let f : Part = part_if a (λ u. record u { memory = F u.memory }) in
+    let g : Part = part_if b (λ u. record u { memory = G u.memory }) in
+    let h : Part = part_if c (λ u. record u { memory = H u.memory }) in
+    let m : Memory = if a then F t.memory else t.memory in
+    let n : Memory = if b then G m else m in
+    ap (λ u. h (g u)) (part_is a F t) ∙ ap h (part_is b G (record t { memory = m })) ∙ part_is c H (record t { memory = n })
+
+-- Zero, Copy and Perm of a memory, as parts
+pub range_changed : (x : Transfer) (s : Memory) (t u : Top) → u ≡ record t { memory = ranged x s t.memory } → u ≡ with_parts x.options (range_parts x s) t
+range_changed x s t u is =
+    is
+    ∙ sym (parts_are (has zeroing x.options) (has copy x.options) (has perm x.options) (λ m. with_zeros m (destination_page x) (page_count x)) (λ m. with_copies m s (source_page x) (destination_page x) (page_count x))
+    (λ m. with_permissions m (destination_page x) (page_count x) (permission x.options)) t)
+
+-- the parts of a Get, as changes of the caller's memory
+pub got : (x : Transfer) (c t y : Top) → y ≡ record t { memory = told x (block_bytes (block_of c)) (permitted x (merged x c.snapshot c.memory (copied x c.memory (zeroed x t.memory)))) } → y ≡ caller_after x c t
 unfolding caller_after
-get_in_order x c t u v w y filled merged permitted written =
+got x c t y is =
+    let d = destination_page x in
+    let n = page_count x in
+    let permit = part_if (has perm x.options) (permission_part d n (permission x.options)) in
     let write = part_if (has regs x.options) (block_part x.block c) in
-    let permit = part_if (has perm x.options) (permission_part (destination_page x) (page_count x) (permission x.options)) in
-    let merge = part_if (has merging x.options) (merge_part c.snapshot c.memory (destination_page x) (page_count x)) in
-    written ∙ ap write (permitted ∙ ap permit (merged ∙ ap merge filled))
+    let m : Memory = merged x c.snapshot c.memory (copied x c.memory (zeroed x t.memory)) in
+    let p : Memory = permitted x m in
+    is
+    ∙ sym (ap (λ u. write (permit u)) (parts_are (has zeroing x.options) (has copy x.options) (has merging x.options) (λ k. with_zeros k d n) (λ k. with_copies k c.memory (source_page x) d n) (λ k. with_changes c.snapshot c.memory k d n) t)
+    ∙ ap write (part_is (has perm x.options) (λ k. with_permissions k d n (permission x.options)) (record t { memory = m }))
+    ∙ part_is (has regs x.options) (λ k. with_bytes k x.block (block_bytes (block_of c))) (record t { memory = p }))
 
-unfilled : (zero copied merged : Bool) (p q : Part) (t : Top) → ((copied && zero) || ((copied || zero) && merged)) ≡ false → merged ≡ true → part_if copied q (part_if zero p t) ≡ t
-unfilled true true m p q t h e = cc
-unfilled true false m p q t h e = cc
-unfilled false true m p q t h e = cc
-unfilled false false m p q t h e = refl
+-- without a merge
+pub received : (x : Transfer) (c t y : Top) (block : List ℕ) → ((m : Memory) → merged x c.snapshot c.memory m ≡ m) → block ≡ block_bytes (block_of c) → y ≡ record t { memory = told x block (ranged x c.memory t.memory) } → y ≡ caller_after x c t
+received x c t y block none bytes is =
+    got x c t y (is ∙ ap (λ b. record t { memory = told x b (ranged x c.memory t.memory) }) bytes ∙ ap (λ m. record t { memory = told x (block_bytes (block_of c)) (permitted x m) }) (sym (none (copied x c.memory (zeroed x t.memory)))))
 
-conflict_if : (merged : Bool) (f : Top → Option Refusal) (t u : Top) → (merged ≡ true → u ≡ t) → refusal_if merged (f u) ≡ refusal_if merged (f t)
-conflict_if true f t u same = ap f (same refl)
-conflict_if false f t u same = refl
+unfilled : (zero copies merges : Bool) (F G : Memory → Memory) (m : Memory) → ((copies && zero) || ((copies || zero) && merges)) ≡ false → merges ≡ true → (let k : Memory = if zero then F m else m in if copies then G k else k) ≡ m
+unfilled true true b F G m h e = cc
+unfilled true false b F G m h e = cc
+unfilled false true b F G m h e = cc
+unfilled false false b F G m h e = refl
 
--- where Merge is asked for, neither Zero nor Copy is, so the conflict is that of the caller before the call
-pub same_conflict : (x : Transfer) (c t u : Top) → has_two_changes x.options ≡ false → u ≡ with_parts x.options (fill_parts x c.memory) t → get_conflict x u c ≡ get_conflict x t c
-same_conflict x c t u changes filled =
-    conflict_if (has merging x.options) (λ v. conflict_refusal (has agreeing x.options) c.snapshot c.memory v.memory (destination_page x) (page_count x)) t u
-    (λ e. filled ∙ unfilled (has zeroing x.options) (has copy x.options) (has merging x.options) (zero_part (destination_page x) (page_count x)) (copy_part c.memory (source_page x) (destination_page x) (page_count x)) t changes e)
+-- where Merge is asked for, neither Zero nor Copy is
+pub joined : (x : Transfer) (c t y : Top) (snapshot : Memory) (block : List ℕ) → has_two_changes x.options ≡ false → has merging x.options ≡ true → c.snapshot ≡ Some snapshot → block ≡ block_bytes (block_of c)
+    → y ≡ record t { memory = told x block (permitted x (with_merge snapshot c.memory t.memory (destination_page x) (page_count x))) } → y ≡ caller_after x c t
+joined x c t y snapshot block changes merges some bytes is =
+    let d = destination_page x in
+    let n = page_count x in
+    let same : copied x c.memory (zeroed x t.memory) ≡ t.memory =
+    unfilled (has zeroing x.options) (has copy x.options) (has merging x.options) (λ k. with_zeros k d n) (λ k. with_copies k c.memory (source_page x) d n) t.memory changes merges in
+    let merge : with_merge snapshot c.memory t.memory d n ≡ merged x c.snapshot c.memory t.memory =
+    sym (ap (λ b. if b then with_changes c.snapshot c.memory t.memory d n else t.memory) merges ∙ ap (λ o. with_changes o c.memory t.memory d n) some) in
+    got x c t y
+    (is ∙ ap (λ b. record t { memory = told x b (permitted x (with_merge snapshot c.memory t.memory d n)) }) bytes
+    ∙ ap (λ m. record t { memory = told x (block_bytes (block_of c)) (permitted x m) }) (merge ∙ ap (merged x c.snapshot c.memory) (sym same)))
 
--- a merge and then the block, and no other part
-pub joined : (x : Transfer) (c t y : Top) → has_two_changes x.options ≡ false → has merging x.options ≡ true → has regs x.options ≡ true → has perm x.options ≡ false
-    → y ≡ block_part x.block c (merge_part c.snapshot c.memory (destination_page x) (page_count x) t) → y ≡ caller_after x c t
-joined x c t y changes merges writes permits is =
-    let merge = merge_part c.snapshot c.memory (destination_page x) (page_count x) in
-    let permit = permission_part (destination_page x) (page_count x) (permission x.options) in
-    let v : Top = merge t in
-    let same : part_if (has copy x.options) (copy_part c.memory (source_page x) (destination_page x) (page_count x)) (part_if (has zeroing x.options) (zero_part (destination_page x) (page_count x)) t) ≡ t =
-    unfilled (has zeroing x.options) (has copy x.options) (has merging x.options) (zero_part (destination_page x) (page_count x)) (copy_part c.memory (source_page x) (destination_page x) (page_count x)) t changes merges in
-    get_in_order x c t t v v y (sym same) (ap (λ b. part_if b merge t) (sym merges)) (ap (λ b. part_if b permit v) (sym permits)) (is ∙ ap (λ b. part_if b (block_part x.block c) v) (sym writes))
+if_same : (b : Bool) (m n : Memory) → n ≡ m → (if b then n else m) ≡ m
+if_same true m n same = same
+if_same false m n same = refl
 
-no_copy : (zero copied merged : Bool) → ((copied && zero) || ((copied || zero) && merged)) ≡ false → zero ≡ true → copied ≡ false
+-- a child that has no snapshot
+pub none_merged : (x : Transfer) (c : Memory) (o : Option Memory) (m : Memory) → o ≡ None → merged x o c m ≡ m
+none_merged x c o m none = if_same (has merging x.options) m (with_changes o c m (destination_page x) (page_count x)) (ap (λ q. with_changes q c m (destination_page x) (page_count x)) none)
+
+-- and a Get without Merge
+pub unmerged : (x : Transfer) (c : Memory) (o : Option Memory) (m : Memory) → has merging x.options ≡ false → merged x o c m ≡ m
+unmerged x c o m merges = ap (λ b. if b then with_changes o c m (destination_page x) (page_count x) else m) merges
+
+no_copy : (zero copies merges : Bool) → ((copies && zero) || ((copies || zero) && merges)) ≡ false → zero ≡ true → copies ≡ false
 no_copy true true m h e = cc
 no_copy true false m h e = refl
 no_copy false c m h e = cc
 
--- Zero and then Perm, which are both asked for: Copy is not then
-pub zeroed_and_permitted : (x : Transfer) (source : Memory) (t u : Top) → has_two_changes x.options ≡ false → has zeroing x.options ≡ true → has perm x.options ≡ true
-    → u ≡ permission_part (destination_page x) (page_count x) (permission x.options) (zero_part (destination_page x) (page_count x) t) → u ≡ with_parts x.options (range_parts x source) t
-zeroed_and_permitted x source t u changes zeroes permits is =
-    let zero = zero_part (destination_page x) (page_count x) in
-    let copied = copy_part source (source_page x) (destination_page x) (page_count x) in
-    let permit = permission_part (destination_page x) (page_count x) (permission x.options) in
+-- Zero, which is asked for: Copy is not then
+pub zero_ranged : (x : Transfer) (s m r : Memory) → has_two_changes x.options ≡ false → has zeroing x.options ≡ true → r ≡ permitted x (with_zeros m (destination_page x) (page_count x)) → r ≡ ranged x s m
+zero_ranged x s m r changes zeroes is =
+    let d = destination_page x in
+    let n = page_count x in
     let none = no_copy (has zeroing x.options) (has copy x.options) (has merging x.options) changes zeroes in
-    is ∙ ap (λ b. part_if b permit (zero t)) (sym permits) ∙ ap (λ b. part_if (has perm x.options) permit (part_if b copied (zero t))) (sym none)
-    ∙ ap (λ b. part_if (has perm x.options) permit (part_if (has copy x.options) copied (part_if b zero t))) (sym zeroes)
+    is
+    ∙ ap (permitted x)
+    (sym (ap (λ b. if b then with_copies (zeroed x m) s (source_page x) d n else zeroed x m) none ∙ ap (λ b. if b then with_zeros m d n else m) zeroes))
 
--- Copy and then Perm, which are both asked for, and Zero is not
-pub copied_and_permitted : (x : Transfer) (source : Memory) (t u : Top) → has zeroing x.options ≡ false → has copy x.options ≡ true → has perm x.options ≡ true
-    → u ≡ permission_part (destination_page x) (page_count x) (permission x.options) (copy_part source (source_page x) (destination_page x) (page_count x) t) → u ≡ with_parts x.options (range_parts x source) t
-copied_and_permitted x source t u zeroes copies permits is =
-    let zero = zero_part (destination_page x) (page_count x) in
-    let copied = copy_part source (source_page x) (destination_page x) (page_count x) in
-    let permit = permission_part (destination_page x) (page_count x) (permission x.options) in
-    is ∙ ap (λ b. part_if b permit (copied t)) (sym permits) ∙ ap (λ b. part_if (has perm x.options) permit (part_if b copied t)) (sym copies)
-    ∙ ap (λ b. part_if (has perm x.options) permit (part_if (has copy x.options) copied (part_if b zero t))) (sym zeroes)
+-- Copy, and not Zero
+pub copy_ranged : (x : Transfer) (s m r : Memory) → has zeroing x.options ≡ false → has copy x.options ≡ true → r ≡ permitted x (with_copies m s (source_page x) (destination_page x) (page_count x)) → r ≡ ranged x s m
+copy_ranged x s m r zeroes copies is =
+    let d = destination_page x in
+    let n = page_count x in
+    is
+    ∙ ap (permitted x)
+    (sym (ap (λ b. if b then with_copies (zeroed x m) s (source_page x) d n else zeroed x m) copies ∙ ap (λ b. with_copies (if b then with_zeros m d n else m) s (source_page x) d n) zeroes))
 
--- a Get without Merge and Regs changes the range alone
-pub ranged : (x : Transfer) (c t y : Top) → has merging x.options ≡ false → has regs x.options ≡ false → y ≡ with_parts x.options (range_parts x c.memory) t → y ≡ caller_after x c t
-ranged x c t y merges writes is =
-    let merge = merge_part c.snapshot c.memory (destination_page x) (page_count x) in
-    let permit = permission_part (destination_page x) (page_count x) (permission x.options) in
-    let u = with_parts x.options (fill_parts x c.memory) t in
-    let w = part_if (has perm x.options) permit u in
-    get_in_order x c t u u w y refl (ap (λ b. part_if b merge u) (sym merges)) refl (is ∙ ap (λ b. part_if b (block_part x.block c) w) (sym writes))
+-- neither of them
+pub permit_ranged : (x : Transfer) (s m r : Memory) → has zeroing x.options ≡ false → has copy x.options ≡ false → r ≡ permitted x m → r ≡ ranged x s m
+permit_ranged x s m r zeroes copies is =
+    let d = destination_page x in
+    let n = page_count x in
+    is
+    ∙ ap (permitted x)
+    (sym (ap (λ b. if b then with_copies (zeroed x m) s (source_page x) d n else zeroed x m) copies ∙ ap (λ b. if b then with_zeros m d n else m) zeroes))
+
+-- without Perm
+pub unpermitted : (x : Transfer) (m r : Memory) → has perm x.options ≡ false → r ≡ m → r ≡ permitted x m
+unpermitted x m r permits is = is ∙ sym (ap (λ b. if b then with_permissions m (destination_page x) (page_count x) (permission x.options) else m) permits)

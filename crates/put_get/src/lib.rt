@@ -8,6 +8,7 @@ mod options;
 mod put;
 mod ranges;
 mod refusal;
+mod telling;
 mod tree;
 
 pub use meeting::apply;
