@@ -6,7 +6,7 @@ use Rattle.memory_model.specs.Ranges.{with_copies, with_zeros}
 use Rattle.call_model.specs.declared.Transfer.{Transfer}
 use Rattle.call_model.specs.Options.{has, regs, copy, zeroing, perm, permission}
 use Rattle.space_model.specs.Part.{source_page, destination_page, page_count}
-use Rattle.put_get.specs.Ranges.{copied, permitted, ranged, told, zeroed}
+use Rattle.put_get.specs.Ranges.{copied, ranged, told, zeroed}
 use Rattle.put_get.proofs.Local.{IsAlike, IsAlikeBeside, beside_same, beside_then, bytes_alike, bytes_beside, copied_alike, copies_alike, copies_beside, if_alike, if_beside, permissions_alike, permissions_beside, taken_over, zeros_alike, zeros_beside}
 
 ranged_alike : (x : Transfer) (s m n : Memory) (first count : ℕ) → IsAlike first count m n → IsAlike first count (ranged x s m) (ranged x s n)

@@ -1,6 +1,6 @@
 use Rattle.std.proofs.Common.{◌∙◌, ap, arith}
 use Rattle.std.proofs.lemmas.Result.{on_ok_weaker}
-use Rattle.memory_model.specs.Memory.{no_memory, with_bytes}
+use Rattle.memory_model.specs.Memory.{with_bytes}
 use Rattle.memory_model.specs.Ranges.{with_copies}
 use Rattle.put_get.specs.Ranges.{ranged}
 use Rattle.put_get.proofs.Around.{changed_around}
