@@ -1,0 +1,5 @@
+pub mod Fields
+pub mod Entries
+pub mod Stages
+pub mod Parcels
+pub mod Packed

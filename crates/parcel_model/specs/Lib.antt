@@ -1,0 +1,4 @@
+pub mod Parcel
+pub mod Packing
+pub mod Reading
+pub mod Names
