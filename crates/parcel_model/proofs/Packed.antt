@@ -6,9 +6,9 @@ use Rattle.std.specs.Cmp.Lexicographic.{pointwise, same_text}
 use Rattle.std.proofs.lemmas.Bool.{cases_lt, eqb-true}
 use Rattle.std.proofs.lemmas.List.{length-drop}
 use Rattle.memory_model.specs.Sizes.{page_size, pages}
-use Rattle.memory_model.specs.Sparse.{value_at, value_at-no_values, put}
-use Rattle.memory_model.specs.Memory.{Memory, no_memory, byte_at, permission_at, bytes_from, same_memory}
-use Rattle.memory_model.specs.Ranges.{IsBounded}
+use Rattle.memory_model.specs.Sparse.{Sparse, value_at, value_at-no_values, put}
+use Rattle.memory_model.specs.Memory.{Memory, no_memory, byte_at, permission_at, bytes_from, same_memory, with_permission}
+use Rattle.memory_model.specs.Ranges.{IsBounded, with_page}
 use Rattle.memory_model.proofs.Rows.{value_at-put_same, value_at-put_other, value_at-row_before, value_at-row_after, value_at-row_key}
 use Rattle.memory_model.proofs.Runs.{length-bytes_from}
 use Rattle.space_model.specs.declared.Cause.{Cause}
@@ -20,7 +20,7 @@ use Rattle.space_model.specs.Block.{block_of, stop_number, stop_value}
 use Rattle.space_model.specs.Space.{Top}
 use Rattle.space_model.specs.Beginning.{fresh_top}
 use Rattle.parcel_model.specs.declared.error.ParcelErrorKind.TheVariants.{Truncated}
-use Rattle.parcel_model.specs.Parcel.{Content, empty, Entry, page_in, content_bytes, with_entry, with_entries, memory_of, snapshot_of, top_in, is_zero, is_stop, IsContent, IsEntry, AreEntries, IsSnapshot, IsBlock, IsParcel, TopOf}
+use Rattle.parcel_model.specs.Parcel.{Content, empty, resident, whole, Entry, page_in, with_content, with_entry, with_entries, memory_of, snapshot_of, top_in, is_zero, is_stop, IsContent, IsEntry, AreEntries, IsSnapshot, IsBlock, IsParcel, TopOf}
 use Rattle.parcel_model.specs.Packing.{page_bytes, number_of, numbered, content_of, entry_of, is_unused, entries_from, entries_of, snapshot_entries, parcel_of, parcel_bytes, IsBoundedIn, IsPackable}
 use Rattle.parcel_model.specs.Reading.{fault, parcel_at, top_at}
 use Rattle.parcel_model.proofs.Parcels.{top_reads}
@@ -73,6 +73,12 @@ found known k bytes e =
     (omega (arith, f.there), ap (page_in known) is ∙ f.same)
 
 -- ---- how the bytes of a page travel
+
+-- the bytes of a page; where there are none, all are 0
+abbrev content_bytes : List (List ℕ) → Content → List ℕ
+content_bytes known empty = []
+content_bytes known (resident number) = page_in known number
+content_bytes known (whole bytes) = bytes
 
 -- content that may stand there, and has these bytes
 record IsGood (known : List (List ℕ)) (permission : ℕ) (bytes : List ℕ) (c : Content) : Type 0 where
@@ -163,20 +169,48 @@ passes_over made m page h unused =
       no_permissions = λ q le. h.no_permissions q (omega arith);
     }
 
-puts_page : (known : List (List ℕ)) (made m : Memory) (page : ℕ) (c : Content) → ((k : ℕ) → slice_index (content_bytes known c) k ≡ slice_index (page_bytes m page) k) → Agrees made m page → Agrees (with_entry known made (record { page = page; permission = permission_at m page; content = c })) m (page + 1)
-unfolding with_entry
-puts_page known made m page c same h = record {
+-- the bytes of one more page are there
+record HasPut (made m after : Memory) (page : ℕ) : Type 0 where
+  bytes : (a : ℕ) → a < page_size * (page + 1) → byte_at after a ≡ byte_at m a
+  no_bytes : (a : ℕ) → page_size * (page + 1) ≤ a → byte_at after a ≡ 0
+  permissions : after.permissions ≡ made.permissions
+
+puts_row : (made m : Memory) (page : ℕ) (bytes : List ℕ) → ((k : ℕ) → slice_index bytes k ≡ slice_index (page_bytes m page) k) → Agrees made m page → HasPut made m (with_page made page bytes) page
+puts_row made m page bytes same h = record {
   bytes = λ a lt. elim (cases_lt a (page_size * page)) [
-    | inl low ↦ value_at-row_before made.bytes (page_size * page) (slice_index (content_bytes known c)) page_size a low ∙ h.bytes a low
-    | inr high ↦ value_at-row_key made.bytes (page_size * page) (slice_index (content_bytes known c)) page_size a high (omega arith) ∙ same (a - page_size * page) ∙ byte_of m page a high lt
+    | inl low ↦ value_at-row_before made.bytes (page_size * page) (slice_index bytes) page_size a low ∙ h.bytes a low
+    | inr high ↦ value_at-row_key made.bytes (page_size * page) (slice_index bytes) page_size a high (omega arith) ∙ same (a - page_size * page) ∙ byte_of m page a high lt
   ];
-  permissions = λ q lt. elim (cases_lt q page) [
-    | inl low ↦ value_at-put_other made.permissions page (permission_at m page) q (λ e. omega arith) ∙ h.permissions q low
-    | inr high ↦ let is : page ≡ q = omega arith in subst (λ (k : ℕ). value_at (put made.permissions page (permission_at m page)) k ≡ permission_at m k) is (value_at-put_same made.permissions page (permission_at m page))
-  ];
-  no_bytes = λ a le. value_at-row_after made.bytes (page_size * page) (slice_index (content_bytes known c)) page_size a (omega arith) ∙ h.no_bytes a (omega arith);
-  no_permissions = λ q le. value_at-put_other made.permissions page (permission_at m page) q (λ e. omega arith) ∙ h.no_permissions q (omega arith);
+  no_bytes = λ a le. value_at-row_after made.bytes (page_size * page) (slice_index bytes) page_size a (omega arith) ∙ h.no_bytes a (omega arith);
+  permissions = refl;
 }
+
+puts_content : (known : List (List ℕ)) (made m : Memory) (page : ℕ) (c : Content) → ((k : ℕ) → slice_index (content_bytes known c) k ≡ slice_index (page_bytes m page) k) → Agrees made m page → HasPut made m (with_content known made page c) page
+unfolding with_content
+puts_content known made m page empty same h = record {
+  bytes = λ a lt. elim (cases_lt a (page_size * page)) [
+    | inl low ↦ h.bytes a low
+    | inr high ↦ h.no_bytes a high ∙ same (a - page_size * page) ∙ byte_of m page a high lt
+  ];
+  no_bytes = λ a le. h.no_bytes a (omega arith);
+  permissions = refl;
+}
+puts_content known made m page (resident n) same h = puts_row made m page (page_in known n) same h
+puts_content known made m page (whole bytes) same h = puts_row made m page bytes same h
+
+permits : (made m after : Memory) (page : ℕ) → Agrees made m page → HasPut made m after page → Agrees (with_permission after page (permission_at m page)) m (page + 1)
+permits made m after page h put_there = record {
+  bytes = put_there.bytes;
+  permissions = λ q lt. elim (cases_lt q page) [
+    | inl low ↦ value_at-put_other after.permissions page (permission_at m page) q (λ e. omega arith) ∙ ap (λ (t : Sparse). value_at t q) put_there.permissions ∙ h.permissions q low
+    | inr high ↦ let is : page ≡ q = omega arith in subst (λ (k : ℕ). value_at (put after.permissions page (permission_at m page)) k ≡ permission_at m k) is (value_at-put_same after.permissions page (permission_at m page))
+  ];
+  no_bytes = put_there.no_bytes;
+  no_permissions = λ q le. value_at-put_other after.permissions page (permission_at m page) q (λ e. omega arith) ∙ ap (λ (t : Sparse). value_at t q) put_there.permissions ∙ h.no_permissions q (omega arith);
+}
+
+puts_page : (known : List (List ℕ)) (made m : Memory) (page : ℕ) (c : Content) → ((k : ℕ) → slice_index (content_bytes known c) k ≡ slice_index (page_bytes m page) k) → Agrees made m page → Agrees (with_entry known made (record { page = page; permission = permission_at m page; content = c })) m (page + 1)
+puts_page known made m page c same h = permits made m (with_content known made page c) page h (puts_content known made m page c same h)
 
 cond_means : (known : List (List ℕ)) (made m : Memory) (page last : ℕ) (b : Bool) (e : Entry) (es : List Entry) → (b ≡ true → Agrees made m (page + 1)) → (b ≡ false → Agrees (with_entry known made e) m (page + 1))
     → ((n : Memory) → Agrees n m (page + 1) → Agrees (with_entries known n es) m last) → Agrees (with_entries known made (cond b es (e ∷ es))) m last

@@ -46,15 +46,15 @@ pub record Parcel : Type 0 where
 abbrev pub page_in : List (List ℕ) → ℕ → List ℕ
 page_in known number = get_or known number []
 
--- the bytes of a page; where there are none, all are 0
-abbrev pub content_bytes : List (List ℕ) → Content → List ℕ
-content_bytes known empty = []
-content_bytes known (resident number) = page_in known number
-content_bytes known (whole bytes) = bytes
+-- with these bytes of a page; an empty page has none to put, and a memory has 0 where nothing was put
+unfoldable pub with_content : List (List ℕ) → Memory → ℕ → Content → Memory
+with_content known m page empty = m
+with_content known m page (resident number) = with_page m page (page_in known number)
+with_content known m page (whole bytes) = with_page m page bytes
 
 -- with this page
-unfoldable pub with_entry : List (List ℕ) → Memory → Entry → Memory
-with_entry known m e = with_permission (with_page m e.page (content_bytes known e.content)) e.page e.permission
+abbrev pub with_entry : List (List ℕ) → Memory → Entry → Memory
+with_entry known m e = with_permission (with_content known m e.page e.content) e.page e.permission
 
 -- with each of these pages
 abbrev pub with_entries : List (List ℕ) → Memory → List Entry → Memory
