@@ -85,7 +85,7 @@ record IsGood (known : List (List ℕ)) (permission : ℕ) (bytes : List ℕ) (c
   sound : IsContent known permission c
   same : (k : ℕ) → slice_index (content_bytes known c) k ≡ slice_index bytes k
 
-both_true : (a b : Bool) → (a && b) ≡ true → (a ≡ true) × (b ≡ true)
+pub both_true : (a b : Bool) → (a && b) ≡ true → (a ≡ true) × (b ≡ true)
 both_true true b e = (refl, e)
 both_true false b e = absurd cc
 

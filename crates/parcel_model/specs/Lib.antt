@@ -1,5 +1,6 @@
-pub mod Parcel
-pub mod Packing
-pub mod Reading
-pub mod Names
 pub mod Nodes
+pub mod Packing
+pub mod Parcel
+pub mod Names
+pub mod Reading
+pub mod Residents

@@ -70,8 +70,8 @@ snapshot_of known None = None
 snapshot_of known (Some es) = Some (memory_of known es)
 
 -- number 22 stands for no cause, of a space that runs
-abbrev pub status_of : Block → Status
-status_of b = if b.cause == 22 then Running else Stopped (cause_of b.cause) b.value
+abbrev pub status_in : ℕ → ℕ → Status
+status_in cause value = if cause == 22 then Running else Stopped (cause_of cause) value
 
 abbrev pub top_in : List (List ℕ) → Parcel → Top
 top_in known p = record {
@@ -81,7 +81,7 @@ top_in known p = record {
   limit = p.limit;
   fuel = p.fuel;
   used = p.used;
-  status = status_of p.block;
+  status = status_in p.block.cause p.block.value;
   devices = None;
 }
 

@@ -97,6 +97,10 @@ permission_at at bytes = do
   n ← byte_at at bytes
   if nat_lt greatest_permission n.0 then fault at Permission else Ok n
 
+-- no bytes, of a page with a permission; this is the offset of its form
+abbrev pub empty_at : ℕ → ℕ → List ℕ → Result (Content × List ℕ) ParcelError
+empty_at permission at rest = if permission == 0 then fault at Zero else Ok (empty, rest)
+
 -- the number of a resident page that has a byte other than 0
 abbrev pub resident_at : List (List ℕ) → ℕ → List ℕ → Result (Content × List ℕ) ParcelError
 resident_at known at bytes = do
@@ -110,7 +114,7 @@ whole_at at bytes = if nat_lt (length bytes) page_size then fault at Truncated e
 -- a form, and what it tells of a page with this permission
 abbrev pub form_in : List (List ℕ) → ℕ → ℕ → ℕ → List ℕ → Result (Content × List ℕ) ParcelError
 form_in known permission form at rest =
-    if form == 0 then if permission == 0 then fault at Zero else Ok (empty, rest)
+    if form == 0 then empty_at permission at rest
     else if form == 1 then resident_at known (at + 1) rest
     else if form == 2 then whole_at (at + 1) rest
     else fault at Form

@@ -1,0 +1,12 @@
+use Rattle.std.proofs.Common.{◌≡◌, ◌+◌, ◌-◌, ◌*◌, ◌≤◌}
+use Rattle.parcel_model.specs.Reading.{entries_at}
+use Rattle.node_parcel.specs.Meant.{pages_in}
+use Rattle.node_parcel.proofs.Placed.{pages_after}
+use Rattle.node_parcel.proofs.placing.pages_of.Given as goal
+
+-- so many pages are put
+abbrev pub invariant-loop : goal.invariant-loop
+invariant-loop l = record {
+  read : pages_after l.known l.memory.memory (entries_at l.known (l.count - l.counter) l.least l.at l.rest) ≡ pages_in l.known l.count l.start l.bytes;
+  near : l.at ≤ l.start + 4102 * l.counter;
+}
