@@ -1,6 +1,6 @@
 // The pool: a shop is served by workers until it is over.
 
-ghost use Rattle.std.specs.Prelude.{◌≡◌, ◌+◌, ◌^◌, ◌<◌, true, IfOk, OnOk, sum, length, vec_len};
+ghost use Rattle.std.specs.Prelude.{◌≡◌, ◌+◌, ◌^◌, ◌<◌, IfOk, OnOk, sum, length, vec_len};
 
 use crate::desk::Desk;
 use crate::shop::{Shop, Turn};
@@ -26,7 +26,7 @@ pub fn run_pool<S: Shop, G: Gate, R: Threads + Wait + Sync>(
 ) -> Result<(S, Vec<u64>), AllocError>
     requires shop { (S.owed shop ≡ 0) × (S.accepted shop ≡ 0) }
     requires some { (0 < workers) × (workers < 65) }
-    ensures idle { IfOk result (λ r. S.idle r.0 ≡ true) }
+    ensures idle { IfOk result (λ r. S.idle r.0) }
     ensures owed { IfOk result (λ r. S.owed r.0 ≡ 0) }
     ensures accepted { IfOk result (λ r. S.accepted r.0 ≡ sum r.1.items) }
     ensures counts { IfOk result (λ r. vec_len r.1 ≡ workers) }
@@ -63,7 +63,7 @@ fn run<
     requires accepted { (accepted.name ≡ M.name) × (accepted.parts ≡ M.parts) × (accepted.parts ≡ workers + 1) }
     requires shop { (S.owed shop ≡ 0) × (S.accepted shop ≡ 0) }
     requires some { 0 < workers }
-    ensures idle { IfOk result (λ r. S.idle r.0 ≡ true) }
+    ensures idle { IfOk result (λ r. S.idle r.0) }
     ensures owed { IfOk result (λ r. S.owed r.0 ≡ 0) }
     ensures accepted { IfOk result (λ r. S.accepted r.0 ≡ sum r.1.items) }
     ensures counts { IfOk result (λ r. vec_len r.1 ≡ workers) }
@@ -153,7 +153,7 @@ fn closed<S: Shop, L: Ledger, M: Ledger, R: Wait>(
     requires out { (all_out.parts ≡ L.parts) × (all_out.amount ≡ 0) }
     requires done { (all_done.parts ≡ M.parts) × (all_done.amount ≡ sum counts.items) }
     requires some { 0 < vec_len counts }
-    ensures idle { IfOk result (λ r. S.idle r.0 ≡ true) }
+    ensures idle { IfOk result (λ r. S.idle r.0) }
     ensures owed { IfOk result (λ r. S.owed r.0 ≡ 0) }
     ensures accepted { IfOk result (λ r. S.accepted r.0 ≡ sum r.1.items) }
     ensures counts { IfOk result (λ r. vec_len r.1 ≡ vec_len counts) }
@@ -179,7 +179,7 @@ fn closed<S: Shop, L: Ledger, M: Ledger, R: Wait>(
 // The shop to its end, on this thread, by the first worker. After workers that ended at `Over` that is one turn, unless the shop takes `Over` back.
 fn drain<S: Shop, R: Wait>(rt: &R, alloc: Global, shop: S) -> Result<(S, u64), AllocError>
     requires { S.owed shop ≡ 0 }
-    ensures idle { IfOk result (λ r. S.idle r.0 ≡ true) }
+    ensures idle { IfOk result (λ r. S.idle r.0) }
     ensures owed { IfOk result (λ r. S.owed r.0 ≡ 0) }
     ensures accepted { IfOk result (λ r. S.accepted r.0 ≡ S.accepted shop + r.1) }
     ensures small { IfOk result (λ r. 0 < r.1 → S.accepted r.0 < 2 ^ 64) }

@@ -1,6 +1,6 @@
 // What the pool asks of a shop.
 
-ghost use Rattle.std.specs.Prelude.{◌≡◌, ℕ, ◌+◌, ◌-◌, ◌^◌, ◌<◌, Bool, true, cond, IfOk};
+ghost use Rattle.std.specs.Prelude.{◌≡◌, ℕ, ◌+◌, ◌-◌, ◌^◌, ◌<◌, true, cond, IfOk};
 
 use std::alloc::{AllocError, Global};
 
@@ -18,7 +18,8 @@ pub enum Turn<J> {
 }
 
 /// Work that is handed out job by job, is done outside of the lock, and whose results are taken back. Contracts see how many results were
-/// accepted, how many jobs are owed (handed out, and not yet handed in), and whether the shop is idle (has nothing to do for a worker that asks).
+/// accepted, how many jobs are owed (handed out, and not yet handed in), and when the shop is idle: a statement, that there is nothing to do for a worker
+/// that asks.
 pub trait Shop: Send + Drop {
     ghost use Rattle.worker_pool.specs.Turns.{owed_after, is_idle};
 
@@ -35,14 +36,15 @@ pub trait Shop: Send + Drop {
 
     ghost owed: { Self → ℕ };
 
-    ghost idle: { Self → Bool };
+    ghost idle: { Self → Type 0 };
 
-    /// The turn of a worker: a job, a step of the shop's own, or nothing to do, where the shop is idle. That changes nothing. A shop should answer
-    /// `Rest` only while a job is out, since nobody else can change that there is nothing to do. The one error is want of memory.
+    /// The turn of a worker: a job, a step of the shop's own, or nothing to do, exactly where the shop is idle. That changes nothing. A shop should
+    /// answer `Rest` only while a job is out, since nobody else can change that there is nothing to do. The one error is want of memory.
     fn turn(&mut self, worker: usize) -> Result<Turn<Self::Job>, AllocError>
         ensures accepted { accepted self.new ≡ accepted self.old }
         ensures owed { owed self.new ≡ owed_after result (owed self.old) }
-        ensures idle { IfOk result (λ t. is_idle t ≡ idle self.old) }
+        ensures idle { IfOk result (λ t. is_idle t ≡ true → idle self.old) }
+        ensures only_idle { IfOk result (λ t. idle self.old → is_idle t ≡ true) }
         ensures same { IfOk result (λ t. is_idle t ≡ true → self.new ≡ self.old) };
 
     /// Whether another worker's turn may now be a job or a step. It is a hint, which wakes workers that wait: a shop that cannot tell answers true, at

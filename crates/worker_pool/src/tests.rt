@@ -56,7 +56,7 @@ struct Sum {
 }
 
 impl Shop for Row {
-    ghost use Rattle.std.specs.Prelude.{◌==◌};
+    ghost use Rattle.std.specs.Prelude.{◌≡◌};
 
     type Job = Sum;
 
@@ -68,7 +68,7 @@ impl Shop for Row {
 
     ghost owed = { λ r. r.out };
 
-    ghost idle = { λ r. r.ready == 0 };
+    ghost idle = { λ r. r.ready ≡ 0 };
 
     fn turn(&mut self, worker: usize) -> Result<Turn<Sum>, AllocError> {
         let _ = worker;
@@ -159,7 +159,7 @@ struct Pair {
 }
 
 impl Shop for Pair {
-    ghost use Rattle.std.specs.Prelude.{◌==◌};
+    ghost use Rattle.std.specs.Prelude.{◌≡◌};
 
     type Job = Arc<AtomicU64, Global>;
 
@@ -171,7 +171,7 @@ impl Shop for Pair {
 
     ghost owed = { λ p. p.out };
 
-    ghost idle = { λ p. p.left == 0 };
+    ghost idle = { λ p. p.left ≡ 0 };
 
     fn turn(&mut self, worker: usize) -> Result<Turn<Arc<AtomicU64, Global>>, AllocError> {
         let _ = worker;
