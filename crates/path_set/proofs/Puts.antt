@@ -11,7 +11,7 @@ use Rattle.path_set.specs.Paths.{Paths, paths_in, Has}
 use Rattle.path_set.proofs.Firsts.{path_cmp}
 
 -- paths that compare as equal are one path
-same_path : (p q : List ℕ) → slice_cmp nat_cmp p q ≡ Equal → p ≡ q
+pub same_path : (p q : List ℕ) → slice_cmp nat_cmp p q ≡ Equal → p ≡ q
 same_path p q e = slice_cmp-IsAntisymmetric nat_cmp-IsAntisymmetric p q e
 
 put_there : (keys : List (ArrayVec ℕ)) (k : ArrayVec ℕ) → Has (paths_in (insert_key path_cmp keys k)) k.items

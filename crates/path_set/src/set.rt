@@ -1,4 +1,4 @@
-ghost use Rattle.std.specs.Prelude.{◌≡◌, ℕ, [], List, IfSome, IsNone, OnOk};
+ghost use Rattle.std.specs.Prelude.{◌≡◌, ◌≢◌, ◌⊎◌, ℕ, true, [], List, IfSome, IsNone, OnOk, OnErr};
 ghost use Rattle.path_set.specs.Paths.{Has, IsFirst, rest_of};
 
 use arrayvec::ArrayVec;
@@ -49,11 +49,30 @@ impl PathSet {
         self.paths.pop_first();
     }
 
-    /// Puts a path in, where it is not there. The one error is want of memory: no path has gone then.
+    /// Whether a path is there.
+    pub fn contains(&self, path: &ArrayVec<u16, 8>) -> bool
+        ensures yes { result ≡ true → Has self.now path.now.items }
+        ensures no { Has self.now path.now.items → result ≡ true }
+    {
+        self.paths.contains(path)
+    }
+
+    /// Takes a path out, where it is there, and no other. It takes no memory.
+    pub fn remove(&mut self, path: &ArrayVec<u16, 8>)
+        ensures gone { Has self.new path.now.items → ⊥ }
+        ensures others { (p : List ℕ) → p ≢ path.now.items → Has self.old p → Has self.new p }
+        ensures less { (p : List ℕ) → Has self.new p → Has self.old p }
+    {
+        self.paths.remove(path);
+    }
+
+    /// Puts a path in, where it is not there, and no other. The one error is want of memory, and then nothing has changed.
     #[tactic(auto, using(crate::proofs::Puts::is_there, crate::proofs::Puts::stays_there))]
     pub fn insert(&mut self, path: ArrayVec<u16, 8>) -> Result<(), AllocError>
         ensures there { OnOk result (Has self.new path.items) }
         ensures others { (p : List ℕ) → Has self.old p → Has self.new p }
+        ensures only { (p : List ℕ) → Has self.new p → Has self.old p ⊎ (p ≡ path.items) }
+        ensures err { OnErr result (self.new ≡ self.old) }
     {
         self.paths.insert(path)?;
         Ok(())
