@@ -1,14 +1,14 @@
 -- What the history of a board says of its tree, and what may be put into it.
-use Rattle.std.proofs.Common.{◌≡◌, ℕ, zero, suc, pred, ◌+◌, ◌-◌, ◌≤◌, ◌<◌, ◌^◌, Bool, true, false, List, [], ◌∷◌, ◌++◌, length, Option, Some, None, refl, sym, ap, ap₂, ◌∙◌, subst, arith, true≢false}
+use Rattle.std.proofs.Common.{◌≡◌, ℕ, zero, suc, pred, ◌-◌, ◌≤◌, ◌<◌, ◌^◌, Bool, true, false, List, [], ◌∷◌, ◌++◌, length, Option, Some, None, refl, sym, ap, ap₂, ◌∙◌, subst, arith, true≢false}
 use Rattle.std.specs.Prelude.{option_and_then, option_map}
-use Rattle.space_model.specs.Space.{Space, space, Top, Children, top_of, children_of, find}
+use Rattle.space_model.specs.Space.{Space, space, Top, top_of, find}
 use Rattle.space_model.specs.Path.{at, with_top, is_root}
 use Rattle.space_model.specs.Sound.{IsSound, IsSoundAt, IsSoundTop}
 use Rattle.space_model.specs.Event.{NextEvent, rests, moves, meets, next, Follows, IsNotLocal}
 use Rattle.space_model.proofs.Sound.{found_sound}
 use Rattle.arrayvec.specs.ArrayVec.{ArrayVec}
 use Rattle.call_model.specs.declared.Call.{Call}
-use Rattle.run_model.specs.Schedule.{is_local, is_local_at, on_child, call_at, step, where_some, try_meet}
+use Rattle.run_model.specs.Schedule.{is_local, is_local_at, call_at, step, where_some, try_meet}
 use Rattle.det_core.proofs.Legal.{legal-append}
 use Rattle.run_model.proofs.Sound.{step_sound, replay_whole}
 use Rattle.det_core.specs.declared.entry.Entry.{Entry}
@@ -23,7 +23,7 @@ use Rattle.board.specs.Jobs.{Slots}
 use Rattle.board.specs.Value.{Shown}
 use Rattle.board.proofs.Kept.{local_found, local_missing}
 
-happens_sound : (e : Entry) (s t : Space) → Happens e s t → IsSound s → IsSound t
+pub happens_sound : (e : Entry) (s t : Space) → Happens e s t → IsSound s → IsSound t
 happens_sound (Ran path events) s t runs sound =
     let reached = local_reaches events path.items 8 s runs.here runs.top runs.stood runs.follows in
     let led = leads_may reached.0 s (with_top path.items runs.top s) reached.2 in
@@ -89,12 +89,12 @@ pub met_legal : (boot tree later : Space) (es : List Entry) (path : ArrayVec ℕ
 met_legal boot tree later es path k legal may met = legal-append es (Met path) boot tree later legal (record { call = k; may = may; now = met_now tree later path k may met })
 
 -- and nothing else has changed
-abbrev pub shown_of : Space → ℕ → Space → List Entry → Slots → ℕ → Shown
-shown_of boot nodes tree es out ticket = record { boot = boot; nodes = nodes; tree = tree; history = es; out = out; next_ticket = ticket }
+abbrev pub shown_of : Space → ℕ → Space → List Entry → Slots → ℕ → ℕ → Shown
+shown_of boot nodes tree es out ticket owed = record { boot = boot; nodes = nodes; tree = tree; history = es; out = out; next_ticket = ticket; owed = owed }
 
-pub met_shown : (boot : Space) (nodes : ℕ) (tree later : Space) (es fs : List Entry) (out : Slots) (ticket : ℕ) (path : ArrayVec ℕ) → later ≡ step path.items 8 tree → fs ≡ es ++ Met path ∷ []
-    → shown_of boot nodes later fs out ticket ≡ shown_of boot nodes (step path.items 8 tree) (es ++ Met path ∷ []) out ticket
-met_shown boot nodes tree later es fs out ticket path now items = ap₂ (λ s xs. shown_of boot nodes s xs out ticket) now items
+pub met_shown : (boot : Space) (nodes : ℕ) (tree later : Space) (es fs : List Entry) (out : Slots) (ticket owed : ℕ) (path : ArrayVec ℕ) → later ≡ step path.items 8 tree → fs ≡ es ++ Met path ∷ []
+    → shown_of boot nodes later fs out ticket owed ≡ shown_of boot nodes (step path.items 8 tree) (es ++ Met path ∷ []) out ticket owed
+met_shown boot nodes tree later es fs out ticket owed path now items = ap₂ (λ s xs. shown_of boot nodes s xs out ticket owed) now items
 
 -- a space stands where a top is, and where a local event is next
 pub top_stands : (p : List ℕ) (tree : Space) (t : Top) → top_at p tree ≡ Some t → (c : Space) × (at p tree ≡ Some c)

@@ -5,24 +5,23 @@ use Rattle.std.specs.Prelude.{option_map, option_and_then}
 use Rattle.call_model.specs.declared.Call.{Call}
 use Rattle.space_model.specs.Space.{Space, space, Top, top_of, children_of, find}
 use Rattle.space_model.specs.Path.{at, with_top}
-use Rattle.space_model.specs.Sound.{IsSoundAt, IsSound}
+use Rattle.space_model.specs.Sound.{IsSoundAt}
 use Rattle.space_model.proofs.Sound.{no_child, find_sound}
 use Rattle.space_model.specs.Event.{NextEvent, rests, moves, meets, next}
 use Rattle.space_model.specs.Meeting.{awaits}
 use Rattle.space_model.specs.PathOrder.{IsBefore}
-use Rattle.space_model.specs.declared.Await.{Await}
 use Rattle.run_model.specs.Schedule.{is_local, is_local_at, ready_call, call_at, on_child, is_enabled, step}
 use Rattle.run_model.proofs.Calls.{call_enabled}
 use Rattle.run_model.proofs.Sound.{step_sound}
 use Rattle.det_laws.proofs.Commutes.{child_there}
 use Rattle.det_laws.specs.Tops.{top_at}
-use Rattle.det_laws.specs.Near.{is_awaited, IsOnWay, IsAwaitedBelow, IsNear}
+use Rattle.det_laws.specs.Near.{IsOnWay, IsNear}
 use Rattle.det_laws.proofs.Tops.{top_other}
 use Rattle.det_laws.proofs.Near.{others_stay, local_there, same_local, same_call, local_enabled, enabled_near, going_on_stays}
 use Rattle.path_set.specs.Paths.{Paths, Has, rest_of, IsFirst}
 use Rattle.board.specs.declared.job.Out.{Out}
 use Rattle.board.specs.Jobs.{Slots, out_at, IsOut, Sets, MayBeTaken}
-use Rattle.board.specs.Listed.{IsOnNews, ListsRunning, ListsCalls, OutsRun, OutsApart, IsListed, HasAll, HasWay, HasAwaited}
+use Rattle.board.specs.Listed.{IsOnNews, ListsRunning, ListsCalls, OutsApart, IsListed, HasAll, HasWay, HasAwaited}
 
 -- whether local events are next at a path is told by the space there
 pub local_found : (p : List ℕ) (s r : Space) → at p s ≡ Some r → is_local_at p 8 s ≡ is_local (next (8 - length p) (top_of r))
@@ -120,7 +119,7 @@ still_news : (news : Paths) (q p : List ℕ) → IsOnNews news p → IsOnNews (n
 still_news news q p on = (on.0, more_news news q on.0 on.1, on.2)
 
 -- a slot that is emptied: what was out elsewhere is out still
-still_out : (slot : ℕ) (o : Out) (old new : Slots) (p : List ℕ) → out_at old slot ≡ Some o → Sets slot None old new → (p ≢ o.path.items) → IsOut old p → IsOut new p
+pub still_out : (slot : ℕ) (o : Out) (old new : Slots) (p : List ℕ) → out_at old slot ≡ Some o → Sets slot None old new → (p ≢ o.path.items) → IsOut old p → IsOut new p
 still_out slot o old new p was sets other out = go (cases_eq out.0 slot)
   where
     go : (out.0 ≡ slot) ⊎ (out.0 ≡ slot → ⊥) → IsOut new p
@@ -131,7 +130,7 @@ still_out slot o old new p was sets other out = go (cases_eq out.0 slot)
     go (inr ne) = (out.0, (out.1.0, sets.others out.0 ne ∙ out.1.1, out.1.2))
 
 -- and what is out now was out before, and is another space
-was_out : (slot : ℕ) (o : Out) (old new : Slots) (p : List ℕ) → OutsApart old → out_at old slot ≡ Some o → Sets slot None old new → IsOut new p → IsOut old p × (p ≢ o.path.items)
+pub was_out : (slot : ℕ) (o : Out) (old new : Slots) (p : List ℕ) → OutsApart old → out_at old slot ≡ Some o → Sets slot None old new → IsOut new p → IsOut old p × (p ≢ o.path.items)
 was_out slot o old new p apart was sets out = go (cases_eq out.0 slot)
   where
     go : (out.0 ≡ slot) ⊎ (out.0 ≡ slot → ⊥) → IsOut old p × (p ≢ o.path.items)
@@ -361,27 +360,41 @@ none_to_meet tree run out q listed = go (call_at q 8 tree) refl
     go None is = is
     go (Some k) is = absurd (listed_none k (listed.meeting q k is))
 
--- a space that may be taken is put out, in a slot in which nothing was
-pub put_out_listed : (tree : Space) (run calls news : Paths) (old new : Slots) (slot : ℕ) (o : Out) → IsListed tree run calls news old → MayBeTaken tree old o.path.items
-    → out_at old slot ≡ None → Sets slot (Some o) old new → IsListed tree run calls news new
-put_out_listed tree run calls news old new slot o listed may vacant sets = record {
-  running = λ q goes. runs q (listed.running q goes);
+-- what was out is out still, where a slot in which nothing was has a job now
+pub out_still : (old new : Slots) (slot : ℕ) (o : Option Out) (q : List ℕ) → out_at old slot ≡ None → Sets slot o old new → IsOut old q → IsOut new q
+out_still old new slot o q vacant sets out = go (cases_eq out.0 slot)
+  where
+    go : (out.0 ≡ slot) ⊎ (out.0 ≡ slot → ⊥) → IsOut new q
+    go (inl e) = let here : out_at old slot ≡ Some out.1.0 = ap (out_at old) (sym e) ∙ out.1.1 in cc
+    go (inr ne) = (out.0, (out.1.0, sets.others out.0 ne ∙ out.1.1, out.1.2))
+
+-- and what is out now was out, or is the job there
+pub out_before : (old new : Slots) (slot : ℕ) (o : Out) (q : List ℕ) → Sets slot (Some o) old new → IsOut new q → IsOut old q ⊎ (q ≡ o.path.items)
+out_before old new slot o q sets out = go (cases_eq out.0 slot)
+  where
+    go : (out.0 ≡ slot) ⊎ (out.0 ≡ slot → ⊥) → IsOut old q ⊎ (q ≡ o.path.items)
+    go (inl e) =
+        let here : out_at new slot ≡ Some out.1.0 = ap (out_at new) (sym e) ∙ out.1.1 in
+        let told = sets.here in
+        let same : out.1.0 ≡ o = cc in
+        inr (sym out.1.2 ∙ ap (λ (x : Out). x.path.items) same)
+    go (inr ne) = inl (out.0, (out.1.0, sym (sets.others out.0 ne) ∙ out.1.1, out.1.2))
+
+-- a space that may be taken is put out, in a slot in which nothing was, and need be listed no more
+pub put_out_listed : (tree : Space) (run run' calls news : Paths) (old new : Slots) (slot : ℕ) (o : Out) → IsListed tree run calls news old → MayBeTaken tree old o.path.items
+    → out_at old slot ≡ None → Sets slot (Some o) old new → ((q : List ℕ) → q ≢ o.path.items → Has run q → Has run' q) → IsListed tree run' calls news new
+put_out_listed tree run run' calls news old new slot o listed may vacant sets fewer = record {
+  running = λ q goes. runs q (path_cases q o.path.items) (listed.running q goes);
   meeting = listed.meeting;
   goes = λ q out. goes_on q out (cases_eq out.0 slot);
   apart = apart;
 }
   where
-    out_still : (q : List ℕ) → IsOut old q → IsOut new q
-    out_still q out = go (cases_eq out.0 slot)
-      where
-        go : (out.0 ≡ slot) ⊎ (out.0 ≡ slot → ⊥) → IsOut new q
-        go (inl e) = let here : out_at old slot ≡ Some out.1.0 = ap (out_at old) (sym e) ∙ out.1.1 in cc
-        go (inr ne) = (out.0, (out.1.0, sets.others out.0 ne ∙ out.1.1, out.1.2))
-
-    runs : (q : List ℕ) → Has run q ⊎ (IsOnNews news q ⊎ IsOut old q) → Has run q ⊎ (IsOnNews news q ⊎ IsOut new q)
-    runs q (inl has) = inl has
-    runs q (inr (inl on)) = inr (inl on)
-    runs q (inr (inr out)) = inr (inr (out_still q out))
+    runs : (q : List ℕ) → (q ≡ o.path.items) ⊎ (q ≡ o.path.items → ⊥) → Has run q ⊎ (IsOnNews news q ⊎ IsOut old q) → Has run' q ⊎ (IsOnNews news q ⊎ IsOut new q)
+    runs q (inl e) was = inr (inr (slot, (o, sets.here, sym e)))
+    runs q (inr other) (inl has) = inl (fewer q other has)
+    runs q (inr other) (inr (inl on)) = inr (inl on)
+    runs q (inr other) (inr (inr out)) = inr (inr (out_still old new slot (Some o) q vacant sets out))
 
     goes_on : (q : List ℕ) (out : IsOut new q) → (out.0 ≡ slot) ⊎ (out.0 ≡ slot → ⊥) → is_local_at q 8 tree ≡ true
     goes_on q out (inl e) =

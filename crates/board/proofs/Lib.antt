@@ -4,3 +4,6 @@ pub mod Outs
 pub mod Histories
 pub mod Beginnings
 pub mod Stale
+pub mod Settling
+pub mod Turns
+pub mod Works

@@ -1,9 +1,9 @@
 -- Results that are of the job in their slot, and results that are not.
-use Rattle.std.proofs.Common.{◌≡◌, ℕ, Bool, true, false, Option, Some, None, refl, sym, ap, ◌∙◌, subst, true≢false}
+use Rattle.std.proofs.Common.{◌≡◌, ℕ, Option, Some, None, refl, sym, ap, ◌∙◌, subst}
 use Rattle.std.specs.Prelude.{option_map, IsSome}
 use Rattle.board.specs.declared.job.Out.{Out}
 use Rattle.board.specs.declared.done.Done.{Done}
-use Rattle.board.specs.Jobs.{Slots, out_at, Sets}
+use Rattle.board.specs.Jobs.{out_at, Sets}
 use Rattle.board.specs.Value.{Shown}
 use Rattle.board.specs.Steps.{IsStart, IsOfJob, IsDropped, IsStale}
 

@@ -1,13 +1,13 @@
 -- Paths on the way to another, and those of awaited children, one by one.
-use Rattle.std.proofs.Common.{◌≡◌, ℕ, zero, suc, ◌+◌, ◌<◌, ◌≤◌, ◌==◌, ◌||◌, Bool, true, false, List, [], ◌∷◌, ◌++◌, length, take, drop, get_or, Some, ◌⊎◌, inl, inr, refl, sym, ap, ap₂, ◌∙◌, subst, arith, true≢false}
+use Rattle.std.proofs.Common.{◌≡◌, ℕ, ◌+◌, ◌<◌, ◌≤◌, ◌==◌, ◌||◌, Bool, true, false, List, [], ◌∷◌, ◌++◌, length, take, Some, ◌⊎◌, inl, inr, refl, sym, ap, ap₂, ◌∙◌, subst, arith, true≢false}
 use Rattle.std.proofs.lemmas.Bool.Decides.{nat_tests}
 use Rattle.std.proofs.lemmas.Bool.{cases_eq}
-use Rattle.std.specs.Prelude.{slice_get, Option, None, IfSome, Result, Ok, Err, OnOk, is_err}
+use Rattle.std.specs.Prelude.{slice_get, Option, None, IfSome, Result, Ok, Err, OnOk, OnErr, is_err}
 use Rattle.std.proofs.lemmas.Option.{slice_get_within, get_or_from_slice_get}
 use Rattle.std.proofs.lemmas.List.{take_all, take_more}
 use Rattle.arrayvec.specs.ArrayVec.{ArrayVec}
 use Rattle.space_model.specs.declared.Await.{Await}
-use Rattle.det_laws.specs.Near.{is_awaited, IsOnWay, IsAwaitedChild, IsAwaitedBelow}
+use Rattle.det_laws.specs.Near.{is_awaited, IsOnWay, IsAwaitedBelow}
 use Rattle.path_set.specs.Paths.{Paths, Has, paths_in}
 use Rattle.board.specs.Listed.{HasAll, HasWay, HasAwaited}
 
@@ -114,3 +114,7 @@ of_ok (Err e) P no_error told holds = absurd (true≢false (sym told ∙ no_erro
 pub if_some_weaker : {T : Type 0} (o : Option T) (P Q : T → Type 0) → ((x : T) → P x → Q x) → IfSome o P → IfSome o Q
 if_some_weaker None P Q f h = tt
 if_some_weaker (Some x) P Q f h = f x h
+
+pub on_err : {T E : Type 0} (r : Result T E) (P : Type 0) → P → OnErr r P
+on_err (Ok x) P h = tt
+on_err (Err e) P h = h

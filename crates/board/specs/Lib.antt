@@ -4,3 +4,4 @@ pub mod Listed
 pub mod Value
 pub mod View
 pub mod Steps
+pub mod Turns

@@ -24,6 +24,10 @@ ListsRunning tree run news out = (p : List ℕ) → is_local_at p greatest_depth
 abbrev pub ListsCalls : Space → Paths → Paths → Type 0
 ListsCalls tree calls news = (p : List ℕ) (k : Call) → call_at p greatest_depth tree ≡ Some k → Has calls p ⊎ IsOnNews news p
 
+-- these are the paths of the jobs that are out, and no others
+abbrev pub AreOut : Paths → Slots → Type 0
+AreOut work out = ((p : List ℕ) → Has work p → IsOut out p) × ((p : List ℕ) → IsOut out p → Has work p)
+
 -- each space that is out has local events
 abbrev pub OutsRun : Space → Slots → Type 0
 OutsRun tree out = (p : List ℕ) → IsOut out p → is_local_at p greatest_depth tree ≡ true

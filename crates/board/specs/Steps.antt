@@ -1,6 +1,6 @@
 -- What each call of a board does to it.
 -- Our choice: the steps of a scheduler whose history is legal.
-use Rattle.std.specs.Prelude.{◌≡◌, ◌⊎◌, ℕ, ◌+◌, ◌%◌, ◌^◌, List, [], ◌∷◌, ◌++◌, Option, Some, None, length, option_map}
+use Rattle.std.specs.Prelude.{◌≡◌, ◌⊎◌, ℕ, ◌+◌, ◌%◌, ◌^◌, List, [], ◌∷◌, ◌++◌, Option, Some, None, option_map}
 use Rattle.call_model.specs.Limits.{greatest_depth}
 use Rattle.call_model.specs.declared.Call.{Call}
 use Rattle.arrayvec.specs.ArrayVec.{ArrayVec}
@@ -16,7 +16,7 @@ use Rattle.board.specs.declared.job.Job.{Job}
 use Rattle.board.specs.declared.done.Done.{Done}
 use Rattle.board.specs.declared.result.Commit.{Commit}
 use Rattle.board.specs.declared.result.Commit.TheVariants.{Taken, Stale}
-use Rattle.board.specs.Jobs.{Slots, out_at, Sets, MayBeTaken}
+use Rattle.board.specs.Jobs.{out_at, Sets, MayBeTaken}
 use Rattle.board.specs.Value.{Shown}
 
 -- p is one of them, and each other comes behind it

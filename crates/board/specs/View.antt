@@ -1,22 +1,24 @@
 -- A board as contracts see it, and what its fields keep.
 -- Our choice: a restatement for proofs.
-use Rattle.std.specs.Prelude.{ℕ, ◌+◌, ◌≤◌, vec_len, vec_capacity}
+use Rattle.std.specs.Prelude.{◌+◌, ◌≤◌, ◌<◌, vec_len, vec_capacity}
 use Rattle.slab.specs.Slab.{slab_len}
 use Rattle.space_model.specs.Sound.{IsSound}
 use Rattle.det_core.specs.Legal.{Legal}
 use Rattle.path_set.specs.Paths.{paths_in}
 use Rattle.board.specs.declared.board.Board.TheInside.{Inside}
 use Rattle.board.specs.Value.{Shown}
-use Rattle.board.specs.Listed.{IsListed}
+use Rattle.board.specs.Listed.{AreOut, IsListed}
 
 abbrev pub shown : Inside → Shown
-shown b = record { boot = b.boot; nodes = b.nodes; tree = b.tree; history = b.history.items; out = b.out.slots; next_ticket = b.next_ticket }
+shown b = record { boot = b.boot; nodes = b.nodes; tree = b.tree; history = b.history.items; out = b.out.slots; next_ticket = b.next_ticket; owed = b.owed }
 
--- The history leads from boot, which is sound, to the tree; what may happen is listed; and for each job that is out there is a place in the history and
+-- There is a node, and the history leads from boot, which is sound, to the tree; what may happen is listed, and so are the jobs that are out; and for each job that is out there is a place in the history and
 -- in the news, so that its result takes no memory.
 pub record Keeps (b : Inside) : Type 0 where
+  pub nodes : 0 < b.nodes
   pub sound : IsSound b.boot
   pub legal : Legal b.boot b.history.items b.tree
+  pub at_work : AreOut b.at_work b.out.slots
   pub listed : IsListed b.tree b.run b.calls (paths_in b.news.items) b.out.slots
   pub places : vec_len b.history + slab_len b.out ≤ vec_capacity b.history
   pub news_places : vec_len b.news + slab_len b.out ≤ vec_capacity b.news

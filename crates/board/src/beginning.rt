@@ -86,6 +86,8 @@ impl Board {
             history: Vec::new(alloc),
             out: Slab::new(alloc),
             next_ticket: 0,
+            owed: 0,
+            at_work: PathSet::new(alloc),
             run,
             calls,
             news: Vec::new(alloc),

@@ -7,7 +7,7 @@ use std::alloc::Global;
 use std::marker::Model;
 
 /// A tree of spaces whose local events workers do, job by job, with the history that leads to it from the tree it began with. Contracts see both
-/// trees, the history, the jobs that are out and the number of the next ticket; beside these it keeps where to look for the next job and the next call.
+/// trees, the history, the jobs that are out, the number of the next ticket and how many jobs are owed; beside these it keeps where to look for the next job and the next call.
 #[derive(Drop)]
 pub struct Board {
     pub(crate) alloc: Global,
@@ -17,6 +17,10 @@ pub struct Board {
     pub(crate) history: Vec<Entry>,
     pub(crate) out: Slab<Out>,
     pub(crate) next_ticket: u64,
+    /// How many jobs were handed out by turns and were not handed in again.
+    pub(crate) owed: u64,
+    // The paths of the jobs that are out, and no others.
+    pub(crate) at_work: PathSet,
     // All paths of spaces that have local events, but for those that are out and those on the way to the news.
     pub(crate) run: PathSet,
     // All paths of calls that may meet their children, but for those on the way to the news.

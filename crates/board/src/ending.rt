@@ -1,6 +1,7 @@
-ghost use Rattle.std.specs.Prelude.{◌≡◌, true};
+ghost use Rattle.std.specs.Prelude.{◌≡◌, ◌<◌, true};
 ghost use Rattle.space_model.specs.Space.{is_settled};
 ghost use Rattle.space_model.specs.Sound.{IsSound};
+ghost use Rattle.run_model.specs.Demand.{settle_tree};
 ghost use Rattle.det_core.specs.Legal.{Legal};
 ghost use Rattle.board.specs.Jobs.{IsNoneOut};
 
@@ -10,6 +11,14 @@ use det_core::Entry;
 use space_tree::is_settled;
 
 impl Board {
+    /// How many nodes there are, one at least.
+    pub fn nodes(&self) -> u32
+        ensures is { result ≡ self.now.nodes }
+        ensures some { 0 < self.now.nodes }
+    {
+        self.nodes
+    }
+
     /// Whether no job is out and no space in the tree runs. It takes no memory.
     pub fn finished(&self) -> bool
         ensures yes { result ≡ true → IsNoneOut self.now.out × (is_settled self.now.tree ≡ true) }
@@ -26,13 +35,14 @@ impl Board {
         self.history.as_slice()
     }
 
-    /// Closes the board. The jobs that are out are forgotten.
+    /// Closes the board. The jobs that are out are forgotten. Where no space runs, the tree is what the first one settles to.
     pub fn close(self) -> Closed
         ensures boot { result.boot ≡ self.boot }
         ensures nodes { result.nodes ≡ self.nodes }
         ensures tree { result.tree ≡ self.tree }
         ensures history { result.history.items ≡ self.history }
         ensures legal { IsSound result.boot × Legal result.boot result.history.items result.tree }
+        ensures end { is_settled result.tree ≡ true → result.tree ≡ settle_tree result.boot }
     {
         let Board {
             boot,

@@ -7,6 +7,7 @@ use crate::board::Board;
 use crate::committing::{is_of_slot, ticket_in};
 use crate::done::Done;
 use crate::result::Commit;
+use crate::slots::take_out;
 use det_core::Entry;
 use space_tree::swap_top;
 
@@ -25,7 +26,7 @@ impl Board {
         run.leads();
         let events = run.ran();
         let (_, top) = run.into_parts();
-        let out = self.out.remove(slot);
+        let out = take_out(&mut self.out, &mut self.at_work, slot);
         swap_top(&mut self.tree, &path, top);
         self.news.push_reserved(out.path);
         self.history.push_reserved(Entry::Ran { path, events });
@@ -37,7 +38,7 @@ impl Board {
         ensures out { Sets slot None self.old.out self.new.out }
         ensures others { self.new ≡ record self.old { out = self.new.out } }
     {
-        let out = self.out.remove(slot);
+        let out = take_out(&mut self.out, &mut self.at_work, slot);
         self.news.push_reserved(out.path);
     }
 

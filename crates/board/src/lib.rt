@@ -3,6 +3,7 @@
 //! the tree it has.
 #![tactic(auto)]
 
+mod alone;
 mod beginning;
 mod board;
 mod closed;
@@ -14,10 +15,16 @@ mod job;
 mod listing;
 mod meeting;
 mod result;
+mod shop;
+mod slots;
 mod taking;
+mod turning;
+mod working;
 
+pub use alone::run_alone;
 pub use board::Board;
 pub use closed::Closed;
 pub use done::Done;
 pub use job::{Job, Out};
 pub use result::Commit;
+pub use working::{QUANTUM, work};

@@ -3,45 +3,20 @@ ghost use Rattle.call_model.specs.Limits.{greatest_depth, levels_below};
 ghost use Rattle.space_model.specs.Space.{Space, top_of};
 ghost use Rattle.space_model.specs.Event.{next};
 ghost use Rattle.run_model.specs.Schedule.{is_local, is_local_at};
-ghost use Rattle.path_set.specs.Paths.{IsFirst, Paths};
-ghost use Rattle.board.specs.Jobs.{IsFor, IsOut, MayBeTaken};
-ghost use Rattle.board.specs.Listed.{IsListed};
+ghost use Rattle.path_set.specs.Paths.{Has, IsFirst, Paths};
+ghost use Rattle.board.specs.Jobs.{MayBeTaken, Slots};
+ghost use Rattle.board.specs.Listed.{AreOut, IsListed};
 ghost use Rattle.board.specs.Steps.{IsLeast, IsPutOut, Takes};
 
 use crate::board::Board;
 use crate::job::{Job, Out};
 use crate::listing::{copy_path, list_news, one_more};
+use crate::slots::put_in;
 use det_core::Entry;
 use path_set::PathSet;
-use slab::Slab;
 use space_step::{Next, peek};
 use space_tree::{Path, Space, at, copy_top_at};
 use std::alloc::AllocError;
-
-// Whether the job of a slot is for a path.
-fn is_for(out: &Slab<Out>, slot: usize, path: &Path) -> bool
-    ensures yes { result ≡ true → IsFor out.now.slots slot path.now.items }
-    ensures no { IsFor out.now.slots slot path.now.items → result ≡ true }
-{
-    match out.get(slot) {
-        Some(job) => job.path.as_slice() == path.as_slice(),
-        None => false,
-    }
-}
-
-// Whether a job is out for a path.
-#[tactic(auto, using(crate::proofs::Outs::is_out_there, crate::proofs::Outs::none_out_yet, crate::proofs::Outs::one_more_not, crate::proofs::Outs::none_out))]
-fn is_out(out: &Slab<Out>, path: &Path) -> bool
-    ensures yes { result ≡ true → IsOut out.now.slots path.now.items }
-    ensures no { IsOut out.now.slots path.now.items → result ≡ true }
-{
-    for slot in 0..out.capacity() {
-        if is_for(out, slot, path) {
-            return true;
-        }
-    }
-    false
-}
 
 // Whether a space at this depth has a local event next.
 fn goes(space: &Space, depth: u8) -> bool
@@ -65,26 +40,31 @@ fn goes_at(tree: &Space, path: &Path) -> bool
     }
 }
 
-// Whether the space at a path may be taken.
-fn may_be_taken(tree: &Space, out: &Slab<Out>, path: &Path) -> bool
-    ensures yes { result ≡ true → MayBeTaken tree.now out.now.slots path.now.items }
-    ensures no { result ≡ false → is_local_at path.now.items greatest_depth tree.now ≡ true → IsOut out.now.slots path.now.items }
+// Whether the space at a path may be taken, where these are at work.
+#[tactic(auto, using(crate::proofs::Works::may_be_taken))]
+fn may_be_taken(tree: &Space, at_work: &PathSet, path: &Path) -> bool
+    ensures yes { result ≡ true → (out : Slots) → AreOut at_work.now out → MayBeTaken tree.now out path.now.items }
+    ensures no { result ≡ false → is_local_at path.now.items greatest_depth tree.now ≡ true → Has at_work.now path.now.items }
 {
     if !goes_at(tree, path) {
         return false;
     }
-    !is_out(out, path)
+    !at_work.contains(path)
 }
 
-// The first of those listed that may be taken; those before it are listed no more.
-fn find_first(tree: &Space, run: &mut PathSet, out: &Slab<Out>) -> Result<Option<Path>, AllocError>
-    ensures listed { (calls : Paths) → IsListed tree.now run.old calls [] out.now.slots → IsListed tree.now run.new calls [] out.now.slots }
-    ensures some { IfOk result (λ o. IfSome o (λ p. IsFirst p.items run.new × MayBeTaken tree.now out.now.slots p.items)) }
+// The first of those listed that may be taken, where these are at work; those before it are listed no more.
+fn find_first(
+    tree: &Space,
+    run: &mut PathSet,
+    at_work: &PathSet,
+) -> Result<Option<Path>, AllocError>
+    ensures listed { (calls : Paths) (out : Slots) → AreOut at_work.now out → IsListed tree.now run.old calls [] out → IsListed tree.now run.new calls [] out }
+    ensures some { IfOk result (λ o. IfSome o (λ p. IsFirst p.items run.new × ((out : Slots) → AreOut at_work.now out → MayBeTaken tree.now out p.items))) }
     ensures none { IfOk result (λ o. IsNone o → run.new ≡ []) }
 {
     while let Some(first) = run.first() {
-        if may_be_taken(tree, out, first) {
-            return Ok(Some(first.clone()?));
+        if may_be_taken(tree, at_work, first) {
+            return Ok(Some(copy_path(first)?));
         }
         run.pop_first();
     }
@@ -117,7 +97,7 @@ impl Board {
         ensures none { IfOk result (λ o. IsNone o → (p : List ℕ) → MayBeTaken self.old.tree self.old.out p → ⊥) }
     {
         list_news(&mut self.run, &mut self.calls, &mut self.news)?;
-        find_first(&self.tree, &mut self.run, &self.out)
+        find_first(&self.tree, &mut self.run, &self.at_work)
     }
 
     // Puts out a job for a space that may be taken, with a copy of its state and the next ticket.
@@ -136,7 +116,8 @@ impl Board {
             ticket,
             path: copy_path(&path)?,
         };
-        let slot = self.out.insert(out)?;
+        let slot = put_in(&mut self.out, &mut self.at_work, out)?;
+        self.run.remove(&path);
         self.next_ticket = ticket.wrapping_add(1);
         Ok(Job {
             slot,

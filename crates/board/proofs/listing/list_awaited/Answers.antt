@@ -1,4 +1,4 @@
-use Rattle.std.proofs.Common.{◌+◌, arith, length, take, ap, ◌∙◌}
+use Rattle.std.proofs.Common.{◌+◌, arith, take, ap, ◌∙◌}
 use Rattle.space_model.specs.Meeting.{awaits}
 use Rattle.board.proofs.Ways.{next_awaited, one_more_awaited, awaited_end}
 use Rattle.board.proofs.listing.list_awaited.Goals as goal

@@ -1,4 +1,4 @@
-use Rattle.std.proofs.Common.{subst, arith, length}
+use Rattle.std.proofs.Common.{subst, arith}
 use Rattle.path_set.specs.Paths.{Has}
 use Rattle.board.proofs.Ways.{one_longer, whole_way}
 use Rattle.board.proofs.listing.list_way.Goals as goal

@@ -23,14 +23,14 @@ invariant_of-self c =
     let kept = c.self.invariant in
     let done = c.args.done in
     let of = subst (λ (s : Shown). IsOfJob s c.args.done c.requires.0) (sym c.self.view_is) c.requires.1 in
-    let out = c.remove-out.result in
-    let value : out_at b.out.slots done.slot ≡ Some out = c.remove-out.ensures.value in
-    let sets : Sets done.slot None b.out.slots c.remove-out.new.self.slots = record { here = c.remove-out.ensures.updates.changed; others = c.remove-out.ensures.updates.others } in
+    let out = c.take_out-out.result in
+    let value : out_at b.out.slots done.slot ≡ Some out = c.take_out-out.ensures.value in
+    let sets : Sets done.slot None b.out.slots c.take_out-out.new.out.slots = c.take_out-out.ensures.sets in
     let at_slot = of.out in
     let same : c.requires.0 ≡ out = cc in
     let path = ap (λ (o : Out). o.path.items) (sym same) ∙ of.start.path in
     let goes = kept.listed.goes done.path.items (done.slot, (c.requires.0, of.out, of.start.path)) in
-    let fewer = c.remove-out.ensures.len in
+    let fewer = c.take_out-out.ensures.len in
     let more = c.push_reserved.ensures.len in
     let capacity = c.push_reserved.ensures.capacity in
     let one_more = c.push_reserved-2.ensures.len in
@@ -43,12 +43,14 @@ invariant_of-self c =
     let put : with_top out.path.items top b.tree ≡ c.swap_top.new.space = ap (λ p. with_top p top b.tree) path ∙ sym now in
     let items : c.push_reserved-2.new.self.items ≡ b.history.items ++ Ran done.path c.ran-events.result ∷ [] = c.push_reserved-2.ensures.items in
     record {
+      nodes = kept.nodes;
       sound = kept.sound;
+      at_work = c.take_out-out.ensures.work;
       legal = ran_legal b.boot b.tree c.swap_top.new.space b.history.items c.push_reserved-2.new.self.items done.path done.run top c.ran-events.result kept.legal c.leads.ensures.run done.deep of.start.start goes
           c.into_parts-top.ensures.top c.ran-events.ensures now items;
-      listed = subst (λ ns. IsListed c.swap_top.new.space b.run b.calls ns c.remove-out.new.self.slots) (sym news)
-          (subst (λ s. IsListed s b.run b.calls (paths_in b.news.items ++ out.path.items ∷ []) c.remove-out.new.self.slots) put
-          (taken_listed b.tree b.run b.calls (paths_in b.news.items) b.out.slots c.remove-out.new.self.slots done.slot out top kept.listed value sets));
+      listed = subst (λ ns. IsListed c.swap_top.new.space b.run b.calls ns c.take_out-out.new.out.slots) (sym news)
+          (subst (λ s. IsListed s b.run b.calls (paths_in b.news.items ++ out.path.items ∷ []) c.take_out-out.new.out.slots) put
+          (taken_listed b.tree b.run b.calls (paths_in b.news.items) b.out.slots c.take_out-out.new.out.slots done.slot out top kept.listed value sets));
       places = omega (arith, places, fewer, one_more, same_room);
       news_places = omega (arith, news_places, fewer, more, capacity);
     }

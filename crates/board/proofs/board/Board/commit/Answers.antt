@@ -1,5 +1,4 @@
-use Rattle.std.proofs.Common.{◌≡◌, Some, None, true, false, refl, sym, ap, ◌∙◌, subst, true≢false}
-use Rattle.board.specs.declared.job.Out.{Out}
+use Rattle.std.proofs.Common.{refl, sym, ap, ◌∙◌, subst, true≢false}
 use Rattle.board.specs.Jobs.{out_at}
 use Rattle.board.specs.Value.{Shown}
 use Rattle.board.specs.Steps.{IsStart}

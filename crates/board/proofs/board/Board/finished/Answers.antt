@@ -1,4 +1,4 @@
-use Rattle.std.proofs.Common.{sym, ap, ◌∙◌, subst}
+use Rattle.std.proofs.Common.{sym, subst}
 use Rattle.board.specs.Jobs.{IsNoneOut}
 use Rattle.board.specs.Value.{Shown}
 use Rattle.board.proofs.Outs.{none_is_empty}

@@ -1,8 +1,6 @@
-use Rattle.std.proofs.Common.{◌≡◌, ◌∷◌, [], ◌++◌, List, refl, sym, ap, ◌∙◌, subst, arith}
+use Rattle.std.proofs.Common.{◌≡◌, ◌∷◌, [], ◌++◌, refl, sym, ap, ◌∙◌, subst, arith}
 use Rattle.std.specs.Prelude.{Some}
-use Rattle.space_model.specs.Space.{Space}
-use Rattle.run_model.specs.Schedule.{call_at, step}
-use Rattle.det_core.specs.declared.entry.Entry.{Entry}
+use Rattle.run_model.specs.Schedule.{call_at}
 use Rattle.det_core.specs.declared.entry.Entry.TheVariants.{Met}
 use Rattle.det_core.specs.Legal.{Legal}
 use Rattle.path_set.specs.Paths.{paths_in}
@@ -21,7 +19,9 @@ invariant_of-self-in_err-reserve c =
     let len = c.reserve.ensures.len in
     let capacity = c.reserve.ensures.capacity in
     record {
+      nodes = kept.nodes;
       sound = kept.sound;
+      at_work = kept.at_work;
       legal = subst (λ es. Legal b.boot es b.tree) (sym c.reserve.ensures.items) kept.legal;
       listed = more_listed b.tree b.run b.calls c.list_awaited.new.run c.list_awaited.new.calls (paths_in b.news.items) b.out.slots kept.listed
           (λ p has. c.list_awaited.ensures.run p (c.list_way.ensures.run p has)) (λ p has. c.list_awaited.ensures.calls p (c.list_way.ensures.calls p has));
@@ -37,7 +37,9 @@ invariant_of-self-in_err-copy_path c =
     let len = c.reserve.ensures.len in
     let capacity = c.reserve.ensures.capacity in
     record {
+      nodes = kept.nodes;
       sound = kept.sound;
+      at_work = kept.at_work;
       legal = subst (λ es. Legal b.boot es b.tree) (sym c.reserve.ensures.items) kept.legal;
       listed = more_listed b.tree b.run b.calls c.list_awaited.new.run c.list_awaited.new.calls (paths_in b.news.items) b.out.slots kept.listed
           (λ p has. c.list_awaited.ensures.run p (c.list_way.ensures.run p has)) (λ p has. c.list_awaited.ensures.calls p (c.list_way.ensures.calls p has));
@@ -56,7 +58,9 @@ invariant_of-self-in_err-meet c =
     let listed = more_listed b.tree b.run b.calls c.list_awaited.new.run c.list_awaited.new.calls (paths_in b.news.items) b.out.slots kept.listed
     (λ p has. c.list_awaited.ensures.run p (c.list_way.ensures.run p has)) (λ p has. c.list_awaited.ensures.calls p (c.list_way.ensures.calls p has)) in
     record {
+      nodes = kept.nodes;
       sound = kept.sound;
+      at_work = kept.at_work;
       legal = subst (λ s. Legal b.boot c.reserve.new.self.items s) (sym same) (subst (λ es. Legal b.boot es b.tree) (sym c.reserve.ensures.items) kept.legal);
       listed = subst (λ s. IsListed s c.list_awaited.new.run c.list_awaited.new.calls (paths_in b.news.items) b.out.slots) (sym same) listed;
       places = omega (arith, places, len, capacity);
@@ -88,7 +92,9 @@ invariant_of-self-2 c =
     (λ p has. c.list_awaited.ensures.run p (c.list_way.ensures.run p has)) (λ p has. c.list_awaited.ensures.calls p (c.list_way.ensures.calls p has)) in
     let now = met_now b.tree c.meet.new.space path c.args.found.call may met in
     record {
+      nodes = kept.nodes;
       sound = kept.sound;
+      at_work = kept.at_work;
       legal = subst (λ es. Legal b.boot es c.meet.new.space) (sym items) (met_legal b.boot b.tree c.meet.new.space b.history.items path c.args.found.call kept.legal may met);
       listed = subst (λ s. IsListed s c.list_awaited.new.run c.list_awaited.new.calls (paths_in b.news.items) b.out.slots) (sym now)
           (met_listed b.tree sound.0 c.list_awaited.new.run c.list_awaited.new.calls (paths_in b.news.items) b.out.slots q c.args.found.call sound.1.2 listed may
@@ -108,4 +114,4 @@ returns-clause-ok c =
     let reserved : c.reserve.new.self.items ≡ b.history.items = c.reserve.ensures.items in
     let items = pushed ∙ ap (λ p. c.reserve.new.self.items ++ Met p ∷ []) copied ∙ ap (λ es. es ++ Met path ∷ []) reserved in
     let now = met_now b.tree c.meet.new.space path c.args.found.call may c.in_ok-meet.ensures.met in
-    (refl, subst (λ (s : Shown). HasMet s path (shown_of b.boot b.nodes c.meet.new.space c.push_reserved.new.self.items b.out.slots b.next_ticket)) c.self.view_is (record { may = (c.args.found.call, may); others = met_shown b.boot b.nodes b.tree c.meet.new.space b.history.items c.push_reserved.new.self.items b.out.slots b.next_ticket path now items }))
+    (refl, subst (λ (s : Shown). HasMet s path (shown_of b.boot b.nodes c.meet.new.space c.push_reserved.new.self.items b.out.slots b.next_ticket b.owed)) c.self.view_is (record { may = (c.args.found.call, may); others = met_shown b.boot b.nodes b.tree c.meet.new.space b.history.items c.push_reserved.new.self.items b.out.slots b.next_ticket b.owed path now items }))

@@ -1,7 +1,7 @@
-use Rattle.std.proofs.Common.{◌≡◌, ℕ, Some, true, sym, ap, ◌∙◌, subst, arith}
+use Rattle.std.proofs.Common.{◌≡◌, ◌≢◌, ℕ, List, Some, true, sym, ap, ◌∙◌, subst, arith}
 use Rattle.run_model.specs.Schedule.{is_local_at}
 use Rattle.det_core.specs.Legal.{Legal}
-use Rattle.path_set.specs.Paths.{paths_in}
+use Rattle.path_set.specs.Paths.{Has, paths_in}
 use Rattle.arrayvec.specs.ArrayVec.{ArrayVec}
 use Rattle.det_laws.specs.Tops.{top_at}
 use Rattle.board.specs.declared.job.Out.{Out}
@@ -9,7 +9,8 @@ use Rattle.board.specs.Jobs.{MayBeTaken, Sets}
 use Rattle.board.specs.Listed.{IsListed}
 use Rattle.board.specs.Value.{Shown}
 use Rattle.board.proofs.Kept.{put_out_listed}
-use Rattle.board.proofs.Histories.{legal_sound, alone_sound, goes_stands}
+use Rattle.board.proofs.Histories.{legal_sound, alone_sound, goes_stands, shown_of}
+use Rattle.board.proofs.Ways.{on_err}
 use Rattle.board.proofs.board.Board.put_out.Goals as goal
 
 pub unreachable-requires : goal.unreachable-requires
@@ -31,8 +32,9 @@ invariant_of-self-2 c =
     let o : Out = record { ticket = b.next_ticket; path = c.in_ok-copy_path.field-0 } in
     let may : MayBeTaken b.tree b.out.slots c.args.path.items = subst (λ (s : Shown). MayBeTaken s.tree s.out c.args.path.items) (sym c.self.view_is) c.requires in
     let may_out : MayBeTaken b.tree b.out.slots o.path.items = subst (λ (p : ArrayVec ℕ). MayBeTaken b.tree b.out.slots p.items) (sym c.in_ok-copy_path.ensures) may in
-    let sets : Sets c.in_ok-slot.slot (Some o) b.out.slots c.insert.new.self.slots = record { here = c.in_ok-slot.ensures.updates.changed; others = c.in_ok-slot.ensures.updates.others } in
-    let listed = put_out_listed b.tree b.run b.calls (paths_in b.news.items) b.out.slots c.insert.new.self.slots c.in_ok-slot.slot o kept.listed may_out c.in_ok-slot.ensures.was_vacant sets in
+    let sets : Sets c.in_ok-slot.slot (Some o) b.out.slots c.put_in.new.out.slots = c.in_ok-slot.ensures.sets in
+    let fewer = λ (q : List ℕ) (other : q ≢ o.path.items) (has : Has b.run q). c.remove.ensures.others q (λ e. other (e ∙ sym (ap (λ (p : ArrayVec ℕ). p.items) c.in_ok-copy_path.ensures))) has in
+    let listed = put_out_listed b.tree b.run c.remove.new.self b.calls (paths_in b.news.items) b.out.slots c.put_in.new.out.slots c.in_ok-slot.slot o kept.listed may_out c.in_ok-slot.ensures.vacant sets fewer in
     let tree = c.in_ok-top.ensures.same in
     let places = c.in_ok-make_places.ensures.places in
     let room = places.0 in
@@ -41,10 +43,22 @@ invariant_of-self-2 c =
     let jobs = c.len.ensures in
     let more = c.in_ok-slot.ensures.len in
     record {
+      nodes = kept.nodes;
       sound = kept.sound;
+      at_work = c.put_in.ensures.work;
       legal = subst (λ s. Legal b.boot c.make_places.new.history.items s) (sym tree) (subst (λ es. Legal b.boot es b.tree) (sym c.make_places.ensures.history) kept.legal);
-      listed = subst (λ s. IsListed s b.run b.calls (paths_in c.make_places.new.news.items) c.insert.new.self.slots) (sym tree)
-          (subst (λ ns. IsListed b.tree b.run b.calls (paths_in ns) c.insert.new.self.slots) (sym c.make_places.ensures.news) listed);
+      listed = subst (λ s. IsListed s c.remove.new.self b.calls (paths_in c.make_places.new.news.items) c.put_in.new.out.slots) (sym tree)
+          (subst (λ ns. IsListed b.tree c.remove.new.self b.calls (paths_in ns) c.put_in.new.out.slots) (sym c.make_places.ensures.news) listed);
       places = omega (arith, room, count, jobs, more);
       news_places = omega (arith, news_room, count, jobs, more);
     }
+
+pub returns-in_err-slot-clause-err : goal.returns-in_err-slot-clause-err
+returns-in_err-slot-clause-err c =
+    let b = c.self.inside in
+    let items = c.make_places.new.history.items in
+    let slots = c.put_in.new.out.slots in
+    on_err c.from_residual-in_err-slot.result _
+    ((ap (λ s. shown_of b.boot b.nodes s items slots b.next_ticket b.owed) c.in_ok-top.ensures.same ∙ ap (λ es. shown_of b.boot b.nodes b.tree es slots b.next_ticket b.owed) c.make_places.ensures.history
+    ∙ ap (λ xs. shown_of b.boot b.nodes b.tree b.history.items xs b.next_ticket b.owed) c.in_err-slot.ensures.err)
+    ∙ c.self.view_is)

@@ -1,5 +1,5 @@
-use Rattle.std.proofs.Common.{◌≡◌, [], sym, ap, ◌∙◌, subst, arith, List, ℕ}
-use Rattle.std.specs.Prelude.{Option, Some, None, IfOk, IfSome, IsNone}
+use Rattle.std.proofs.Common.{◌≡◌, [], sym, subst, arith, List, ℕ}
+use Rattle.std.specs.Prelude.{Some, None, IfOk, IfSome, IsNone}
 use Rattle.std.proofs.lemmas.Result.{IfOk-weaker}
 use Rattle.run_model.specs.Schedule.{call_at}
 use Rattle.path_set.specs.Paths.{paths_in}
@@ -18,7 +18,9 @@ invariant_of-self c =
     let fewer = c.list_news.ensures.fewer in
     let capacity = c.list_news.ensures.capacity in
     record {
+      nodes = kept.nodes;
       sound = kept.sound;
+      at_work = kept.at_work;
       legal = kept.legal;
       listed = c.list_news.ensures.listed b.tree b.out.slots kept.listed;
       places = kept.places;
@@ -35,7 +37,9 @@ invariant_of-self-2 c =
     let none = c.in_ok-list_news.ensures.none in
     let before = subst (λ ns. IsListed b.tree c.list_news.new.run c.list_news.new.calls (paths_in ns) b.out.slots) none (c.list_news.ensures.listed b.tree b.out.slots kept.listed) in
     record {
+      nodes = kept.nodes;
       sound = kept.sound;
+      at_work = kept.at_work;
       legal = kept.legal;
       listed = subst (λ ns. IsListed b.tree c.list_news.new.run c.find_first.new.calls (paths_in ns) b.out.slots) (sym none) (c.find_first.ensures.listed c.list_news.new.run b.out.slots before);
       places = kept.places;

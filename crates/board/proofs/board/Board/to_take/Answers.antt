@@ -1,4 +1,4 @@
-use Rattle.std.proofs.Common.{◌≡◌, [], sym, ap, ◌∙◌, subst, arith, List, ℕ}
+use Rattle.std.proofs.Common.{[], sym, subst, arith, List, ℕ}
 use Rattle.std.specs.Prelude.{IfOk, IfSome, IsNone}
 use Rattle.std.proofs.lemmas.Result.{IfOk-weaker}
 use Rattle.path_set.specs.Paths.{paths_in}
@@ -18,7 +18,9 @@ invariant_of-self c =
     let fewer = c.list_news.ensures.fewer in
     let capacity = c.list_news.ensures.capacity in
     record {
+      nodes = kept.nodes;
       sound = kept.sound;
+      at_work = kept.at_work;
       legal = kept.legal;
       listed = c.list_news.ensures.listed b.tree b.out.slots kept.listed;
       places = kept.places;
@@ -35,9 +37,11 @@ invariant_of-self-2 c =
     let none = c.in_ok-list_news.ensures.none in
     let before = subst (λ ns. IsListed b.tree c.list_news.new.run c.list_news.new.calls (paths_in ns) b.out.slots) none (c.list_news.ensures.listed b.tree b.out.slots kept.listed) in
     record {
+      nodes = kept.nodes;
       sound = kept.sound;
+      at_work = kept.at_work;
       legal = kept.legal;
-      listed = subst (λ ns. IsListed b.tree c.find_first.new.run c.list_news.new.calls (paths_in ns) b.out.slots) (sym none) (c.find_first.ensures.listed c.list_news.new.calls before);
+      listed = subst (λ ns. IsListed b.tree c.find_first.new.run c.list_news.new.calls (paths_in ns) b.out.slots) (sym none) (c.find_first.ensures.listed c.list_news.new.calls b.out.slots kept.at_work before);
       places = kept.places;
       news_places = omega (arith, news_places, fewer, capacity);
     }
@@ -47,11 +51,11 @@ returns-clause-some c =
     let b = c.self.inside in
     let none = c.in_ok-list_news.ensures.none in
     let before = subst (λ ns. IsListed b.tree c.list_news.new.run c.list_news.new.calls (paths_in ns) b.out.slots) none (c.list_news.ensures.listed b.tree b.out.slots c.self.invariant.listed) in
-    let now = c.find_first.ensures.listed c.list_news.new.calls before in
+    let now = c.find_first.ensures.listed c.list_news.new.calls b.out.slots c.self.invariant.at_work before in
     subst (λ (s : Shown). IfOk c.find_first.result (λ o. IfSome o (λ p. IsLeast (MayBeTaken s.tree s.out) p.items))) c.self.view_is
     (IfOk-weaker c.find_first.result _ _
     (λ o found. if_some_weaker o _ _
-    (λ p here. record { one = here.1; least = λ q may. run_least b.tree c.find_first.new.run c.list_news.new.calls b.out.slots p.items q now here.0 may }) found)
+    (λ p here. record { one = here.1 b.out.slots c.self.invariant.at_work; least = λ q may. run_least b.tree c.find_first.new.run c.list_news.new.calls b.out.slots p.items q now here.0 may }) found)
     c.find_first.ensures.some)
 
 pub returns-clause-none : goal.returns-clause-none
@@ -59,7 +63,7 @@ returns-clause-none c =
     let b = c.self.inside in
     let none = c.in_ok-list_news.ensures.none in
     let before = subst (λ ns. IsListed b.tree c.list_news.new.run c.list_news.new.calls (paths_in ns) b.out.slots) none (c.list_news.ensures.listed b.tree b.out.slots c.self.invariant.listed) in
-    let now = c.find_first.ensures.listed c.list_news.new.calls before in
+    let now = c.find_first.ensures.listed c.list_news.new.calls b.out.slots c.self.invariant.at_work before in
     subst (λ (s : Shown). IfOk c.find_first.result (λ o. IsNone o → (p : List ℕ) → MayBeTaken s.tree s.out p → ⊥)) c.self.view_is
     (IfOk-weaker c.find_first.result _ _
     (λ o empty is_none p. none_to_take b.tree c.list_news.new.calls b.out.slots p (subst (λ run. IsListed b.tree run c.list_news.new.calls [] b.out.slots) (empty is_none) now))

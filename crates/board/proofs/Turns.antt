@@ -1,0 +1,143 @@
+-- What turns and results do to what a shop counts, and to the one job that is out.
+use Rattle.std.proofs.Common.{◌≡◌, ℕ, ◌+◌, ◌≤◌, Bool, true, cond, true≢false, List, [], ◌∷◌, ◌++◌, length, Option, Some, None, ◌⊎◌, inl, inr, refl, sym, ap, ◌∙◌, subst, arith}
+use Rattle.std.proofs.lemmas.Bool.{cases_eq}
+use Rattle.std.specs.Prelude.{Result, Ok, Err, IfOk, OnErr}
+use Rattle.std.specs.declared.alloc.AllocError.{AllocError}
+use Rattle.arrayvec.specs.ArrayVec.{ArrayVec}
+use Rattle.call_model.specs.declared.Call.{Call}
+use Rattle.run_model.specs.Schedule.{call_at}
+use Rattle.det_core.specs.declared.entry.Entry.{Entry}
+use Rattle.det_core.specs.declared.entry.Entry.TheVariants.{Ran, Met as MetEntry}
+use Rattle.worker_pool.specs.Turns.{is_idle}
+use Rattle.worker_pool.specs.declared.shop.Turn.{Turn}
+use Rattle.worker_pool.specs.declared.shop.Turn.TheVariants.{Job as Hands, Met, Rest, Over}
+use Rattle.board.specs.declared.job.Out.{Out}
+use Rattle.board.specs.declared.job.Job.{Job}
+use Rattle.board.specs.declared.done.Done.{Done}
+use Rattle.board.specs.declared.result.Commit.{Commit}
+use Rattle.board.specs.declared.result.Commit.TheVariants.{Taken, Stale}
+use Rattle.board.specs.Jobs.{Slots, out_at, IsNoneOut, MayBeTaken, Sets}
+use Rattle.board.specs.Value.{Shown}
+use Rattle.board.specs.Steps.{Meets, IsTaken, IsStale, IsDropped, Commits}
+use Rattle.board.specs.Turns.{results_in, accepted, is_taken, IsFinished, IsIdle, IsTurn, IsOnlyOut, HandsOut, handed_in, HandsIn}
+use Rattle.board.proofs.Settling.{settled_meets_none, settled_takes_none}
+
+-- a run is one more result
+pub results_after_run : (es : List Entry) (path : ArrayVec ℕ) (events : ℕ) → results_in (es ++ Ran path events ∷ []) ≡ results_in es + 1
+results_after_run [] path events = refl
+results_after_run (Ran p n ∷ es) path events = ap (λ k. k + 1) (results_after_run es path events)
+results_after_run (MetEntry p ∷ es) path events = results_after_run es path events
+
+-- and a meeting is none
+pub results_after_meeting : (es : List Entry) (path : ArrayVec ℕ) → results_in (es ++ MetEntry path ∷ []) ≡ results_in es
+results_after_meeting [] path = refl
+results_after_meeting (Ran p n ∷ es) path = ap (λ k. k + 1) (results_after_meeting es path)
+results_after_meeting (MetEntry p ∷ es) path = results_after_meeting es path
+
+pub results_few : (es : List Entry) → results_in es ≤ length es
+results_few [] = omega arith
+results_few (Ran p n ∷ es) = let rest = results_few es in omega (arith, rest)
+results_few (MetEntry p ∷ es) = let rest = results_few es in omega (arith, rest)
+
+-- a job that is handed out where none was out is the only one
+pub only_out : (old new : Shown) (job : Job) → IsNoneOut old.out → HandsOut old job new → IsOnlyOut new.out job
+only_out old new job none hands =
+    let taken = hands.0 in
+    let sets = hands.1.is.out in
+    let same : taken.out ≡ new.out = sym (ap (λ (b : Shown). b.out) hands.2) in
+    subst (λ out. IsOnlyOut out job) same (record { there = (record { ticket = job.ticket; path = job.path }, sets.here, refl); others = λ slot other. sets.others slot other ∙ none slot })
+
+-- and once its result was handed in, none is out
+none_left : (out out' : Slots) (job : Job) (slot : ℕ) → slot ≡ job.slot → IsOnlyOut out job → Sets slot None out out' → IsNoneOut out'
+none_left out out' job slot same only sets k = go (cases_eq k slot)
+  where
+    go : (k ≡ slot) ⊎ (k ≡ slot → ⊥) → out_at out' k ≡ None
+    go (inl e) = ap (out_at out') e ∙ sets.here
+    go (inr ne) = sets.others k ne ∙ only.others k (λ e. ne (e ∙ sym same))
+
+dropped_none : (o : Option Out) (d : Done) (old new : Shown) (job : Job) → d.slot ≡ job.slot → d.ticket ≡ job.ticket → o ≡ out_at old.out d.slot → IsOnlyOut old.out job
+    → IsDropped o d old new → IsNoneOut new.out × (new.boot ≡ old.boot)
+dropped_none None d old new job slot ticket is only dropped =
+    let here : out_at old.out job.slot ≡ Some only.there.0 = only.there.1 in
+    let gone : None ≡ out_at old.out job.slot = is ∙ ap (out_at old.out) slot in
+    cc
+dropped_none (Some o) d old new job slot ticket is only dropped =
+    let here : out_at old.out job.slot ≡ Some only.there.0 = only.there.1 in
+    let there : Some o ≡ out_at old.out job.slot = is ∙ ap (out_at old.out) slot in
+    let its : o ≡ only.there.0 = cc in
+    let same : o.ticket ≡ d.ticket = ap (λ (x : Out). x.ticket) its ∙ only.there.2 ∙ sym ticket in
+    let freed = dropped.0 same in
+    (none_left old.out new.out job d.slot slot only freed.0, ap (λ (b : Shown). b.boot) freed.1)
+
+pub none_out_again : (old new : Shown) (job : Job) (d : Done) (c : Commit) → d.slot ≡ job.slot → d.ticket ≡ job.ticket → IsOnlyOut old.out job → Commits old d c new → IsNoneOut new.out × (new.boot ≡ old.boot)
+none_out_again old new job d Taken slot ticket only is = (none_left old.out new.out job d.slot slot only is.out, ap (λ (b : Shown). b.boot) is.others)
+none_out_again old new job d (Stale kept) slot ticket only is = dropped_none (out_at old.out d.slot) d old new job slot ticket refl only is.dropped
+
+-- a result that is taken is one more that was accepted, and another is none
+dropped_accepts : (o : Option Out) (d : Done) (old new : Shown) → ((x : Out) → (x.ticket ≡ d.ticket) ⊎ (x.ticket ≡ d.ticket → ⊥)) → IsDropped o d old new → (accepted new ≡ accepted old) × (new.owed ≡ old.owed)
+dropped_accepts None d old new cases is = (ap accepted is, ap (λ (b : Shown). b.owed) is)
+dropped_accepts (Some o) d old new cases is = go (cases o)
+  where
+    go : (o.ticket ≡ d.ticket) ⊎ (o.ticket ≡ d.ticket → ⊥) → (accepted new ≡ accepted old) × (new.owed ≡ old.owed)
+    go (inl e) = (ap accepted (is.0 e).1, ap (λ (b : Shown). b.owed) (is.0 e).1)
+    go (inr ne) = (ap accepted (is.1 ne), ap (λ (b : Shown). b.owed) (is.1 ne))
+
+pub taken_accepts : (old new : Shown) (d : Done) → IsTaken old d new → (accepted new ≡ accepted old + 1) × (new.owed ≡ old.owed)
+taken_accepts old new d is = (ap accepted is.others ∙ results_after_run old.history d.path (let run = d.run in run.ran), ap (λ (b : Shown). b.owed) is.others)
+
+pub stale_accepts : (old new : Shown) (d : Done) (kept : Option ℕ) → IsStale old d kept new → (accepted new ≡ accepted old) × (new.owed ≡ old.owed)
+stale_accepts old new d kept is = dropped_accepts (out_at old.out d.slot) d old new (λ x. cases_eq x.ticket d.ticket) is.dropped
+
+-- where a board is finished, no call may meet its children, and no job may be handed out
+pub finished_meets_none : (old new : Shown) (path : ArrayVec ℕ) → IsFinished old → Meets old path new → ⊥
+finished_meets_none old new path finished meets = settled_meets_none old.tree path.items meets.least.one.0 finished.1 meets.least.one.1
+
+pub finished_hands_none : (old new : Shown) (job : Job) → IsFinished old → HandsOut old job new → ⊥
+finished_hands_none old new job finished hands = settled_takes_none old.tree old.out job.path.items finished.1 hands.1.least.one
+
+-- nor where it is idle
+pub idle_meets_none : (old new : Shown) (path : ArrayVec ℕ) → IsIdle old → Meets old path new → ⊥
+idle_meets_none old new path idle meets =
+    let away : call_at path.items 8 old.tree ≡ None = idle.0 path.items in
+    let here : call_at path.items 8 old.tree ≡ Some meets.least.one.0 = meets.least.one.1 in
+    cc
+
+pub idle_hands_none : (old new : Shown) (job : Job) → IsIdle old → HandsOut old job new → ⊥
+idle_hands_none old new job idle hands = idle.1 job.path.items hands.1.least.one
+
+-- a turn leaves the results as they were
+pub turn_accepts : (old new : Shown) (t : Turn Job) → IsTurn old t new → accepted new ≡ accepted old
+turn_accepts old new Met is = ap accepted is.1.is.others ∙ results_after_meeting old.history is.0
+turn_accepts old new (Hands job) is = ap accepted is.1.2 ∙ ap accepted is.1.1.is.others
+turn_accepts old new Rest is = ap accepted is.2
+turn_accepts old new Over is = ap accepted is.1
+
+pub result_accepts : (old new : Shown) (r : Result (Turn Job) AllocError) → IfOk r (λ t. IsTurn old t new) → OnErr r (new ≡ old) → accepted new ≡ accepted old
+result_accepts old new (Ok t) is err = turn_accepts old new t is
+result_accepts old new (Err e) is err = ap accepted err
+
+-- and has nothing to do only where the board is idle
+pub turn_idles : (old new : Shown) (t : Turn Job) → IsTurn old t new → is_idle t ≡ true → IsIdle old
+turn_idles old new Met is h = absurd (true≢false (sym h))
+turn_idles old new (Hands job) is h = absurd (true≢false (sym h))
+turn_idles old new Rest is h = is.0
+turn_idles old new Over is h = (finished_quiet old is.0, λ p may. settled_takes_none old.tree old.out p is.0.1 may)
+  where
+    finished_quiet : (old : Shown) → IsFinished old → (p : List ℕ) → call_at p 8 old.tree ≡ None
+    finished_quiet old finished p = go (call_at p 8 old.tree) refl
+      where
+        go : (o : Option Call) → call_at p 8 old.tree ≡ o → call_at p 8 old.tree ≡ None
+        go None is = is
+        go (Some k) is = absurd (settled_meets_none old.tree p k finished.1 is)
+
+-- where nothing has changed, no space may be taken that could not before
+pub none_taken_before : (old new : Shown) → new ≡ old → ((p : List ℕ) → MayBeTaken new.tree new.out p → ⊥) → (p : List ℕ) → MayBeTaken old.tree old.out p → ⊥
+none_taken_before old new same none = subst (λ (s : Shown). (p : List ℕ) → MayBeTaken s.tree s.out p → ⊥) same none
+
+-- a result that is handed in is counted exactly where it is taken
+pub hands_in_accepts : (old new : Shown) (d : Done) (b : Bool) → HandsIn old d b new → accepted new ≡ cond b (accepted old + 1) (accepted old)
+hands_in_accepts old new d b hands = go hands.0 hands.1 hands.2
+  where
+    go : (c : Commit) → b ≡ is_taken c → Commits (handed_in old) d c new → accepted new ≡ cond b (accepted old + 1) (accepted old)
+    go Taken told is = (taken_accepts (handed_in old) new d is).0 ∙ sym (ap (λ x. cond x (accepted old + 1) (accepted old)) told)
+    go (Stale kept) told is = (stale_accepts (handed_in old) new d kept is).0 ∙ sym (ap (λ x. cond x (accepted old + 1) (accepted old)) told)

@@ -1,0 +1,90 @@
+-- What a turn of a board is, and what comes of a job that a worker does.
+-- Our choice: calls that may meet their children come before jobs, and a board is over where nothing may happen any more and no job is out.
+use Rattle.std.specs.Prelude.{◌≡◌, ◌≢◌, ℕ, ◌+◌, ◌-◌, ◌≤◌, ◌<◌, true, Bool, false, List, [], ◌∷◌, Some, None}
+use Rattle.arrayvec.specs.ArrayVec.{ArrayVec}
+use Rattle.call_model.specs.Limits.{greatest_depth, levels_below}
+use Rattle.space_model.specs.Space.{is_settled}
+use Rattle.space_model.specs.Event.{next, IsNotLocal}
+use Rattle.run_model.specs.Schedule.{call_at}
+use Rattle.det_core.specs.declared.entry.Entry.{Entry}
+use Rattle.det_core.specs.declared.entry.Entry.TheVariants.{Ran, Met as MetEntry}
+use Rattle.worker_pool.specs.declared.shop.Turn.{Turn}
+use Rattle.worker_pool.specs.declared.shop.Turn.TheVariants.{Job as Hands, Met, Rest, Over}
+use Rattle.board.specs.declared.job.Out.{Out}
+use Rattle.board.specs.declared.job.Job.{Job}
+use Rattle.board.specs.declared.done.Done.{Done}
+use Rattle.board.specs.declared.result.Commit.{Commit}
+use Rattle.board.specs.declared.result.Commit.TheVariants.{Taken, Stale}
+use Rattle.board.specs.declared.working.TheConstants.{QUANTUM}
+use Rattle.board.specs.Jobs.{Slots, out_at, IsNoneOut, MayBeTaken}
+use Rattle.board.specs.Value.{Shown}
+use Rattle.board.specs.Steps.{Takes, Meets, Commits}
+
+-- how many results were taken: each is an entry of the history
+abbrev pub results_in : List Entry → ℕ
+results_in [] = 0
+results_in (Ran path events ∷ es) = results_in es + 1
+results_in (MetEntry path ∷ es) = results_in es
+
+abbrev pub accepted : Shown → ℕ
+accepted b = results_in b.history
+
+-- no job is out, and no space runs
+abbrev pub IsFinished : Shown → Type 0
+IsFinished b = IsNoneOut b.out × (is_settled b.tree ≡ true)
+
+-- no call may meet its children
+abbrev pub NoneMayMeet : Shown → Type 0
+NoneMayMeet b = (p : List ℕ) → call_at p greatest_depth b.tree ≡ None
+
+-- no call may meet its children, and no space may be taken
+abbrev pub IsIdle : Shown → Type 0
+IsIdle b = NoneMayMeet b × ((p : List ℕ) → MayBeTaken b.tree b.out p → ⊥)
+
+-- some job is out
+abbrev pub IsSomeOut : Slots → Type 0
+IsSomeOut out = (slot : ℕ) × (o : Out) × (out_at out slot ≡ Some o)
+
+-- this job is out, and no other
+pub record IsOnlyOut (out : Slots) (job : Job) : Type 0 where
+  pub there : (o : Out) × (out_at out job.slot ≡ Some o) × (o.ticket ≡ job.ticket)
+  pub others : (slot : ℕ) → slot ≢ job.slot → out_at out slot ≡ None
+
+-- a job is taken, and is owed from then on
+abbrev pub HandsOut : Shown → Job → Shown → Type 0
+HandsOut old job new = (taken : Shown) × Takes old job taken × (new ≡ record taken { owed = old.owed + 1 })
+
+-- The least call that may meet its children has met them. Where there is none, the least space that may be taken is handed out. Where there is none either,
+-- nothing changes: it is over where the board is finished, and a job is out else.
+abbrev pub IsTurn : Shown → Turn Job → Shown → Type 0
+IsTurn old Met new = (path : ArrayVec ℕ) × Meets old path new
+IsTurn old (Hands job) new = NoneMayMeet old × HandsOut old job new
+IsTurn old Rest new = IsIdle old × IsSomeOut old.out × (new ≡ old)
+IsTurn old Over new = IsFinished old × (new ≡ old)
+
+abbrev pub is_over : Turn Job → Bool
+is_over Met = false
+is_over (Hands job) = false
+is_over Rest = false
+is_over Over = true
+
+abbrev pub is_taken : Commit → Bool
+is_taken Taken = true
+is_taken (Stale kept) = false
+
+-- a result is handed in: one job fewer is owed, if any was
+abbrev pub handed_in : Shown → Shown
+handed_in b = record b { owed = b.owed - 1 }
+
+abbrev pub HandsIn : Shown → Done → Bool → Shown → Type 0
+HandsIn old d taken new = (c : Commit) × (taken ≡ is_taken c) × Commits (handed_in old) d c new
+
+-- what comes of a job: it names the job's slot, ticket and path, and has the local events of its space from the job's start on, fewer than a quantum only
+-- where what is next is no local event
+pub record IsOf (job : Job) (d : Done) : Type 0 where
+  pub slot : d.slot ≡ job.slot
+  pub ticket : d.ticket ≡ job.ticket
+  pub path : d.path ≡ job.path
+  pub start : (let run = d.run in run.start) ≡ job.top
+  pub within : (let run = d.run in run.ran) ≤ QUANTUM
+  pub fewer : (let run = d.run in run.ran) < QUANTUM → IsNotLocal (next (levels_below (let run = d.run in run.depth)) (let run = d.run in run.top))
