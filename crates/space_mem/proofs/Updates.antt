@@ -1,6 +1,6 @@
 -- What a page table stands for after its trees have changed.
-use Rattle.std.specs.Prelude.{◌≡◌, ℕ, ◌+◌, ◌-◌, ◌*◌, ◌/◌, ◌%◌, ◌<◌, ◌≤◌, ◌⊎◌, ◌&&◌, not, nat_lt, min, Bool, true, false, cond, Option, Some, None, OnErr}
-use Rattle.std.proofs.Common.{Result, Ok, Err, refl, sym, ◌∙◌, ap, arith, inl, inr, subst}
+use Rattle.std.specs.Prelude.{◌≡◌, ℕ, ◌+◌, ◌/◌, ◌%◌, ◌<◌, ◌≤◌, ◌⊎◌, ◌&&◌, not, nat_lt, Bool, true, false, cond, Option, Some, None, OnErr}
+use Rattle.std.proofs.Common.{Result, Ok, Err, refl, sym, ◌∙◌, ap, arith, inl, inr}
 use Rattle.std.proofs.lemmas.Bool.{cases_eq, cases_lt, false≢true}
 use Rattle.std.proofs.lemmas.Bool.Decides.{nat_tests}
 use Rattle.std.proofs.lemmas.List.{get_or_past}
@@ -144,17 +144,20 @@ put_again s k v was = same_sparse (put s k v) s (λ q. elim (cases_eq q k) [
   | inr other ↦ value_at-put_other s k v q other
 ])
 
-pub marked_one : (d e : TreeRef) (page : ℕ) → page < 1048576 → IsPermittedRow 1048576 page (page + 1) 1 (root_row d) (root_row e) → marked_of e ≡ put (marked_of d) page 1
-marked_one d e page below permitted = row_is (root_permission e) 1048576 (put (marked_of d) page 1)
+pub marked_as : (d e : TreeRef) (page mark : ℕ) → page < 1048576 → IsPermittedRow 1048576 page (page + 1) mark (root_row d) (root_row e) → marked_of e ≡ put (marked_of d) page mark
+marked_as d e page mark below permitted = row_is (root_permission e) 1048576 (put (marked_of d) page mark)
     (λ k low. elim (cases_eq k page) [
       | inl same ↦
-          let here : root_permission e k ≡ 1 = permitted.permission k low ∙ ap (λ b. cond b 1 (root_permission d k)) (in_range page (page + 1) k (omega arith) (omega arith)) in
-          ap (value_at (put (marked_of d) page 1)) same ∙ value_at-put_same (marked_of d) page 1 ∙ sym here
+          let here : root_permission e k ≡ mark = permitted.permission k low ∙ ap (λ b. cond b mark (root_permission d k)) (in_range page (page + 1) k (omega arith) (omega arith)) in
+          ap (value_at (put (marked_of d) page mark)) same ∙ value_at-put_same (marked_of d) page mark ∙ sym here
       | inr other ↦
           let out : within page (page + 1) k ≡ false = elim (cases_lt k page) [ inl before ↦ before_range page (page + 1) k before | inr from ↦ after_range page (page + 1) k (omega arith) ] in
-          value_at-put_other (marked_of d) page 1 k other ∙ marked_at d k low ∙ sym (permitted.permission k low ∙ ap (λ b. cond b 1 (root_permission d k)) out)
+          value_at-put_other (marked_of d) page mark k other ∙ marked_at d k low ∙ sym (permitted.permission k low ∙ ap (λ b. cond b mark (root_permission d k)) out)
     ])
-    (λ k high. value_at-put_other (marked_of d) page 1 k (λ same. omega arith) ∙ marked_high d k high)
+    (λ k high. value_at-put_other (marked_of d) page mark k (λ same. omega arith) ∙ marked_high d k high)
+
+pub marked_one : (d e : TreeRef) (page : ℕ) → page < 1048576 → IsPermittedRow 1048576 page (page + 1) 1 (root_row d) (root_row e) → marked_of e ≡ put (marked_of d) page 1
+marked_one d e page below permitted = marked_as d e page 1 below permitted
 
 pub owned_one : (t s : TreeRef) (page : ℕ) → page < 1048576 → IsOwnedRoot page t s → owned_of s ≡ put (owned_of t) page 1
 owned_one t s page below owned = row_is (λ q. cond (root_own s q) 1 0) 1048576 (put (owned_of t) page 1)

@@ -218,6 +218,19 @@ impl Mem {
         self.table.mark(page)
     }
 
+    /// Marks a page, below 2^20, as clean, and makes it one that can be shared, since an owned page is dirty. Bytes and permissions stay, and
+    /// no page is owned that was not. The one error is want of memory: the same pages are dirty then as before.
+    pub fn unmark(&mut self, page: u32) -> Result<(), AllocError>
+        requires { page < 1048576 }
+        ensures same { self.new.memory ≡ self.old.memory }
+        ensures ok { OnOk result (self.new.dirty ≡ put self.old.dirty page 0) }
+        ensures err { OnErr result (self.new.dirty ≡ self.old.dirty) }
+        ensures less { (other : ℕ) → Owns self.new other → Owns self.old other }
+    {
+        self.table.freeze_range(page, page + 1)?;
+        self.table.unmark(page)
+    }
+
     /// Marks every page as dirty.
     pub fn mark_all(&mut self)
         ensures { self.new ≡ record self.old { dirty = all_pages } }

@@ -1,4 +1,4 @@
-ghost use Rattle.std.specs.Prelude.{◌≡◌, ℕ, ◌+◌, ◌<◌, ◌≤◌, OnOk, OnErr, IsOk, true};
+ghost use Rattle.std.specs.Prelude.{◌≡◌, ℕ, ◌+◌, ◌<◌, ◌≤◌, OnOk, OnErr, IsOk, false, true};
 ghost use Rattle.memory_model.specs.Sparse.{no_values, put};
 ghost use Rattle.page_tree.specs.TreeRefs.{root_permission, root_own};
 ghost use Rattle.memory_model.specs.Sizes.{pages};
@@ -70,6 +70,22 @@ impl PageTable {
         let at = page as usize;
         self.dirty.prepare(at, at + 1, self.alloc)?;
         self.dirty.permit(at, at + 1, 1);
+        Ok(())
+    }
+
+    // Marks a page that is not owned as clean.
+    pub fn unmark(&mut self, page: u32) -> Result<(), AllocError>
+        requires table { IsTable self.old }
+        requires page { page < pages }
+        requires shared { root_own self.old.pages page ≡ false }
+        ensures table { IsTable self.new }
+        ensures ok { OnOk result (held_of self.new ≡ record (held_of self.old) { dirty = put (held_of self.old).dirty page 0 }) }
+        ensures owned { (held_of self.new).owned ≡ (held_of self.old).owned }
+        ensures err { OnErr result (held_of self.new ≡ held_of self.old) }
+    {
+        let at = page as usize;
+        self.dirty.prepare(at, at + 1, self.alloc)?;
+        self.dirty.permit(at, at + 1, 0);
         Ok(())
     }
 
