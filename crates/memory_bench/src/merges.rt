@@ -33,8 +33,8 @@ impl Forked {
     }
 
     /// Merges a range of the child into a memory, where equal bytes are in conflict too. Tells whether it did.
-    pub fn merge_into(&self, parent: &mut Mem, range: Pages) -> bool {
-        merge(parent, &self.child, &self.snapshot, range, false).is_ok()
+    pub fn merge_into(&mut self, parent: &mut Mem, range: Pages) -> bool {
+        merge(parent, &mut self.child, &self.snapshot, range, false).is_ok()
     }
 }
 

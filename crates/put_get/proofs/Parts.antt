@@ -7,10 +7,10 @@ use Rattle.merge_model.specs.Merge.{with_merge}
 use Rattle.instruction_model.specs.Outcome.{Registers}
 use Rattle.call_model.specs.declared.Transfer.{Transfer}
 use Rattle.call_model.specs.Block.{block_bytes}
-use Rattle.call_model.specs.Options.{has, regs, copy, zeroing, merging, perm, start, permission, has_two_changes}
+use Rattle.call_model.specs.Options.{has, regs, copy, zeroing, merging, perm, snap, start, permission, has_two_changes}
 use Rattle.space_model.specs.Space.{Top}
 use Rattle.space_model.specs.Block.{registers_at, block_of}
-use Rattle.space_model.specs.Part.{Part, part_if, with_parts, registers_part, permission_part, block_part, start_part, start_limit, with_changes, source_page, destination_page, page_count, child_after, caller_after}
+use Rattle.space_model.specs.Part.{Part, part_if, with_parts, registers_part, permission_part, block_part, snapshot_part, start_part, start_limit, with_changes, source_page, destination_page, page_count, child_after, caller_after}
 use Rattle.put_get.specs.Ranges.{copied, memory_parts, merged, permitted, range_parts, ranged, told, zeroed}
 
 -- registers pass what changes memory and snapshot alone
@@ -152,3 +152,9 @@ permit_ranged x s m r zeroes copies is =
 -- without Perm
 pub unpermitted : (x : Transfer) (m r : Memory) → has perm x.options ≡ false → r ≡ m → r ≡ permitted x m
 unpermitted x m r permits is = is ∙ sym (ap (λ b. if b then with_permissions m (destination_page x) (page_count x) (permission x.options) else m) permits)
+
+-- Zero, Copy and Perm of a memory, and then Snap, which is asked for
+pub memory_snapped : (x : Transfer) (s : Memory) (t u : Top) → has snap x.options ≡ true → u ≡ (let m : Memory = ranged x s t.memory in record t { memory = m; snapshot = Some m }) → u ≡ with_parts x.options (memory_parts x s) t
+memory_snapped x s t u snaps is =
+    let m : Memory = ranged x s t.memory in
+    is ∙ ap snapshot_part (range_changed x s t (record t { memory = m }) refl) ∙ sym (ap (λ b. part_if b snapshot_part (with_parts x.options (range_parts x s) t)) snaps)

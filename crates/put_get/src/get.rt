@@ -17,18 +17,31 @@ use space_tree::{Children, Space, Top};
 use std::alloc::{AllocError, Global};
 use trap_ret::Transfer;
 
-// Changes the caller by what the child has. At an error it is as it was.
-fn take_top(x: &Transfer, child: &Top, caller: &mut Top) -> Result<(), MergeError>
+// Changes the caller by what the child has. At an error it is as it was, and the child always.
+fn take_top(x: &Transfer, child: &mut Top, caller: &mut Top) -> Result<(), MergeError>
     requires { IsTransfer x.now }
-    ensures ok { OnOk result (caller.new ≡ caller_after x.now child.now caller.old) }
-    ensures sure { OnOk result (get_conflict x.now caller.old child.now ≡ None) }
-    ensures conflict { IfErr result (MayStop (get_conflict x.now caller.old child.now)) }
+    ensures ok { OnOk result (caller.new ≡ caller_after x.now child.old caller.old) }
+    ensures sure { OnOk result (get_conflict x.now caller.old child.old ≡ None) }
+    ensures conflict { IfErr result (MayStop (get_conflict x.now caller.old child.old)) }
     ensures err { OnErr result (caller.new ≡ caller.old) }
+    ensures same { child.new ≡ child.old }
 {
     if has_merge(x) {
         return join(x, child, caller);
     }
     Ok(receive(x, child, caller)?)
+}
+
+// As `take_top`, of a child with those below it.
+fn take_space(x: &Transfer, child: &mut Space, caller: &mut Top) -> Result<(), MergeError>
+    requires { IsTransfer x.now }
+    ensures ok { OnOk result (caller.new ≡ caller_after x.now (top_of child.old) caller.old) }
+    ensures sure { OnOk result (get_conflict x.now caller.old (top_of child.old) ≡ None) }
+    ensures conflict { IfErr result (MayStop (get_conflict x.now caller.old (top_of child.old))) }
+    ensures err { OnErr result (caller.new ≡ caller.old) }
+    ensures same { child.new ≡ child.old }
+{
+    take_top(x, &mut child.top, caller)
 }
 
 // As `take_top`, of a child that has never run.
@@ -39,8 +52,8 @@ fn take_fresh(alloc: Global, x: &Transfer, caller: &mut Top) -> Result<(), Merge
     ensures conflict { IfErr result (MayStop (get_conflict x.now caller.old (fresh_top (caller.old.fuel + caller.old.used)))) }
     ensures err { OnErr result (caller.new ≡ caller.old) }
 {
-    let child = Top::fresh(alloc, caller.total_fuel());
-    take_top(x, &child, caller)
+    let mut child = Top::fresh(alloc, caller.total_fuel());
+    take_top(x, &mut child, caller)
 }
 
 // Changes the caller by what the child of that number has; one that is missing is read as one that has never run. At an error it is
@@ -49,16 +62,17 @@ fn take_child(
     alloc: Global,
     x: &Transfer,
     caller: &mut Top,
-    children: &Children,
+    children: &mut Children,
 ) -> Result<(), MergeError>
     requires { IsTransfer x.now }
-    ensures ok { let child = or_fresh caller.old (option_map top_of (find x.now.child children.now)) in OnOk result (caller.new ≡ caller_after x.now child caller.old) }
-    ensures sure { let child = or_fresh caller.old (option_map top_of (find x.now.child children.now)) in OnOk result (get_conflict x.now caller.old child ≡ None) }
-    ensures conflict { let child = or_fresh caller.old (option_map top_of (find x.now.child children.now)) in IfErr result (MayStop (get_conflict x.now caller.old child)) }
+    ensures ok { let child = or_fresh caller.old (option_map top_of (find x.now.child children.old)) in OnOk result (caller.new ≡ caller_after x.now child caller.old) }
+    ensures sure { let child = or_fresh caller.old (option_map top_of (find x.now.child children.old)) in OnOk result (get_conflict x.now caller.old child ≡ None) }
+    ensures conflict { let child = or_fresh caller.old (option_map top_of (find x.now.child children.old)) in IfErr result (MayStop (get_conflict x.now caller.old child)) }
     ensures err { OnErr result (caller.new ≡ caller.old) }
+    ensures same { children.new ≡ children.old }
 {
-    match children.get(x.child) {
-        Some(child) => take_top(x, child.top(), caller),
+    match children.get_mut(x.child) {
+        Some(child) => take_space(x, child, caller),
         None => take_fresh(alloc, x, caller),
     }
 }
@@ -92,7 +106,7 @@ pub fn get(alloc: Global, x: &Transfer, space: &mut Space) -> Result<(), MergeEr
     ensures err { OnErr result (space.new ≡ space.old) }
 {
     share_child(x, space)?;
-    match take_child(alloc, x, &mut space.top, &space.children) {
+    match take_child(alloc, x, &mut space.top, &mut space.children) {
         Ok(()) => {
             space.top.pay_and_succeed();
             Ok(())

@@ -13,7 +13,7 @@ ghost use Rattle.space_model.specs.Caller.{with_action};
 ghost use Rattle.put_get.specs.Ranges.{memory_parts, snaps_changed};
 
 use crate::options::{has_copy, has_limit, has_perm, has_regs, has_snap, has_start, has_zero};
-use crate::ranges::{change_range, share};
+use crate::ranges::{change_pages, change_range, share};
 use snapshot::take;
 use space_tree::{Children, Space, Status, Top};
 use std::alloc::{AllocError, Global};
@@ -62,35 +62,44 @@ fn snaps_changed(x: &Transfer) -> bool
     has_snap(x) && (has_zero(x) || has_copy(x) || has_perm(x))
 }
 
-// Changes the child's memory as the options ask, and takes its snapshot. At an error the memory may be changed, where a snapshot of what
-// is changed is asked for; else nothing is.
-fn change_memory(x: &Transfer, caller: &Top, child: &mut Top) -> Result<(), AllocError>
-    requires { IsTransfer x.now }
+// Zero, Copy and Perm, and then Snap: the memory and its snapshot are made apart, and taken over once both are there. At an error the child is as
+// it was.
+#[tactic(auto, using(crate::proofs::Parts::memory_snapped, space_mem::proofs::Dirty::covers_in_same))]
+fn change_and_snap(x: &Transfer, caller: &Top, child: &mut Top) -> Result<(), AllocError>
+    requires transfer { IsTransfer x.now }
+    requires snaps { options_of.has options_of.snap x.now.options ≡ true }
     ensures ok { OnOk result (child.new ≡ with_parts x.now.options (memory_parts x.now caller.now.memory) child.old) }
-    ensures err { OnErr result (snaps_changed x.now.options ≡ false → child.new ≡ child.old) }
-    ensures kept { OnErr result (record child.new { memory = child.old.memory } ≡ child.old) }
+    ensures err { OnErr result (child.new ≡ child.old) }
+{
+    let mut made = child.memory.share()?;
+    change_pages(x, &caller.memory, &mut made)?;
+    let snapshot = take(&mut made)?;
+    child.memory = made;
+    child.snapshot = Some(snapshot);
+    Ok(())
+}
+
+// A change of the child's memory as the options ask, or its snapshot: one of both at most is asked for. At an error the child is as it was.
+fn change_or_snap(x: &Transfer, caller: &Top, child: &mut Top) -> Result<(), AllocError>
+    requires transfer { IsTransfer x.now }
+    requires one { snaps_changed x.now.options ≡ false }
+    ensures ok { OnOk result (child.new ≡ with_parts x.now.options (memory_parts x.now caller.now.memory) child.old) }
+    ensures err { OnErr result (child.new ≡ child.old) }
 {
     change_range(x, caller, child)?;
     snap(x, child)
 }
 
-// As `change_memory`, all or nothing: at an error the child is as it was.
-#[tactic(auto, using(space_mem::proofs::Dirty::covers_in_same))]
+// Changes the child's memory as the options ask, and takes its snapshot. At an error the child is as it was.
 fn give_memory(x: &Transfer, caller: &Top, child: &mut Top) -> Result<(), AllocError>
     requires { IsTransfer x.now }
     ensures ok { OnOk result (child.new ≡ with_parts x.now.options (memory_parts x.now caller.now.memory) child.old) }
     ensures err { OnErr result (child.new ≡ child.old) }
 {
-    if !snaps_changed(x) {
-        return change_memory(x, caller, child);
+    if snaps_changed(x) {
+        return change_and_snap(x, caller, child);
     }
-    // The snapshot comes last, and may fail.
-    let before = child.memory.frozen()?;
-    if let Err(error) = change_memory(x, caller, child) {
-        child.memory = before;
-        return Err(error);
-    }
-    Ok(())
+    change_or_snap(x, caller, child)
 }
 
 // Changes the child as the options ask. At an error it is as it was.

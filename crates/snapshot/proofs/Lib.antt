@@ -1,3 +1,5 @@
 mod Lists
 mod Conflicts
 mod Merged
+mod Permitted
+mod Unmarked

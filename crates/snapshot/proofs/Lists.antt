@@ -7,7 +7,7 @@ use Rattle.std.proofs.lemmas.List.Elements.{All-nil, All-cons, All-same}
 use Rattle.memory_model.specs.Memory.{Memory, byte_at}
 use Rattle.memory_model.specs.Ranges.{IsPageOf, IsZeroPage}
 use Rattle.space_mem.specs.Held.{Held, AllClean, AllZero, Covers, SamePage}
-use Rattle.snapshot.specs.Pages.{AreChanged, IsMerged, SameBytes}
+use Rattle.snapshot.specs.Pages.{AreChanged, IsEqual, IsMerged, SameBytes}
 
 -- pages of which neither memory has a byte other than 0
 pub same_zero : (m n : Memory) (from end : ℕ) → AllZero m from end → AllZero n from end → SameBytes m n from end
@@ -80,3 +80,11 @@ changed_below m n low end (p ∷ ps) all le = All-cons (λ q. q < 1048576) p ps 
 
 pub none_merged : (h : Held) (s : Memory) (first end : ℕ) (ps : List ℕ) → ps ≡ [] → All (IsMerged h s first end) ps
 none_merged h s first end ps none = All-same (IsMerged h s first end) ps [] none (All-nil (IsMerged h s first end))
+
+-- no page was found the same
+pub none_equal : (m n : Memory) (ps : List ℕ) → ps ≡ [] → All (IsEqual m n) ps
+none_equal m n ps none = All-same (IsEqual m n) ps [] none (All-nil (IsEqual m n))
+
+-- a page, as one of those in a row
+pub page_of_row : (m n : Memory) (page : ℕ) → SameBytes m n page (page + 1) → SamePage m n page
+page_of_row m n page same k low = same (4096 * page + k) (omega arith) (omega arith)

@@ -1,8 +1,9 @@
 -- Pages of a range that a child changed, and what is merged of one page.
 -- Our choice: a restatement for proofs.
-use Rattle.std.specs.Prelude.{◌≡◌, ℕ, Bool, ◌+◌, ◌*◌, ◌<◌, ◌≤◌, ◌⊎◌, false, true, List, [], ◌∷◌, slice_index}
+use Rattle.std.specs.Prelude.{◌≡◌, ℕ, Bool, ◌+◌, ◌*◌, ◌<◌, ◌≤◌, ◌⊎◌, false, true, List, [], ◌∷◌, Contains, slice_index}
 use Rattle.memory_model.specs.Memory.{Memory, byte_at}
-use Rattle.memory_model.specs.Sizes.{page_size}
+use Rattle.memory_model.specs.Ranges.{IsZeroPage}
+use Rattle.memory_model.specs.Sizes.{page_size, pages}
 use Rattle.merge_model.specs.Merge.{is_conflict, merged_byte}
 use Rattle.space_mem.specs.Held.{Held, IsClean, IsOutside, SamePage}
 
@@ -40,6 +41,22 @@ pub record IsFirstConflict (agree : Bool) (snapshot child parent : Memory) (page
 -- same bytes in child and snapshot
 abbrev pub IsPassedOver : Held → Memory → ℕ → ℕ → ℕ → Type 0
 IsPassedOver child snapshot first end page = IsOutside first end page ⊎ (IsClean child page ⊎ SamePage child.memory snapshot page)
+
+-- a page of the same bytes in two memories
+abbrev pub IsEqual : Memory → Memory → ℕ → Type 0
+IsEqual m n page = (page < pages) × SamePage m n page
+
+-- each page from one to before another is clean, or has no byte other than 0
+abbrev pub ArePassed : Held → ℕ → ℕ → Type 0
+ArePassed h from end = (q : ℕ) → from ≤ q → q < end → IsClean h q ⊎ IsZeroPage h.memory q
+
+-- each of them that has the snapshot's bytes is so, or stands in a list
+abbrev pub AreFound : Held → Memory → ℕ → ℕ → List ℕ → Type 0
+AreFound h snapshot from end found = (q : ℕ) → from ≤ q → q < end → SamePage h.memory snapshot q → IsClean h q ⊎ (IsZeroPage h.memory q ⊎ Contains found q)
+
+-- each of them that has the snapshot's bytes is so
+abbrev pub AreSettled : Held → Memory → ℕ → ℕ → Type 0
+AreSettled h snapshot from end = (q : ℕ) → from ≤ q → q < end → SamePage h.memory snapshot q → IsClean h q ⊎ IsZeroPage h.memory q
 
 -- a page that it merges
 pub record IsMerged (child : Held) (snapshot : Memory) (first end page : ℕ) : Type 0 where

@@ -10,5 +10,5 @@ mod taking;
 mod walk;
 
 pub use fault::MergeError;
-pub use merging::merge;
+pub use merging::{merge, merge_and_permit};
 pub use taking::take;

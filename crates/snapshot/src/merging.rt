@@ -1,11 +1,12 @@
-ghost use Rattle.std.specs.Prelude.{◌≡◌, ℕ, ◌*◌, ◌+◌, ◌<◌, ◌≤◌, All, IfErr, IsOk, OnErr, OnOk, Some, None};
-ghost use Rattle.memory_model.specs.Sizes.{page_size, pages};
+ghost use Rattle.std.specs.Prelude.{◌≡◌, ℕ, ◌*◌, ◌+◌, ◌<◌, ◌≤◌, All, IfErr, IfOk, IsOk, OnErr, OnOk, Some, None};
+ghost use Rattle.memory_model.specs.Memory.{with_permissions};
+ghost use Rattle.memory_model.specs.Sizes.{greatest_permission, page_size, pages};
 ghost use Rattle.merge_model.specs.Merge.{first_conflict, with_merge};
-ghost use Rattle.space_mem.specs.Held.{Covers, KeepsMarks, Marks, Owns};
+ghost use Rattle.space_mem.specs.Held.{Covers, IsClean, KeepsMarks, Marks, Owns};
 ghost use Rattle.snapshot.specs.Faults.{MayFail};
-ghost use Rattle.snapshot.specs.Pages.{AreChanged, IsPassedOver, NoneInConflict};
+ghost use Rattle.snapshot.specs.Pages.{AreChanged, AreSettled, IsEqual, IsPassedOver, NoneInConflict};
 
-use crate::changes::changed_pages;
+use crate::changes::{Found, find_changes};
 use crate::fault::MergeError;
 use crate::page::{SIZE, merge_in_page};
 use memory_model::PAGE_SIZE;
@@ -80,6 +81,50 @@ fn merge_each(
     Ok(())
 }
 
+// Marks these pages, which have the snapshot's bytes, as clean, so that no later merge looks at them.
+fn unmark_each(child: &mut Mem, snapshot: &Mem, each: &[u32]) -> Result<(), AllocError>
+    requires equal { All (IsEqual child.old.memory snapshot.now.memory) each.now }
+    requires covers { Covers child.old snapshot.now.memory }
+    ensures same { child.new.memory ≡ child.old.memory }
+    ensures covers { Covers child.new snapshot.now.memory }
+    ensures stays { (page : ℕ) → IsClean child.old page → IsClean child.new page }
+    ensures clean { OnOk result (All (IsClean child.new) each.now) }
+{
+    for page in each {
+        child.unmark(*page)?;
+    }
+    Ok(())
+}
+
+// What a merge does before it changes a byte: it finds what the child changed, marks as clean what it did not, and owns the parent's pages that
+// will be written. The error is the conflict at the least address of the range, or want of memory.
+fn prepare(
+    parent: &mut Mem,
+    child: &mut Mem,
+    snapshot: &Mem,
+    range: Pages,
+    agree: bool,
+) -> Result<Vec<u32>, MergeError>
+    requires covers { Covers child.old snapshot.now.memory }
+    ensures changed { IfOk result (λ changed. AreChanged child.new.memory snapshot.now.memory range.first (range.first + range.count) changed.items) }
+    ensures sure { OnOk result (NoneInConflict agree snapshot.now.memory child.new.memory parent.new.memory (page_size * range.first) (page_size * (range.first + range.count))) }
+    ensures owned { IfOk result (λ changed. All (Owns parent.new) changed.items) }
+    ensures passed { IfOk result (λ changed. (page : ℕ) → IsPassedOver child.old snapshot.now.memory range.first (range.first + range.count) page → All (λ own. page ≡ own → ⊥) changed.items) }
+    ensures conflict { IfErr result (MayFail (first_conflict agree snapshot.now.memory child.old.memory parent.old.memory range.first range.count)) }
+    ensures settled { OnOk result (AreSettled child.new snapshot.now.memory range.first (range.first + range.count)) }
+    ensures same { parent.new.memory ≡ parent.old.memory }
+    ensures same_child { child.new.memory ≡ child.old.memory }
+    ensures covers { Covers child.new snapshot.now.memory }
+    ensures stays { (page : ℕ) → Owns parent.old page → Owns parent.new page }
+    ensures kept { (page : ℕ) → IsPassedOver child.old snapshot.now.memory range.first (range.first + range.count) page → KeepsMarks parent.old parent.new page }
+    ensures marks { Marks parent.old parent.new }
+{
+    let Found { changed, equal } = find_changes(parent, child, snapshot, range, agree)?;
+    unmark_each(child, snapshot, &equal)?;
+    own_each(parent, &changed)?;
+    Ok(changed)
+}
+
 /// Merges what a child wrote since its snapshot into its parent's memory (OSDI 2010, the kernel interface: Merge): in each page
 /// of the range, each byte of the child's that differs from the snapshot's takes the place of the parent's. Permissions stay,
 /// and the pages that the parent owned are owned. It reads the child's dirty pages alone: outside of them the child has the
@@ -88,24 +133,55 @@ fn merge_each(
 /// both the child's byte and the parent's differ from the snapshot's; with `agree`, only where they differ from one another as
 /// well. At an error no byte and no permission of the parent has changed; some pages of the range may be owned that were not. A
 /// page outside of the range, a page that is clean in the child, and one that has the same bytes in child and snapshot, are owned
-/// and dirty in the parent where they were, also at an error.
+/// and dirty in the parent where they were, also at an error. The child has the bytes and permissions that it had: what was found to be as in the
+/// snapshot is clean in it then, so that no later merge compares it again.
 pub fn merge(
     parent: &mut Mem,
-    child: &Mem,
+    child: &mut Mem,
     snapshot: &Mem,
     range: Pages,
     agree: bool,
 ) -> Result<(), MergeError>
-    requires covers { Covers child.now snapshot.now.memory }
-    ensures ok { OnOk result (parent.new.memory ≡ with_merge snapshot.now.memory child.now.memory parent.old.memory range.first range.count) }
-    ensures sure { OnOk result (first_conflict agree snapshot.now.memory child.now.memory parent.old.memory range.first range.count ≡ None) }
-    ensures conflict { IfErr result (MayFail (first_conflict agree snapshot.now.memory child.now.memory parent.old.memory range.first range.count)) }
+    requires covers { Covers child.old snapshot.now.memory }
+    ensures ok { OnOk result (parent.new.memory ≡ with_merge snapshot.now.memory child.old.memory parent.old.memory range.first range.count) }
+    ensures sure { OnOk result (first_conflict agree snapshot.now.memory child.old.memory parent.old.memory range.first range.count ≡ None) }
+    ensures conflict { IfErr result (MayFail (first_conflict agree snapshot.now.memory child.old.memory parent.old.memory range.first range.count)) }
     ensures err { OnErr result (parent.new.memory ≡ parent.old.memory) }
     ensures stays { (page : ℕ) → Owns parent.old page → Owns parent.new page }
-    ensures kept { (page : ℕ) → IsPassedOver child.now snapshot.now.memory range.first (range.first + range.count) page → KeepsMarks parent.old parent.new page }
+    ensures kept { (page : ℕ) → IsPassedOver child.old snapshot.now.memory range.first (range.first + range.count) page → KeepsMarks parent.old parent.new page }
     ensures marks { Marks parent.old parent.new }
+    ensures settled { OnOk result (AreSettled child.new snapshot.now.memory range.first (range.first + range.count)) }
+    ensures same_child { child.new.memory ≡ child.old.memory }
+    ensures covers { Covers child.new snapshot.now.memory }
 {
-    let changed = changed_pages(parent, child, snapshot, range, agree)?;
-    own_each(parent, &changed)?;
+    let changed = prepare(parent, child, snapshot, range, agree)?;
+    merge_each(parent, child, snapshot, range, agree, &changed)
+}
+
+/// As `merge`, and each page of the range gets the permission, 0 to 7: 1 reads, 2 writes, 4 executes, and each sum of them allows what its parts
+/// allow. All or nothing: what may want memory comes before the first byte changes.
+pub fn merge_and_permit(
+    parent: &mut Mem,
+    child: &mut Mem,
+    snapshot: &Mem,
+    range: Pages,
+    agree: bool,
+    perm: u8,
+) -> Result<(), MergeError>
+    requires covers { Covers child.old snapshot.now.memory }
+    requires small { perm ≤ greatest_permission }
+    ensures ok { OnOk result (parent.new.memory ≡ with_permissions (with_merge snapshot.now.memory child.old.memory parent.old.memory range.first range.count) range.first range.count perm) }
+    ensures sure { OnOk result (first_conflict agree snapshot.now.memory child.old.memory parent.old.memory range.first range.count ≡ None) }
+    ensures conflict { IfErr result (MayFail (first_conflict agree snapshot.now.memory child.old.memory parent.old.memory range.first range.count)) }
+    ensures err { OnErr result (parent.new.memory ≡ parent.old.memory) }
+    ensures stays { (page : ℕ) → Owns parent.old page → Owns parent.new page }
+    ensures kept { (page : ℕ) → IsPassedOver child.old snapshot.now.memory range.first (range.first + range.count) page → KeepsMarks parent.old parent.new page }
+    ensures marks { Marks parent.old parent.new }
+    ensures settled { OnOk result (AreSettled child.new snapshot.now.memory range.first (range.first + range.count)) }
+    ensures same_child { child.new.memory ≡ child.old.memory }
+    ensures covers { Covers child.new snapshot.now.memory }
+{
+    let changed = prepare(parent, child, snapshot, range, agree)?;
+    parent.set_perm(range, perm)?;
     merge_each(parent, child, snapshot, range, agree, &changed)
 }

@@ -1,7 +1,7 @@
 ghost use Rattle.std.specs.Prelude.{◌≡◌, ◌≤◌, min, IfSome, IsNone, Some, None, Option};
 ghost use Rattle.memory_model.specs.Sizes.{pages};
 ghost use Rattle.space_mem.specs.Held.{Covers, IsClean};
-ghost use Rattle.snapshot.specs.Pages.{IsNextToMerge, SameBytes};
+ghost use Rattle.snapshot.specs.Pages.{ArePassed, IsNextToMerge, SameBytes};
 
 use crate::cursor::Cursor;
 
@@ -13,6 +13,8 @@ pub fn next_page(child: &mut Cursor, snapshot: &mut Cursor, from: u32, end: u32)
     requires within { end ≤ pages }
     ensures some { IfSome result (IsNextToMerge child.old.memory snapshot.old.memory from end) }
     ensures dirty { IfSome result (λ page. IsClean child.old page → ⊥) }
+    ensures passed { IfSome result (ArePassed child.old from) }
+    ensures all_passed { IsNone result → ArePassed child.old from end }
     ensures none { IsNone result → SameBytes child.old.memory snapshot.old.memory from end }
     ensures same_child { child.new ≡ child.old }
     ensures same_snapshot { snapshot.new ≡ snapshot.old }

@@ -30,14 +30,16 @@ fn thread_pages() -> Pages
 // error, and where there is a conflict, the memory is as it was.
 fn merge_shared(
     parent: &mut Mem,
-    child: &Mem,
+    child: &mut Mem,
     snapshot: &Mem,
 ) -> Result<Option<Refusal>, AllocError>
-    requires covers { Covers child.now snapshot.now.memory }
-    ensures refusal { IfOk result (λ o. o ≡ shared_conflict snapshot.now.memory child.now.memory parent.old.memory) }
-    ensures memory { IfOk result (λ o. parent.new.memory ≡ (if is_none o then shared_merge snapshot.now.memory child.now.memory parent.old.memory else parent.old.memory)) }
+    requires covers { Covers child.old snapshot.now.memory }
+    ensures refusal { IfOk result (λ o. o ≡ shared_conflict snapshot.now.memory child.old.memory parent.old.memory) }
+    ensures memory { IfOk result (λ o. parent.new.memory ≡ (if is_none o then shared_merge snapshot.now.memory child.old.memory parent.old.memory else parent.old.memory)) }
     ensures err { OnErr result (parent.new.memory ≡ parent.old.memory) }
     ensures marks { Marks parent.old parent.new }
+    ensures same { child.new.memory ≡ child.old.memory }
+    ensures covers { Covers child.new snapshot.now.memory }
 {
     match merge(parent, child, snapshot, thread_pages(), false) {
         Ok(()) => Ok(None),
@@ -47,24 +49,26 @@ fn merge_shared(
 }
 
 // What stops the join of a child, if anything does: it has no snapshot, or there is a conflict. Where nothing does, what it has changed is
-// merged into its caller's memory. At an error nothing is changed.
+// merged into its caller's memory. At an error nothing is changed, and the child never is: pages that are as in its snapshot are clean then.
 #[tactic(auto, using(space_mem::proofs::Dirty::covers_in_after))]
-fn merge_child(child: &Top, caller: &mut Top) -> Result<Option<Refusal>, AllocError>
-    ensures refusal { IfOk result (λ o. o ≡ join_refusal child.now.snapshot child.now.memory caller.old.memory) }
-    ensures merged { IfOk result (λ o. caller.new ≡ with_merge_unless o child.now caller.old) }
+fn merge_child(child: &mut Top, caller: &mut Top) -> Result<Option<Refusal>, AllocError>
+    ensures refusal { IfOk result (λ o. o ≡ join_refusal child.old.snapshot child.old.memory caller.old.memory) }
+    ensures merged { IfOk result (λ o. caller.new ≡ with_merge_unless o child.old caller.old) }
     ensures err { OnErr result (caller.new ≡ caller.old) }
+    ensures same { child.new ≡ child.old }
 {
     match &child.snapshot {
-        Some(snapshot) => merge_shared(&mut caller.memory, &child.memory, snapshot),
+        Some(snapshot) => merge_shared(&mut caller.memory, &mut child.memory, snapshot),
         None => Ok(Some(no_snapshot())),
     }
 }
 
 // The join of a child by a caller that has not paid yet. At an error the caller is as it was.
-fn join_child(child: &Top, caller: &mut Top) -> Result<(), AllocError>
+fn join_child(child: &mut Top, caller: &mut Top) -> Result<(), AllocError>
     requires { MayPay caller.old }
-    ensures ok { OnOk result (caller.new ≡ with_join child.now caller.old) }
+    ensures ok { OnOk result (caller.new ≡ with_join child.old caller.old) }
     ensures err { OnErr result (caller.new ≡ caller.old) }
+    ensures same { child.new ≡ child.old }
 {
     match merge_child(child, caller)? {
         Some(refusal) => caller.trap(refusal),
@@ -76,14 +80,25 @@ fn join_child(child: &Top, caller: &mut Top) -> Result<(), AllocError>
     Ok(())
 }
 
-// As `join_child`, by the child's number; one that is missing has no snapshot.
-fn join(number: u16, caller: &mut Top, children: &Children) -> Result<(), AllocError>
+// As `join_child`, of a child with those below it.
+fn join_below(child: &mut Space, caller: &mut Top) -> Result<(), AllocError>
     requires { MayPay caller.old }
-    ensures ok { OnOk result (caller.new ≡ with_join (or_fresh caller.old (option_map top_of (find number children.now))) caller.old) }
+    ensures ok { OnOk result (caller.new ≡ with_join (top_of child.old) caller.old) }
     ensures err { OnErr result (caller.new ≡ caller.old) }
+    ensures same { child.new ≡ child.old }
 {
-    match children.get(number) {
-        Some(child) => join_child(child.top(), caller),
+    join_child(&mut child.top, caller)
+}
+
+// As `join_child`, by the child's number; one that is missing has no snapshot.
+fn join(number: u16, caller: &mut Top, children: &mut Children) -> Result<(), AllocError>
+    requires { MayPay caller.old }
+    ensures ok { OnOk result (caller.new ≡ with_join (or_fresh caller.old (option_map top_of (find number children.old))) caller.old) }
+    ensures err { OnErr result (caller.new ≡ caller.old) }
+    ensures same { children.new ≡ children.old }
+{
+    match children.get_mut(number) {
+        Some(child) => join_below(child, caller),
         None => {
             caller.trap(no_snapshot());
             Ok(())
@@ -97,7 +112,7 @@ fn join_space(child: u16, space: &mut Space) -> Result<(), AllocError>
     ensures ok { (levels : ℕ) → OnOk result (space.new ≡ after_call levels (Tjoin child) space.old) }
     ensures err { OnErr result (space.new ≡ space.old) }
 {
-    join(child, &mut space.top, &space.children)
+    join(child, &mut space.top, &mut space.children)
 }
 
 /// Join of a thread (OSDI 2010, "Efficient System-Enforced Deterministic Parallelism", the section on emulating high-level abstractions), of a

@@ -2,6 +2,7 @@ use Rattle.std.proofs.Common.{◌+◌, arith, refl, subst, ◌∙◌}
 use Rattle.memory_model.specs.Ranges.{IsZeroPage}
 use Rattle.space_mem.specs.Held.{Held, AllClean, AllZero, IsNextDirty}
 use Rattle.snapshot.proofs.Lists.{same_clean, same_join, same_less, same_zero, zero_more}
+use Rattle.snapshot.proofs.Unmarked.{passed_clean, passed_less, passed_zero}
 use Rattle.snapshot.proofs.walk.next_page.Goals as goal
 
 pub returns-then-keeps-clause-some : goal.returns-then-keeps-clause-some
@@ -40,6 +41,8 @@ loop-dirty-preserved c =
           (same_zero h.memory s page end
           (zero_more h.memory page c.next_kept.result end first_child zero_child (omega (arith, c.min-at.ensures)))
           (zero_more s page c.next_kept-in-Some.result end first_snapshot zero_snapshot (omega (arith, c.min-at.ensures)))));
+      passed = passed_zero h c.args.from page end (passed_clean h c.args.from at page c.loop-dirty.invariant.passed dirty.clean)
+          (zero_more h.memory page c.next_kept.result end first_child zero_child (omega (arith, c.min-at.ensures)));
       child = of_child.same ∙ is_child;
       snapshot = of_snapshot.same ∙ is_snapshot;
     }
@@ -61,3 +64,19 @@ returns-clause-none c _ =
     same_less h.memory s c.args.from c.args.end 1048576 (omega (arith, c.requires.within))
     (same_join h.memory s c.args.from at 1048576 c.loop-dirty.invariant.same
     (same_clean h s at 1048576 c.requires.covers (subst (λ k. AllClean k at 1048576) c.loop-dirty.invariant.child (c.in_default.ensures.none refl)) (omega arith)))
+
+pub returns-then-keeps-clause-passed : goal.returns-then-keeps-clause-passed
+returns-then-keeps-clause-passed c =
+    let dirty = subst (λ k. IsNextDirty k c.loop-dirty.at c.in-Some.dirty) c.loop-dirty.invariant.child c.in-Some.ensures.some in
+    passed_clean c.args.child.now c.args.from c.loop-dirty.at c.in-Some.dirty c.loop-dirty.invariant.passed dirty.clean
+
+pub returns-then-dirty-end-clause-all_passed : goal.returns-then-dirty-end-clause-all_passed
+returns-then-dirty-end-clause-all_passed c _ =
+    let dirty = subst (λ k. IsNextDirty k c.loop-dirty.at c.in-Some.dirty) c.loop-dirty.invariant.child c.in-Some.ensures.some in
+    passed_less c.args.child.now c.args.from c.args.end c.in-Some.dirty (omega arith)
+    (passed_clean c.args.child.now c.args.from c.loop-dirty.at c.in-Some.dirty c.loop-dirty.invariant.passed dirty.clean)
+
+pub returns-clause-all_passed : goal.returns-clause-all_passed
+returns-clause-all_passed c _ =
+    passed_less c.args.child.now c.args.from c.args.end 1048576 (omega (arith, c.requires.within))
+    (passed_clean c.args.child.now c.args.from c.loop-dirty.at 1048576 c.loop-dirty.invariant.passed (subst (λ k. AllClean k c.loop-dirty.at 1048576) c.loop-dirty.invariant.child (c.in_default.ensures.none refl)))
