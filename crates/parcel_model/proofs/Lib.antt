@@ -3,3 +3,4 @@ pub mod Entries
 pub mod Stages
 pub mod Parcels
 pub mod Packed
+pub mod Longer

@@ -4,3 +4,4 @@ pub mod Parcel
 pub mod Names
 pub mod Reading
 pub mod Residents
+pub mod Sent

@@ -5,6 +5,7 @@ ghost use Rattle.space_model.specs.Beginning.{fresh_top};
 ghost use Rattle.space_model.specs.Space.{Top};
 ghost use Rattle.parcel_model.specs.Parcel.{Parcel, ParcelOf, TopOf};
 ghost use Rattle.parcel_model.specs.Packing.{parcel_of, parcel_bytes, IsPackable};
+ghost use Rattle.parcel_model.specs.Residents.{with_residents, IsLonger};
 ghost use Rattle.parcel_model.specs.Reading.{IsBytes, fault, parcel_at, top_at};
 ghost use Rattle.parcel_model.specs.declared.error.ParcelErrorKind.TheVariants.{Truncated};
 
@@ -30,6 +31,13 @@ pub fn one_parcel()
 pub fn packed_again()
     ensures spelled { (known : List (List ℕ)) (t : Top) → length known ≤ 2 ^ 32 → IsPackable t → TopOf known (parcel_bytes known t) t }
     ensures read { (known : List (List ℕ)) (t : Top) → length known ≤ 2 ^ 32 → IsPackable t → top_at known (parcel_bytes known t) ≡ Ok t }
+{}
+
+/// The bytes that are a parcel of a top over a list of resident pages are one of the same top over each longer list; and a list to which
+/// pages are added is longer, with its pages in their places.
+pub fn parcels_over_longer_lists()
+    ensures tops { (known longer : List (List ℕ)) (bytes : List ℕ) (t : Top) → IsLonger known longer → TopOf known bytes t → TopOf longer bytes t }
+    ensures grown { (known added : List (List ℕ)) → IsLonger known (with_residents known added) }
 {}
 
 /// No bytes are cut short at their first field; a space that has never run takes 157 bytes.

@@ -7,5 +7,6 @@ mod laws;
 
 pub use error::{ParcelError, ParcelErrorKind};
 pub use laws::{
-    least_parcels, one_parcel, packed_again, reads_exactly_parcels, refuses_exactly_the_rest,
+    least_parcels, one_parcel, packed_again, parcels_over_longer_lists, reads_exactly_parcels,
+    refuses_exactly_the_rest,
 };
