@@ -7,3 +7,4 @@ pub mod Used
 pub mod Marks
 pub mod Written
 pub mod Found
+pub mod Bounds

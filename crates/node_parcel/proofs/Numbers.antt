@@ -14,6 +14,7 @@ use Rattle.std.proofs.lemmas.Map.Lookups.{exact_bytes}
 use Rattle.parcel_model.specs.Parcel.{page_in}
 use Rattle.parcel_model.specs.Packing.{number_of}
 use Rattle.parcel_model.specs.Residents.{most_residents, AreResidents}
+use Rattle.parcel_model.proofs.Packed.{found}
 use Rattle.node_parcel.specs.Numbers.{AreNumbers}
 
 -- the first, where there is one
@@ -102,6 +103,36 @@ pub numbers_push : (old new : BTreeMap (List ℕ) ℕ) (known : List (List ℕ))
 numbers_push old new known page number h lt none is updated = record {
   sound = residents-push known page h.sound lt none;
   found = λ q. updated q ∙ ap (λ (n : ℕ). cond (eq_by_cmp (slice_cmp nat_cmp) page q) (Some n) (get (slice_cmp nat_cmp) old q)) is ∙ ap (λ (o : Option ℕ). cond (eq_by_cmp (slice_cmp nat_cmp) page q) (Some (length known)) o) (h.found q) ∙ number-push known page q (eq_by_cmp (slice_cmp nat_cmp) page q) refl none;
+}
+
+-- ---- one page less
+
+residents-front : (known : List (List ℕ)) (page : List ℕ) → AreResidents (known ++ page ∷ []) → AreResidents known
+residents-front known page h = record {
+  few = omega (arith, length-append known (page ∷ []), h.few);
+  distinct = λ i j less below same. h.distinct i j less (omega (arith, length-append known (page ∷ []))) (get_or_append_left known (page ∷ []) [] i (omega arith) ∙ same ∙ sym (get_or_append_left known (page ∷ []) [] j below));
+}
+
+last_absent_by : (known : List (List ℕ)) (page : List ℕ) (o : Option ℕ) → number_of known page ≡ o → AreResidents (known ++ page ∷ []) → o ≡ None
+last_absent_by known page None e h = refl
+last_absent_by known page (Some n) e h =
+    let f = found known n page e in
+    let here : page_in (known ++ page ∷ []) n ≡ page = get_or_append_left known (page ∷ []) [] n f.0 ∙ f.1 in
+    let last : page_in (known ++ page ∷ []) (length known) ≡ page = get_or_at known page [] [] (length known) refl in
+    absurd (h.distinct n (length known) f.0 (omega (arith, length-append known (page ∷ []))) (here ∙ sym last))
+
+last_absent : (known : List (List ℕ)) (page : List ℕ) → AreResidents (known ++ page ∷ []) → number_of known page ≡ None
+last_absent known page h = last_absent_by known page (number_of known page) refl h
+
+number-front : (known : List (List ℕ)) (page q : List ℕ) (r : Bool) → eq_by_cmp (slice_cmp nat_cmp) page q ≡ r → number_of known page ≡ None → cond r None (number_of (known ++ page ∷ []) q) ≡ number_of known q
+number-front known page q true e none = sym none ∙ ap (number_of known) (tied page q e)
+number-front known page q false e none = sym (number-push known page q false e none)
+
+pub numbers_pop : (old new : BTreeMap (List ℕ) ℕ) (known : List (List ℕ)) (page : List ℕ) → AreNumbers old (known ++ page ∷ [])
+    → ((q : List ℕ) → get (slice_cmp nat_cmp) new q ≡ cond (eq_by_cmp (slice_cmp nat_cmp) page q) None (get (slice_cmp nat_cmp) old q)) → AreNumbers new known
+numbers_pop old new known page h updated = record {
+  sound = residents-front known page h.sound;
+  found = λ q. updated q ∙ ap (λ (o : Option ℕ). cond (eq_by_cmp (slice_cmp nat_cmp) page q) None o) (h.found q) ∙ number-front known page q (eq_by_cmp (slice_cmp nat_cmp) page q) refl (last_absent known page h.sound);
 }
 
 nothing : (m : BTreeMap (List ℕ) ℕ) (q : List ℕ) → m.entries ≡ [] → get (slice_cmp nat_cmp) m q ≡ number_of [] q

@@ -22,7 +22,7 @@ mod unpacking;
 
 pub use fault::ParcelFault;
 pub use home::node_of;
-pub use packing::pack;
+pub use packing::{Packed, pack, pack_to_send};
 pub use parcel_model::{ParcelError, ParcelErrorKind};
 pub use resident::ResidentPage;
 pub use residents::Residents;

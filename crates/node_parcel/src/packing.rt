@@ -1,16 +1,24 @@
-ghost use Rattle.std.specs.Prelude.{◌≡◌, ◌++◌, ◌∷◌, ◌+◌, ◌*◌, ℕ, List, length, IfOk, OnOk, None};
+ghost use Rattle.std.specs.Prelude.{◌≡◌, ◌++◌, ◌∷◌, ◌+◌, ◌*◌, ◌<◌, ◌^◌, ℕ, List, [], length, slice_index, IfOk, OnOk, None};
 ghost use Rattle.std.specs.Int.{w32, to_le_bytes};
 ghost use Rattle.std.specs.List.{flat_map};
 ghost use Rattle.space_model.specs.Block.{block_of};
 ghost use Rattle.space_mem.specs.Held as held;
-ghost use Rattle.parcel_model.specs.Parcel.{block_spelling, content_spelling, entry_spelling, is_there, memory_spelling, snapshot_spelling};
-ghost use Rattle.parcel_model.specs.Packing.{content_of, entries_of, entry_of, page_bytes, parcel_bytes, snapshot_entries};
+ghost use Rattle.parcel_model.specs.Parcel.{block_spelling, content_spelling, entry_spelling, is_there, memory_spelling, snapshot_spelling, TopOf};
+ghost use Rattle.parcel_model.specs.Packing.{content_of, entries_of, entry_of, page_bytes, parcel_bytes, parcel_of, snapshot_entries, IsBoundedIn, IsPackable};
+ghost use Rattle.parcel_model.specs.Sent.{page_of_entry, pages_sent, whole_page, whole_pages, whole_pages_in};
 
 use crate::resident::ResidentPage;
 use crate::residents::Residents;
 use space_mem::Mem;
 use space_tree::Top;
 use std::alloc::{AllocError, Global};
+
+/// A parcel, and the pages whose bytes stand in it, in their order.
+#[derive(Drop)]
+pub struct Packed {
+    pub bytes: Vec<u8>,
+    pub whole: Vec<ResidentPage>,
+}
 
 // Adds a number, the least byte first.
 fn put_u32(out: &mut Vec<u8>, number: u32) -> Result<(), AllocError>
@@ -49,15 +57,17 @@ fn put_formed(out: &mut Vec<u8>, form: u8, content: &[u8]) -> Result<(), AllocEr
     out.extend_from_slice(content)
 }
 
-// Adds the form and the content of a page.
+// Adds the form and the content of a page, and the page to the others whose bytes stand there.
 fn put_content(
     alloc: Global,
     out: &mut Vec<u8>,
+    whole: &mut Vec<ResidentPage>,
     memory: &Mem,
     page: u32,
     known: &Residents,
 ) -> Result<(), AllocError>
-    ensures { OnOk result (out.new.items ≡ out.old.items ++ content_spelling (content_of known.now (page_bytes memory.now.memory page))) }
+    ensures written { OnOk result (out.new.items ≡ out.old.items ++ content_spelling (content_of known.now (page_bytes memory.now.memory page))) }
+    ensures whole { OnOk result (whole.new.items ≡ whole.old.items ++ whole_page (content_of known.now (page_bytes memory.now.memory page))) }
 {
     let Some(bytes) = memory.page(page) else {
         return put_formed(out, 0, &[]);
@@ -68,7 +78,11 @@ fn put_content(
     }
     match known.number_of(&bytes) {
         Some(number) => put_formed(out, 1, &number.to_le_bytes()),
-        None => put_formed(out, 2, bytes.bytes()),
+        None => {
+            put_formed(out, 2, bytes.bytes())?;
+            whole.push(bytes)?;
+            Ok(())
+        }
     }
 }
 
@@ -76,15 +90,17 @@ fn put_content(
 fn put_entry(
     alloc: Global,
     out: &mut Vec<u8>,
+    whole: &mut Vec<ResidentPage>,
     memory: &Mem,
     page: u32,
     known: &Residents,
 ) -> Result<(), AllocError>
-    ensures { OnOk result (out.new.items ≡ out.old.items ++ entry_spelling (entry_of known.now memory.now.memory page)) }
+    ensures written { OnOk result (out.new.items ≡ out.old.items ++ entry_spelling (entry_of known.now memory.now.memory page)) }
+    ensures whole { OnOk result (whole.new.items ≡ whole.old.items ++ page_of_entry (entry_of known.now memory.now.memory page)) }
 {
     put_u32(out, page)?;
     out.push(memory.perm(page))?;
-    put_content(alloc, out, memory, page, known)
+    put_content(alloc, out, whole, memory, page, known)
 }
 
 // How many pages have a permission or a byte other than 0.
@@ -104,15 +120,17 @@ fn count_pages(memory: &Mem) -> u32
 fn put_memory(
     alloc: Global,
     out: &mut Vec<u8>,
+    whole: &mut Vec<ResidentPage>,
     memory: &Mem,
     known: &Residents,
 ) -> Result<(), AllocError>
-    ensures { OnOk result (out.new.items ≡ out.old.items ++ memory_spelling (entries_of known.now memory.now.memory)) }
+    ensures written { OnOk result (out.new.items ≡ out.old.items ++ memory_spelling (entries_of known.now memory.now.memory)) }
+    ensures whole { OnOk result (whole.new.items ≡ whole.old.items ++ whole_pages (entries_of known.now memory.now.memory)) }
 {
     put_u32(out, count_pages(memory))?;
     let mut from = 0;
     while let Some(page) = memory.next_page(from) {
-        put_entry(alloc, out, memory, page, known)?;
+        put_entry(alloc, out, whole, memory, page, known)?;
         from = page + 1;
     }
     Ok(())
@@ -122,13 +140,15 @@ fn put_memory(
 fn put_snapshot(
     alloc: Global,
     out: &mut Vec<u8>,
+    whole: &mut Vec<ResidentPage>,
     snapshot: &Option<Mem>,
     known: &Residents,
 ) -> Result<(), AllocError>
-    ensures { OnOk result (out.new.items ≡ out.old.items ++ snapshot_spelling (snapshot_entries known.now (held.memory_in snapshot.now))) }
+    ensures written { OnOk result (out.new.items ≡ out.old.items ++ snapshot_spelling (snapshot_entries known.now (held.memory_in snapshot.now))) }
+    ensures whole { OnOk result (whole.new.items ≡ whole.old.items ++ whole_pages_in (snapshot_entries known.now (held.memory_in snapshot.now))) }
 {
     match snapshot {
-        Some(snapshot) => put_memory(alloc, out, snapshot, known),
+        Some(snapshot) => put_memory(alloc, out, whole, snapshot, known),
         None => Ok(()),
     }
 }
@@ -140,20 +160,76 @@ fn flags_of(top: &Top) -> u8
     u8::from(top.snapshot.is_some()) + 2 * u8::from(top.limit.is_some())
 }
 
-/// The parcel of a top without devices: each page by the least number of a resident page with its bytes, where there is one. Its one error is
-/// want of memory.
+// What every snapshot keeps.
+fn snapshot_bounds(snapshot: &Option<Mem>)
+    ensures { IsBoundedIn (held.memory_in snapshot.now) }
+{
+    if let Some(memory) = snapshot {
+        memory.bounds();
+    }
+}
+
+// What every register block keeps.
+fn block_bounds(pc: u32, x: &[u32], cause: u32, value: u32)
+    ensures { (k : ℕ) → slice_index (pc ∷ (x.now ++ cause ∷ value ∷ [])) k < 2 ^ 32 }
+{}
+
+// What every number keeps.
+fn number_bounds(number: u32)
+    ensures { number < 2 ^ 32 }
+{}
+
+// What every top without devices keeps, so that it may travel.
+fn may_travel(top: &Top)
+    requires { top.now.devices ≡ None }
+    ensures { IsPackable top.now }
+{
+    let registers = &top.registers;
+    let _first = registers.x[0];
+    let block = top.block();
+    block_bounds(block.pc, &block.x, block.cause, block.value);
+    number_bounds(top.limit.unwrap_or(0));
+    top.memory.bounds();
+    snapshot_bounds(&top.snapshot);
+}
+
+// The parcel of a top without devices, and the pages whose bytes stand in it.
+fn written(alloc: Global, top: &Top, known: &Residents) -> Result<Packed, AllocError>
+    requires { top.now.devices ≡ None }
+    ensures bytes { IfOk result (λ p. p.bytes.items ≡ parcel_bytes known.now top.now) }
+    ensures whole { IfOk result (λ p. p.whole.items ≡ pages_sent (parcel_of known.now top.now)) }
+{
+    let mut bytes = Vec::new(alloc);
+    let mut whole = Vec::new(alloc);
+    bytes.extend_from_slice(b"DTP2")?;
+    put_block(&mut bytes, top)?;
+    bytes.push(flags_of(top))?;
+    put_u32(&mut bytes, top.limit.unwrap_or(0))?;
+    put_u32(&mut bytes, top.fuel)?;
+    put_u32(&mut bytes, top.used)?;
+    put_memory(alloc, &mut bytes, &mut whole, &top.memory, known)?;
+    put_snapshot(alloc, &mut bytes, &mut whole, &top.snapshot, known)?;
+    Ok(Packed { bytes, whole })
+}
+
+/// The parcel of a top without devices, as `pack` writes it, with the pages whose bytes stand in it. Its one error is want of memory.
+pub fn pack_to_send(alloc: Global, top: &Top, known: &Residents) -> Result<Packed, AllocError>
+    requires { top.now.devices ≡ None }
+    ensures bytes { IfOk result (λ p. p.bytes.items ≡ parcel_bytes known.now top.now) }
+    ensures whole { IfOk result (λ p. p.whole.items ≡ pages_sent (parcel_of known.now top.now)) }
+    ensures parcel { IfOk result (λ p. TopOf known.now p.bytes.items top.now) }
+{
+    may_travel(top);
+    known.bounds();
+    written(alloc, top, known)
+}
+
+/// The parcel of a top without devices: each page by the least number of a resident page with its bytes, where there is one. Read over the
+/// same resident pages it gives an equal top. Its one error is want of memory.
 pub fn pack(alloc: Global, top: &Top, known: &Residents) -> Result<Vec<u8>, AllocError>
     requires { top.now.devices ≡ None }
-    ensures { IfOk result (λ v. v.items ≡ parcel_bytes known.now top.now) }
+    ensures bytes { IfOk result (λ v. v.items ≡ parcel_bytes known.now top.now) }
+    ensures parcel { IfOk result (λ v. TopOf known.now v.items top.now) }
 {
-    let mut out = Vec::new(alloc);
-    out.extend_from_slice(b"DTP2")?;
-    put_block(&mut out, top)?;
-    out.push(flags_of(top))?;
-    put_u32(&mut out, top.limit.unwrap_or(0))?;
-    put_u32(&mut out, top.fuel)?;
-    put_u32(&mut out, top.used)?;
-    put_memory(alloc, &mut out, &top.memory, known)?;
-    put_snapshot(alloc, &mut out, &top.snapshot, known)?;
-    Ok(out)
+    Ok(pack_to_send(alloc, top, known)?.bytes)
 }

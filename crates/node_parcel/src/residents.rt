@@ -1,7 +1,7 @@
-ghost use Rattle.std.specs.Prelude.{◌≡◌, ◌<◌, ◌≤◌, [], length, IfSome, IsNone, OnOk, OnErr};
+ghost use Rattle.std.specs.Prelude.{◌≡◌, ◌<◌, ◌≤◌, ◌-◌, [], length, take, IfSome, IsNone, OnOk, OnErr};
 ghost use Rattle.parcel_model.specs.Parcel.{page_in};
 ghost use Rattle.parcel_model.specs.Packing.{number_of};
-ghost use Rattle.parcel_model.specs.Residents.{most_residents, with_resident};
+ghost use Rattle.parcel_model.specs.Residents.{most_residents, with_resident, with_residents, AreResidents, IsLonger};
 
 use crate::resident::ResidentPage;
 use std::alloc::{AllocError, Global};
@@ -43,6 +43,20 @@ impl Residents {
         }
     }
 
+    /// How many pages there are.
+    pub fn len(&self) -> usize
+        ensures { result ≡ length self.now }
+    {
+        self.pages.len()
+    }
+
+    /// What every list keeps: there are at most 65,536 pages, and no two are equal.
+    pub fn bounds(&self)
+        ensures { AreResidents self.now }
+    {
+        let _pages = &self.pages;
+    }
+
     /// The page of a number; none exactly where there is none.
     pub fn page(&self, number: u32) -> Option<&ResidentPage>
         ensures some { IfSome result (λ page. page.now ≡ page_in self.now number) }
@@ -73,5 +87,47 @@ impl Residents {
         self.numbers.insert(key, number)?;
         self.pages.push_reserved(page);
         Ok(())
+    }
+    // Adds these pages, one after the other, until one is refused for want of memory.
+    fn add_each(&mut self, alloc: Global, pages: &[ResidentPage]) -> Result<(), AllocError>
+        ensures ok { OnOk result (self.new ≡ with_residents self.old pages.now) }
+        ensures longer { IsLonger self.old self.new }
+    {
+        for page in pages {
+            self.add(alloc, page.another(alloc)?)?;
+        }
+        Ok(())
+    }
+
+    /// Adds each of these pages for which there is room and which is not there yet, in their order. The one error is want of memory: nothing
+    /// has changed then.
+    pub fn add_all(&mut self, alloc: Global, pages: &[ResidentPage]) -> Result<(), AllocError>
+        ensures ok { OnOk result (self.new ≡ with_residents self.old pages.now) }
+        ensures err { OnErr result (self.new ≡ self.old) }
+    {
+        let count = self.len();
+        let added = self.add_each(alloc, pages);
+        if added.is_err() {
+            self.truncate(count);
+        }
+        added
+    }
+
+    // Forgets the last page, where there is one.
+    fn forget_last(&mut self)
+        ensures { self.new ≡ take (length self.old - 1) self.old }
+    {
+        if let Some(page) = self.pages.pop() {
+            self.numbers.remove(&page);
+        }
+    }
+
+    /// Keeps the first `count` pages, or all where there are no more.
+    pub fn truncate(&mut self, count: usize)
+        ensures { self.new ≡ take count self.old }
+    {
+        while self.len() > count {
+            self.forget_last();
+        }
     }
 }

@@ -65,7 +65,7 @@ found_from : (known : List (List ℕ)) (from k : ℕ) (bytes : List ℕ) → pos
 found_from [] from k bytes e = absurd cc
 found_from (page ∷ known) from k bytes e = found_at (pointwise nat_eq page bytes) page known from k bytes (position_from (λ page. pointwise nat_eq page bytes) (from + 1) known) refl e (found_from known (from + 1) k bytes)
 
-found : (known : List (List ℕ)) (k : ℕ) (bytes : List ℕ) → number_of known bytes ≡ Some k → (k < length known) × (page_in known k ≡ bytes)
+pub found : (known : List (List ℕ)) (k : ℕ) (bytes : List ℕ) → number_of known bytes ≡ Some k → (k < length known) × (page_in known k ≡ bytes)
 unfolding number_of
 found known k bytes e =
     let f = found_from known 0 k bytes e in

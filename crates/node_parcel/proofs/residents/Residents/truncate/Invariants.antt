@@ -1,0 +1,9 @@
+use Rattle.std.proofs.Common.{◌≡◌, take, length}
+use Rattle.node_parcel.proofs.residents.Residents.truncate.Given as goal
+
+-- the first pages are those that were there
+abbrev pub invariant-loop-self : goal.invariant-loop-self
+invariant-loop-self l = take l.count l.self ≡ take l.count l.fn.self
+
+abbrev pub decreases-loop-self : goal.decreases-loop-self
+decreases-loop-self l = length l.self
