@@ -16,6 +16,8 @@ pub(crate) struct Desk<S: Shop, L: Ledger, M: Ledger> {
     pub(crate) done: Book<M>,
     /// How many workers wait for the bell.
     pub(crate) asleep: usize,
+    /// Whether one of them was rung for and has not come under the lock yet.
+    pub(crate) rung: bool,
     /// Whether memory was wanting somewhere, which ends all.
     pub(crate) failed: bool,
     pub(crate) ghost owed_is: { S.owed shop ≡ out.total },
@@ -110,14 +112,17 @@ impl<S: Shop, L: Ledger, M: Ledger> Desk<S, L, M> {
         taken
     }
 
-    /// Whom a worker rings for that leaves the lock with this turn. One that took a job rings for another where there may be more; one that met asks
-    /// again itself; at the end, and where memory is wanting, all are to see it.
-    pub(crate) fn ring_after(&self, turn: &Result<Turn<S::Job>, AllocError>) -> Ring {
+    /// Whom a worker rings for that leaves the lock with this turn. One that took a job rings for another where there may be more, and where nobody is on the
+    /// way already; one that met asks again itself; at the end, and where memory is wanting, all are to see it.
+    pub(crate) fn ring_after(&mut self, turn: &Result<Turn<S::Job>, AllocError>) -> Ring {
         if self.asleep == 0 {
             return Ring::Nobody;
         }
         match turn {
-            Ok(Turn::Job(_)) if self.shop.has_more() => Ring::One,
+            Ok(Turn::Job(_)) if !self.rung && self.shop.has_more() => {
+                self.rung = true;
+                Ring::One
+            }
             Ok(Turn::Job(_) | Turn::Met | Turn::Rest) => Ring::Nobody,
             Ok(Turn::Over) | Err(_) => Ring::All,
         }

@@ -92,6 +92,7 @@ fn opened<S: Shop, L: Ledger, M: Ledger>(shop: S, out: Book<L>, done: Book<M>) -
         out,
         done,
         asleep: 0,
+        rung: false,
         failed: false,
     }
 }

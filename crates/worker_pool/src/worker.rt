@@ -3,7 +3,8 @@
 // No worker sleeps for ever beside a job. A worker sleeps only in `wait_for_turn`, where its own turn under the same lock was `Rest`. Whoever changes
 // the shop is awake and has the lock, and does not leave it to sleep before it has looked again:
 // - A turn that is a job: the worker comes back with the result. If there may be more, it rings for one that sleeps, once it has left the lock.
-//   That one looks, and does the same in its turn, so one after another is woken for as long as there may be more.
+//   That one looks, and does the same in its turn, so one after another is woken for as long as there may be more. Nobody is rung for while one that
+//   was rung for is on its way to the lock (`rung`): that one looks at whatever there is by then. Whoever wakes takes the note away, rung for or not.
 // - A turn that met: the worker comes back at once.
 // - A result that was handed in: the same worker takes its next turn under the same lock.
 // - A turn that is `Rest` changes nothing, so whatever it found wanting is wanting still; the shop answers it only while a job is out, and whoever
@@ -146,6 +147,7 @@ fn wait_for_turn<S: Shop, L: Ledger, M: Ledger, R: Wait>(
         guard.asleep = guard.asleep.saturating_add(1);
         guard = bell.wait(rt, guard);
         guard.asleep = guard.asleep.saturating_sub(1);
+        guard.rung = false;
     }
     unreachable!()
 }
