@@ -18,7 +18,7 @@ pub record Keeps (b : Inside) : Type 0 where
   pub nodes : 0 < b.nodes
   pub sound : IsSound b.boot
   pub legal : Legal b.boot b.history.items b.tree
-  pub at_work : AreOut b.at_work b.out.slots
-  pub listed : IsListed b.tree b.run b.calls (paths_in b.news.items) b.out.slots
+  pub at_work : AreOut b.lists.at_work b.out.slots
+  pub listed : IsListed b.tree b.lists.run b.lists.calls (paths_in b.lists.news.items) b.out.slots
   pub places : vec_len b.history + slab_len b.out ≤ vec_capacity b.history
-  pub news_places : vec_len b.news + slab_len b.out ≤ vec_capacity b.news
+  pub news_places : vec_len b.lists.news + slab_len b.out ≤ vec_capacity b.lists.news

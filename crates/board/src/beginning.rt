@@ -4,7 +4,9 @@ ghost use Rattle.board.specs.Listed.{HasAll, HasEnabled, HasEnabledBelow, IsSoun
 ghost use Rattle.board.specs.Value.{begun};
 
 use crate::board::Board;
+use crate::boot::Boot;
 use crate::listing::{child_path, list};
+use crate::lists::Lists;
 use path_set::PathSet;
 use slab::Slab;
 use space_tree::{Path, Space, copy_tree};
@@ -80,17 +82,19 @@ impl Board {
         list_all(alloc, &mut run, &mut calls, &space, &Path::new(), 8)?;
         Ok(Board {
             alloc,
-            boot: copy_tree(alloc, &mut space)?,
+            boot: Boot::of(copy_tree(alloc, &mut space)?),
             nodes,
             tree: space,
             history: Vec::new(alloc),
             out: Slab::new(alloc),
             next_ticket: 0,
             owed: 0,
-            at_work: PathSet::new(alloc),
-            run,
-            calls,
-            news: Vec::new(alloc),
+            lists: Lists {
+                at_work: PathSet::new(alloc),
+                run,
+                calls,
+                news: Vec::new(alloc),
+            },
         })
     }
 }

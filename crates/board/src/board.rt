@@ -1,8 +1,9 @@
+use crate::boot::Boot;
 use crate::job::Out;
+use crate::lists::Lists;
 use det_core::Entry;
-use path_set::PathSet;
 use slab::Slab;
-use space_tree::{Path, Space};
+use space_tree::Space;
 use std::alloc::Global;
 use std::marker::Model;
 
@@ -11,7 +12,7 @@ use std::marker::Model;
 #[derive(Drop)]
 pub struct Board {
     pub(crate) alloc: Global,
-    pub(crate) boot: Space,
+    pub(crate) boot: Boot,
     pub(crate) nodes: u32,
     pub(crate) tree: Space,
     pub(crate) history: Vec<Entry>,
@@ -19,14 +20,7 @@ pub struct Board {
     pub(crate) next_ticket: u64,
     /// How many jobs were handed out by turns and were not handed in again.
     pub(crate) owed: u64,
-    // The paths of the jobs that are out, and no others.
-    pub(crate) at_work: PathSet,
-    // All paths of spaces that have local events, but for those that are out and those on the way to the news.
-    pub(crate) run: PathSet,
-    // All paths of calls that may meet their children, but for those on the way to the news.
-    pub(crate) calls: PathSet,
-    // The paths of the jobs that were handed in since the lists were last brought up to date.
-    pub(crate) news: Vec<Path>,
+    pub(crate) lists: Lists,
 }
 
 impl Model for Board {

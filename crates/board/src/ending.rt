@@ -52,7 +52,7 @@ impl Board {
             ..
         } = self;
         Closed {
-            boot,
+            boot: boot.into_space(),
             nodes,
             tree,
             history,

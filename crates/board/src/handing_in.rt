@@ -26,9 +26,9 @@ impl Board {
         run.leads();
         let events = run.ran();
         let (_, top) = run.into_parts();
-        let out = take_out(&mut self.out, &mut self.at_work, slot);
+        let out = take_out(&mut self.out, &mut self.lists.at_work, slot);
         swap_top(&mut self.tree, &path, top);
-        self.news.push_reserved(out.path);
+        self.lists.news.push_reserved(out.path);
         self.history.push_reserved(Entry::Ran { path, events });
     }
 
@@ -38,8 +38,8 @@ impl Board {
         ensures out { Sets slot None self.old.out self.new.out }
         ensures others { self.new ≡ record self.old { out = self.new.out } }
     {
-        let out = take_out(&mut self.out, &mut self.at_work, slot);
-        self.news.push_reserved(out.path);
+        let out = take_out(&mut self.out, &mut self.lists.at_work, slot);
+        self.lists.news.push_reserved(out.path);
     }
 
     /// Hands in a result. It is taken exactly where it is of the job that is out in its slot: its ticket and path are the job's, and it began with what

@@ -6,6 +6,7 @@
 mod alone;
 mod beginning;
 mod board;
+mod boot;
 mod closed;
 mod committing;
 mod done;
@@ -13,11 +14,13 @@ mod ending;
 mod handing_in;
 mod job;
 mod listing;
+mod lists;
 mod meeting;
 mod result;
 mod shop;
 mod slots;
 mod taking;
+mod together;
 mod turning;
 mod working;
 
@@ -27,4 +30,5 @@ pub use closed::Closed;
 pub use done::Done;
 pub use job::{Job, Out};
 pub use result::Commit;
+pub use together::run_together;
 pub use working::{QUANTUM, work};

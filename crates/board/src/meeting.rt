@@ -44,8 +44,12 @@ impl Board {
         ensures some { IfOk result (λ o. IfSome o (λ f. IsLeast (MayMeet self.old) f.path.items × (call_at f.path.items greatest_depth self.old.tree ≡ Some f.call))) }
         ensures none { IfOk result (λ o. IsNone o → (p : List ℕ) → call_at p greatest_depth self.old.tree ≡ None) }
     {
-        list_news(&mut self.run, &mut self.calls, &mut self.news)?;
-        find_first(&self.tree, &mut self.calls)
+        list_news(
+            &mut self.lists.run,
+            &mut self.lists.calls,
+            &mut self.lists.news,
+        )?;
+        find_first(&self.tree, &mut self.lists.calls)
     }
 
     // A call meets its children.
@@ -55,8 +59,8 @@ impl Board {
         ensures err { OnErr result (self.new ≡ self.old) }
     {
         let Found { path, call } = found;
-        list_way(&mut self.run, &mut self.calls, &path)?;
-        list_awaited(&mut self.run, &mut self.calls, &path, call)?;
+        list_way(&mut self.lists.run, &mut self.lists.calls, &path)?;
+        list_awaited(&mut self.lists.run, &mut self.lists.calls, &path, call)?;
         let count = one_more(self.out.len())?;
         self.history.reserve(count)?;
         let entry = Entry::Met {

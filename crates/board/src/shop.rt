@@ -27,8 +27,11 @@ impl Shop for Board {
         self.next_turn()
     }
 
+    /// Behind a turn that handed out a job the lists have nothing before the next space that may be taken (`look_ahead`), so it is told right then.
     fn has_more(&self) -> bool {
-        self.run.first().is_some() || self.calls.first().is_some() || !self.news.is_empty()
+        self.lists.run.first().is_some()
+            || self.lists.calls.first().is_some()
+            || !self.lists.news.is_empty()
     }
 
     fn tools(alloc: Global) -> Result<DecodeCache, AllocError> {

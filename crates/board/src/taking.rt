@@ -90,14 +90,18 @@ fn make_places(
 }
 
 impl Board {
-    // The least space that may be taken.
-    fn to_take(&mut self) -> Result<Option<Path>, AllocError>
+    /// The least space that may be taken. Those that were listed before it and may not be are listed no more.
+    pub(crate) fn to_take(&mut self) -> Result<Option<Path>, AllocError>
         ensures same { self.new ≡ self.old }
         ensures some { IfOk result (λ o. IfSome o (λ p. IsLeast (MayBeTaken self.old.tree self.old.out) p.items)) }
         ensures none { IfOk result (λ o. IsNone o → (p : List ℕ) → MayBeTaken self.old.tree self.old.out p → ⊥) }
     {
-        list_news(&mut self.run, &mut self.calls, &mut self.news)?;
-        find_first(&self.tree, &mut self.run, &self.at_work)
+        list_news(
+            &mut self.lists.run,
+            &mut self.lists.calls,
+            &mut self.lists.news,
+        )?;
+        find_first(&self.tree, &mut self.lists.run, &self.lists.at_work)
     }
 
     // Puts out a job for a space that may be taken, with a copy of its state and the next ticket.
@@ -107,7 +111,7 @@ impl Board {
         ensures err { OnErr result (self.new ≡ self.old) }
     {
         let count = one_more(self.out.len())?;
-        make_places(&mut self.history, &mut self.news, count)?;
+        make_places(&mut self.history, &mut self.lists.news, count)?;
         let Some(top) = copy_top_at(&mut self.tree, &path)? else {
             unreachable!()
         };
@@ -116,8 +120,8 @@ impl Board {
             ticket,
             path: copy_path(&path)?,
         };
-        let slot = put_in(&mut self.out, &mut self.at_work, out)?;
-        self.run.remove(&path);
+        let slot = put_in(&mut self.out, &mut self.lists.at_work, out)?;
+        self.lists.run.remove(&path);
         self.next_ticket = ticket.wrapping_add(1);
         Ok(Job {
             slot,

@@ -22,7 +22,15 @@ impl Board {
             return Ok(None);
         };
         self.owed = owed;
+        self.look_ahead();
         Ok(Some(job))
+    }
+
+    // Drops what is listed before the next space that may be taken, so that a list that is not empty has one (`has_more`).
+    fn look_ahead(&mut self)
+        ensures { self.new ≡ self.old }
+    {
+        let _next = self.to_take();
     }
 
     /// A worker's turn. `Met` where a call may meet its children: the least one has met them. Else the job of the least space that may be taken. Where

@@ -10,7 +10,8 @@ use std::alloc::AllocError;
 pub const QUANTUM: u32 = 1_048_576;
 
 /// Lets the space of a job go on: it has as many local events as a quantum, or fewer where what is next is no local event. What comes of it names the
-/// job's slot, ticket and path, and begins with the job's state. The one error is want of memory.
+/// job's slot, ticket and path, and begins with the job's state. What the space wrote is made shareable here, so that the next job for it costs no more under
+/// the lock. The one error is want of memory.
 pub fn work(cache: &mut DecodeCache, job: Job) -> Result<Done, AllocError>
     ensures { IfOk result (λ d. IsOf job d) }
 {
@@ -20,7 +21,8 @@ pub fn work(cache: &mut DecodeCache, job: Job) -> Result<Done, AllocError>
         path,
         top,
     } = job;
-    let run = run_local(top, path.len() as u8, QUANTUM, cache)?;
+    let mut run = run_local(top, path.len() as u8, QUANTUM, cache)?;
+    run.freeze()?;
     Ok(Done {
         slot,
         ticket,

@@ -70,6 +70,15 @@ impl Run {
         let _ran = self.ran;
     }
 
+    /// Makes the pages that the events wrote shareable, so that a later copy of the space after them is cheap. The one error is want of memory, and nothing
+    /// has changed.
+    #[tactic(auto, using(space_mem::proofs::Dirty::covers_in_same))]
+    pub fn freeze(&mut self) -> Result<(), AllocError>
+        ensures { self.new ≡ self.old }
+    {
+        self.top.memory.freeze()
+    }
+
     /// The space before the events, and the space after them.
     pub fn into_parts(self) -> (Top, Top)
         ensures start { result.0 ≡ self.start }

@@ -37,7 +37,7 @@ invariant_of-self c =
     let same_room = c.push_reserved-2.ensures.capacity in
     let places = kept.places in
     let news_places = kept.news_places in
-    let news = ap paths_in c.push_reserved.ensures.items ∙ paths-append b.news.items out.path in
+    let news = ap paths_in c.push_reserved.ensures.items ∙ paths-append b.lists.news.items out.path in
     let top = c.into_parts-top.result.1 in
     let now : c.swap_top.new.space ≡ with_top done.path.items top b.tree = c.swap_top.ensures.swapped in
     let put : with_top out.path.items top b.tree ≡ c.swap_top.new.space = ap (λ p. with_top p top b.tree) path ∙ sym now in
@@ -48,9 +48,9 @@ invariant_of-self c =
       at_work = c.take_out-out.ensures.work;
       legal = ran_legal b.boot b.tree c.swap_top.new.space b.history.items c.push_reserved-2.new.self.items done.path done.run top c.ran-events.result kept.legal c.leads.ensures.run done.deep of.start.start goes
           c.into_parts-top.ensures.top c.ran-events.ensures now items;
-      listed = subst (λ ns. IsListed c.swap_top.new.space b.run b.calls ns c.take_out-out.new.out.slots) (sym news)
-          (subst (λ s. IsListed s b.run b.calls (paths_in b.news.items ++ out.path.items ∷ []) c.take_out-out.new.out.slots) put
-          (taken_listed b.tree b.run b.calls (paths_in b.news.items) b.out.slots c.take_out-out.new.out.slots done.slot out top kept.listed value sets));
+      listed = subst (λ ns. IsListed c.swap_top.new.space b.lists.run b.lists.calls ns c.take_out-out.new.out.slots) (sym news)
+          (subst (λ s. IsListed s b.lists.run b.lists.calls (paths_in b.lists.news.items ++ out.path.items ∷ []) c.take_out-out.new.out.slots) put
+          (taken_listed b.tree b.lists.run b.lists.calls (paths_in b.lists.news.items) b.out.slots c.take_out-out.new.out.slots done.slot out top kept.listed value sets));
       places = omega (arith, places, fewer, one_more, same_room);
       news_places = omega (arith, news_places, fewer, more, capacity);
     }

@@ -10,7 +10,7 @@ use Rattle.board.proofs.board.Board.begin.Goals as goal
 
 pub invariant_of-result : goal.invariant_of-result
 invariant_of-result c =
-    let boot = c.in_ok-copy_tree.ensures.equal in
+    let boot = c.of.ensures ∙ c.in_ok-copy_tree.ensures.equal in
     let tree = c.in_ok-copy_tree.ensures.same in
     let len = c.new-2.ensures.len in
     let news_len = c.new-5.ensures.len in
@@ -20,7 +20,7 @@ invariant_of-result c =
       nodes = omega (arith, one);
       sound = subst IsSound (sym boot) c.requires.sound;
       at_work = none_at_work c.new-4.result c.new-3.result.slots c.new-4.ensures c.new-3.ensures.empty;
-      legal = subst (λ es. Legal c.in_ok-copy_tree.field-0 es c.copy_tree.new.space) (sym c.new-2.ensures.items) (boot ∙ sym tree);
+      legal = subst (λ es. Legal c.of.result es c.copy_tree.new.space) (sym c.new-2.ensures.items) (boot ∙ sym tree);
       listed = subst (λ s. IsListed s c.list_all.new.run c.list_all.new.calls (paths_in c.new-5.result.items) c.new-3.result.slots) (sym tree)
           (begun_listed c.args.space c.list_all.new.run c.list_all.new.calls (paths_in c.new-5.result.items) c.new-3.result.slots c.new.result.items c.new.ensures c.in_ok-list_all.ensures.all
           (ap paths_in c.new-5.ensures.items) c.new-3.ensures.empty);

@@ -17,14 +17,14 @@ invariant_of-self c =
     let capacity = c.push_reserved.ensures.capacity in
     let places = kept.places in
     let news_places = kept.news_places in
-    let news = ap paths_in c.push_reserved.ensures.items ∙ paths-append b.news.items out.path in
+    let news = ap paths_in c.push_reserved.ensures.items ∙ paths-append b.lists.news.items out.path in
     record {
       nodes = kept.nodes;
       sound = kept.sound;
       at_work = c.take_out-out.ensures.work;
       legal = kept.legal;
-      listed = subst (λ ns. IsListed b.tree b.run b.calls ns c.take_out-out.new.out.slots) (sym news)
-          (stale_listed b.tree b.run b.calls (paths_in b.news.items) b.out.slots c.take_out-out.new.out.slots c.args.slot out kept.listed c.take_out-out.ensures.value sets);
+      listed = subst (λ ns. IsListed b.tree b.lists.run b.lists.calls ns c.take_out-out.new.out.slots) (sym news)
+          (stale_listed b.tree b.lists.run b.lists.calls (paths_in b.lists.news.items) b.out.slots c.take_out-out.new.out.slots c.args.slot out kept.listed c.take_out-out.ensures.value sets);
       places = omega (arith, places, fewer);
       news_places = omega (arith, news_places, fewer, more, capacity);
     }

@@ -23,7 +23,7 @@ invariant_of-self-in_err-reserve c =
       sound = kept.sound;
       at_work = kept.at_work;
       legal = subst (λ es. Legal b.boot es b.tree) (sym c.reserve.ensures.items) kept.legal;
-      listed = more_listed b.tree b.run b.calls c.list_awaited.new.run c.list_awaited.new.calls (paths_in b.news.items) b.out.slots kept.listed
+      listed = more_listed b.tree b.lists.run b.lists.calls c.list_awaited.new.run c.list_awaited.new.calls (paths_in b.lists.news.items) b.out.slots kept.listed
           (λ p has. c.list_awaited.ensures.run p (c.list_way.ensures.run p has)) (λ p has. c.list_awaited.ensures.calls p (c.list_way.ensures.calls p has));
       places = omega (arith, places, len, capacity);
       news_places = kept.news_places;
@@ -41,7 +41,7 @@ invariant_of-self-in_err-copy_path c =
       sound = kept.sound;
       at_work = kept.at_work;
       legal = subst (λ es. Legal b.boot es b.tree) (sym c.reserve.ensures.items) kept.legal;
-      listed = more_listed b.tree b.run b.calls c.list_awaited.new.run c.list_awaited.new.calls (paths_in b.news.items) b.out.slots kept.listed
+      listed = more_listed b.tree b.lists.run b.lists.calls c.list_awaited.new.run c.list_awaited.new.calls (paths_in b.lists.news.items) b.out.slots kept.listed
           (λ p has. c.list_awaited.ensures.run p (c.list_way.ensures.run p has)) (λ p has. c.list_awaited.ensures.calls p (c.list_way.ensures.calls p has));
       places = omega (arith, places, len, capacity);
       news_places = kept.news_places;
@@ -55,14 +55,14 @@ invariant_of-self-in_err-meet c =
     let len = c.reserve.ensures.len in
     let capacity = c.reserve.ensures.capacity in
     let same : c.meet.new.space ≡ b.tree = c.in_err-meet.ensures.err in
-    let listed = more_listed b.tree b.run b.calls c.list_awaited.new.run c.list_awaited.new.calls (paths_in b.news.items) b.out.slots kept.listed
+    let listed = more_listed b.tree b.lists.run b.lists.calls c.list_awaited.new.run c.list_awaited.new.calls (paths_in b.lists.news.items) b.out.slots kept.listed
     (λ p has. c.list_awaited.ensures.run p (c.list_way.ensures.run p has)) (λ p has. c.list_awaited.ensures.calls p (c.list_way.ensures.calls p has)) in
     record {
       nodes = kept.nodes;
       sound = kept.sound;
       at_work = kept.at_work;
       legal = subst (λ s. Legal b.boot c.reserve.new.self.items s) (sym same) (subst (λ es. Legal b.boot es b.tree) (sym c.reserve.ensures.items) kept.legal);
-      listed = subst (λ s. IsListed s c.list_awaited.new.run c.list_awaited.new.calls (paths_in b.news.items) b.out.slots) (sym same) listed;
+      listed = subst (λ s. IsListed s c.list_awaited.new.run c.list_awaited.new.calls (paths_in b.lists.news.items) b.out.slots) (sym same) listed;
       places = omega (arith, places, len, capacity);
       news_places = kept.news_places;
     }
@@ -88,7 +88,7 @@ invariant_of-self-2 c =
     let copied : c.in_ok-copy_path.field-0 ≡ path = c.in_ok-copy_path.ensures in
     let reserved : c.reserve.new.self.items ≡ b.history.items = c.reserve.ensures.items in
     let items = pushed ∙ ap (λ p. c.reserve.new.self.items ++ Met p ∷ []) copied ∙ ap (λ es. es ++ Met path ∷ []) reserved in
-    let listed = more_listed b.tree b.run b.calls c.list_awaited.new.run c.list_awaited.new.calls (paths_in b.news.items) b.out.slots kept.listed
+    let listed = more_listed b.tree b.lists.run b.lists.calls c.list_awaited.new.run c.list_awaited.new.calls (paths_in b.lists.news.items) b.out.slots kept.listed
     (λ p has. c.list_awaited.ensures.run p (c.list_way.ensures.run p has)) (λ p has. c.list_awaited.ensures.calls p (c.list_way.ensures.calls p has)) in
     let now = met_now b.tree c.meet.new.space path c.args.found.call may met in
     record {
@@ -96,8 +96,8 @@ invariant_of-self-2 c =
       sound = kept.sound;
       at_work = kept.at_work;
       legal = subst (λ es. Legal b.boot es c.meet.new.space) (sym items) (met_legal b.boot b.tree c.meet.new.space b.history.items path c.args.found.call kept.legal may met);
-      listed = subst (λ s. IsListed s c.list_awaited.new.run c.list_awaited.new.calls (paths_in b.news.items) b.out.slots) (sym now)
-          (met_listed b.tree sound.0 c.list_awaited.new.run c.list_awaited.new.calls (paths_in b.news.items) b.out.slots q c.args.found.call sound.1.2 listed may
+      listed = subst (λ s. IsListed s c.list_awaited.new.run c.list_awaited.new.calls (paths_in b.lists.news.items) b.out.slots) (sym now)
+          (met_listed b.tree sound.0 c.list_awaited.new.run c.list_awaited.new.calls (paths_in b.lists.news.items) b.out.slots q c.args.found.call sound.1.2 listed may
           (λ p on. c.list_awaited.ensures.run p (way.0 p on)) (λ p on. c.list_awaited.ensures.calls p (way.1 p on)) awaited.0 awaited.1);
       places = omega (arith, room, more, same_room, len, count, jobs);
       news_places = kept.news_places;

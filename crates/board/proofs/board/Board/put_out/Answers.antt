@@ -33,8 +33,8 @@ invariant_of-self-2 c =
     let may : MayBeTaken b.tree b.out.slots c.args.path.items = subst (λ (s : Shown). MayBeTaken s.tree s.out c.args.path.items) (sym c.self.view_is) c.requires in
     let may_out : MayBeTaken b.tree b.out.slots o.path.items = subst (λ (p : ArrayVec ℕ). MayBeTaken b.tree b.out.slots p.items) (sym c.in_ok-copy_path.ensures) may in
     let sets : Sets c.in_ok-slot.slot (Some o) b.out.slots c.put_in.new.out.slots = c.in_ok-slot.ensures.sets in
-    let fewer = λ (q : List ℕ) (other : q ≢ o.path.items) (has : Has b.run q). c.remove.ensures.others q (λ e. other (e ∙ sym (ap (λ (p : ArrayVec ℕ). p.items) c.in_ok-copy_path.ensures))) has in
-    let listed = put_out_listed b.tree b.run c.remove.new.self b.calls (paths_in b.news.items) b.out.slots c.put_in.new.out.slots c.in_ok-slot.slot o kept.listed may_out c.in_ok-slot.ensures.vacant sets fewer in
+    let fewer = λ (q : List ℕ) (other : q ≢ o.path.items) (has : Has b.lists.run q). c.remove.ensures.others q (λ e. other (e ∙ sym (ap (λ (p : ArrayVec ℕ). p.items) c.in_ok-copy_path.ensures))) has in
+    let listed = put_out_listed b.tree b.lists.run c.remove.new.self b.lists.calls (paths_in b.lists.news.items) b.out.slots c.put_in.new.out.slots c.in_ok-slot.slot o kept.listed may_out c.in_ok-slot.ensures.vacant sets fewer in
     let tree = c.in_ok-top.ensures.same in
     let places = c.in_ok-make_places.ensures.places in
     let room = places.0 in
@@ -47,8 +47,8 @@ invariant_of-self-2 c =
       sound = kept.sound;
       at_work = c.put_in.ensures.work;
       legal = subst (λ s. Legal b.boot c.make_places.new.history.items s) (sym tree) (subst (λ es. Legal b.boot es b.tree) (sym c.make_places.ensures.history) kept.legal);
-      listed = subst (λ s. IsListed s c.remove.new.self b.calls (paths_in c.make_places.new.news.items) c.put_in.new.out.slots) (sym tree)
-          (subst (λ ns. IsListed b.tree c.remove.new.self b.calls (paths_in ns) c.put_in.new.out.slots) (sym c.make_places.ensures.news) listed);
+      listed = subst (λ s. IsListed s c.remove.new.self b.lists.calls (paths_in c.make_places.new.news.items) c.put_in.new.out.slots) (sym tree)
+          (subst (λ ns. IsListed b.tree c.remove.new.self b.lists.calls (paths_in ns) c.put_in.new.out.slots) (sym c.make_places.ensures.news) listed);
       places = omega (arith, room, count, jobs, more);
       news_places = omega (arith, news_room, count, jobs, more);
     }

@@ -1,0 +1,40 @@
+ghost use Rattle.std.specs.Prelude.{◌≡◌, ◌<◌, true, IfOk};
+ghost use Rattle.std.specs.Thread.{IsSend};
+ghost use Rattle.space_model.specs.Space.{is_settled};
+ghost use Rattle.space_model.specs.Sound.{IsSound};
+ghost use Rattle.run_model.specs.Demand.{settle_tree};
+ghost use Rattle.det_core.specs.Legal.{Legal};
+ghost use Rattle.board.specs.Turns.{accepted};
+
+use crate::board::Board;
+use crate::closed::Closed;
+use det_host::Gate;
+use std::alloc::AllocError;
+use std::sync::Wait;
+use std::thread::Threads;
+use worker_pool::run_pool;
+
+// That values of a type may be sent to a thread: a fact that the goals behind the call can cite.
+fn may_be_sent<T: Send>()
+    ensures { IsSend T.row }
+{}
+
+/// Runs a board to which nothing was handed in yet by so many workers, 1 to 64, and closes it. `gate` is told of their events. What comes out of the lock is
+/// known by its type: a board whose history leads from the tree that it began with, wherever that is settled, to what that one settles to. That it began
+/// with the board's own tree is for the caller to look at. The one error is want of memory. It may wait for ever, since no clause says that workers come to an end.
+pub fn run_together<R: Threads + Wait + Sync, G: Gate>(
+    rt: &R,
+    board: Board,
+    workers: usize,
+    gate: &G,
+) -> Result<Closed, AllocError>
+    requires new { (accepted board ≡ 0) × (board.owed ≡ 0) }
+    requires some { (0 < workers) × (workers < 65) }
+    ensures legal { IfOk result (λ c. IsSound c.boot × Legal c.boot c.history.items c.tree) }
+    ensures end { IfOk result (λ c. is_settled c.tree ≡ true → c.tree ≡ settle_tree c.boot) }
+{
+    may_be_sent::<Board>();
+    let alloc = board.alloc;
+    let (board, _) = run_pool(rt, alloc, board, workers, gate)?;
+    Ok(board.close())
+}
