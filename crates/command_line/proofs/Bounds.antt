@@ -8,7 +8,7 @@ use Rattle.clap.specs.ValueTests.{accepts}
 use Rattle.clap.specs.declared.builder.value_parser.ValueParser.TheVariants as vp
 use Rattle.clap.proofs.ValueTestLemmas.{accepts-Accepts}
 use Rattle.command_line.specs.declared.command.Command.{Command}
-use Rattle.command_line.specs.Line.{Engine, IsInRange, asm, asm_line, bench_line, bench_with, Line, command_line, engine_in, fuel_of, greatest_number, line_of, number_in, run_by, run_line, run_with, seed_of, walk_line}
+use Rattle.command_line.specs.Line.{Engine, IsInRange, IsStaffed, asm, asm_line, bench_line, bench_with, Line, command_line, demand, engine_in, engine_named, engine_with, fuel_of, greatest_number, line_of, most_workers, number_in, pool, rounds, run_by, run_line, run_with, schedule, seed_of, walk_line, workers_of}
 
 pub number_bounds : (low high : ℕ) (t : List ℕ) (n : ℕ) → number_in low high t ≡ Some n → (low ≤ n) × (n ≤ high)
 unfolding number_in
@@ -32,40 +32,61 @@ AllInRange o = IfSome o IsInRange
 abbrev IsFuel : Option ℕ → Type 0
 IsFuel fuel = (n : ℕ) → fuel ≡ Some n → (1 ≤ n) × (n ≤ greatest_number)
 
-run_in_range : (fuel : Option ℕ) (digest : Bool) (engine : Option Engine) (image script : Option Text) → IsFuel fuel → AllInRange (run_with fuel digest engine image script)
-run_in_range (Some n) d (Some e) (Some i) (Some s) h =
+run_in_range : (fuel : Option ℕ) (digest : Bool) (engine : Option Engine) (image script : Option Text) → IsFuel fuel → IfSome engine IsStaffed → AllInRange (run_with fuel digest engine image script)
+run_in_range (Some n) d (Some e) (Some i) (Some s) h g =
     let b = h n refl in
-    (b.0, omega arith)
-run_in_range (Some n) d (Some e) (Some i) None h = tt
-run_in_range (Some n) d (Some e) None s h = tt
-run_in_range (Some n) d None i s h = tt
-run_in_range None d e i s h = tt
+    (b.0, omega arith, g)
+run_in_range (Some n) d (Some e) (Some i) None h g = tt
+run_in_range (Some n) d (Some e) None s h g = tt
+run_in_range (Some n) d None i s h g = tt
+run_in_range None d e i s h g = tt
 
-bench_in_range : (engine : Option Engine) (seed : Option ℕ) → ((n : ℕ) → seed ≡ Some n → (0 ≤ n) × (n ≤ greatest_number)) → AllInRange (bench_with engine seed)
-bench_in_range None seed h = tt
-bench_in_range (Some e) None h = tt
-bench_in_range (Some e) (Some n) h =
+bench_in_range : (engine : Option Engine) (seed : Option ℕ) → ((n : ℕ) → seed ≡ Some n → (0 ≤ n) × (n ≤ greatest_number)) → IfSome engine IsStaffed → AllInRange (bench_with engine seed)
+bench_in_range None seed h g = tt
+bench_in_range (Some e) None h g = tt
+bench_in_range (Some e) (Some n) h g =
     let b = h n refl in
-    omega arith
+    (omega arith, g)
+
+-- the number of workers of an engine that has a name
+staffed_if : (b : Bool) (e : Engine) (o : Option Engine) → IsStaffed e → IfSome o IsStaffed → IfSome (cond b (Some e) o) IsStaffed
+staffed_if true e o h k = h
+staffed_if false e o h k = k
+
+named_staffed : (n : ℕ) (t : Text) → (1 ≤ n) × (n ≤ most_workers) → IfSome (engine_named n t) IsStaffed
+named_staffed n t h =
+    staffed_if (bytes_eq t (codes "demand")) demand _ tt (staffed_if (bytes_eq t (codes "rounds")) rounds _ tt (staffed_if (bytes_eq t (codes "pool")) (pool n) None h tt))
+
+with_staffed : (workers : Option ℕ) (name : Option Text) → ((n : ℕ) → workers ≡ Some n → (1 ≤ n) × (n ≤ most_workers)) → IfSome (engine_with workers name) IsStaffed
+with_staffed None name h = tt
+with_staffed (Some n) None h = tt
+with_staffed (Some n) (Some t) h = named_staffed n t (h n refl)
+
+in_staffed : (rows : List Row) → IfSome (engine_in rows) IsStaffed
+in_staffed rows = with_staffed (workers_of rows) (first_of (codes "engine") rows) (number_of_bounds 1 most_workers (one_of (codes "workers") rows))
+
+schedule_staffed : (name : Option Text) → IfSome (option_map (λ n. schedule n) name) IsStaffed
+schedule_staffed None = tt
+schedule_staffed (Some t) = tt
 
 asm_in_range : (o : Option Text) → AllInRange (option_map asm o)
 asm_in_range None = tt
 asm_in_range (Some t) = tt
 
-run_by_in_range : (digest : Bool) (engine : Option Engine) (rows : List Row) → AllInRange (run_by digest engine rows)
+run_by_in_range : (digest : Bool) (engine : Option Engine) (rows : List Row) → IfSome engine IsStaffed → AllInRange (run_by digest engine rows)
 unfolding run_by
-run_by_in_range digest engine rows = run_in_range (fuel_of rows) digest engine (first_of (codes "image") rows) (first_of (codes "script") rows) (number_of_bounds 1 greatest_number (one_of (codes "limit") rows))
+run_by_in_range digest engine rows staffed = run_in_range (fuel_of rows) digest engine (first_of (codes "image") rows) (first_of (codes "script") rows) (number_of_bounds 1 greatest_number (one_of (codes "limit") rows)) staffed
 
 line_of_run : (rows : List Row) → AllInRange (run_line rows)
 unfolding run_line
-line_of_run rows = run_by_in_range _ _ rows
+line_of_run rows = run_by_in_range _ _ rows (in_staffed rows)
 
 line_of_walk : (rows : List Row) → AllInRange (walk_line rows)
 unfolding walk_line
-line_of_walk rows = run_by_in_range _ _ rows
+line_of_walk rows = run_by_in_range _ _ rows (schedule_staffed (first_of (codes "schedule") rows))
 
 line_of_bench : (rows : List Row) → AllInRange (bench_line rows)
-line_of_bench rows = bench_in_range (engine_in rows) (seed_of rows) (number_of_bounds 0 greatest_number (one_of (codes "seed") rows))
+line_of_bench rows = bench_in_range (engine_in rows) (seed_of rows) (number_of_bounds 0 greatest_number (one_of (codes "seed") rows)) (in_staffed rows)
 
 chosen : (b : Bool) (o p : Option Line) → AllInRange o → AllInRange p → AllInRange (cond b o p)
 chosen true o p h k = h

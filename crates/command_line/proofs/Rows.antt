@@ -2,7 +2,7 @@
 use Rattle.std.proofs.Common.{◌≡◌, refl, ℕ, Bool, true, false, List, [], ◌∷◌, Some, None, codes}
 use Rattle.clap.specs.Words.{Text}
 use Rattle.clap.proofs.OnLiterals.{clap_on_literals}
-use Rattle.command_line.specs.Line.{Engine, Line, asm, asm_app, bench, bench_app, demand, files_of, line, number_in, program_app, run, run_app, run_by, rounds, run_line, schedule, walk_app, walk_line}
+use Rattle.command_line.specs.Line.{Engine, Line, asm, asm_app, bench, bench_app, demand, files_of, line, number_in, pool, program_app, run, run_app, run_by, rounds, run_line, schedule, walk_app, walk_line}
 
 -- a run, by its parts
 abbrev runs : ℕ → Bool → Engine → Text → Text → Line
@@ -92,7 +92,7 @@ pub engine_of_no_word : line (run_words (codes "--engine" ∷ codes "demand" ∷
 unfolding clap_on_literals line program_app run_app walk_app asm_app bench_app run_line walk_line run_by number_in
 engine_of_no_word = refl
 
-pub unknown_engine : line (run_words (codes "--engine" ∷ codes "pool" ∷ codes "I" ∷ codes "S" ∷ [])) ≡ None
+pub unknown_engine : line (run_words (codes "--engine" ∷ codes "seats" ∷ codes "I" ∷ codes "S" ∷ [])) ≡ None
 unfolding clap_on_literals line program_app run_app walk_app asm_app bench_app run_line walk_line run_by number_in
 unknown_engine = refl
 
@@ -116,9 +116,41 @@ pub engine_cut_short : line (run_words (codes "--eng" ∷ codes "rounds" ∷ cod
 unfolding clap_on_literals line program_app run_app walk_app asm_app bench_app run_line walk_line run_by number_in
 engine_cut_short = refl
 
-pub workers : line (run_words (codes "--engine" ∷ codes "rounds" ∷ codes "--workers" ∷ codes "2" ∷ codes "I" ∷ codes "S" ∷ [])) ≡ None
+pub four_workers : line (run_words (codes "--engine" ∷ codes "pool" ∷ codes "I" ∷ codes "S" ∷ [])) ≡ Some (runs 1000000 false (pool 4) (codes "I") (codes "S"))
 unfolding clap_on_literals line program_app run_app walk_app asm_app bench_app run_line walk_line run_by number_in
-workers = refl
+four_workers = refl
+
+pub most_workers_taken : line (run_words (codes "--workers" ∷ codes "64" ∷ codes "--engine" ∷ codes "pool" ∷ codes "I" ∷ codes "S" ∷ [])) ≡ Some (runs 1000000 false (pool 64) (codes "I") (codes "S"))
+unfolding clap_on_literals line program_app run_app walk_app asm_app bench_app run_line walk_line run_by number_in
+most_workers_taken = refl
+
+pub workers_behind_names : line (run_words (codes "I" ∷ codes "S" ∷ codes "--engine=pool" ∷ codes "--workers=+5" ∷ codes "--digest" ∷ [])) ≡ Some (runs 1000000 true (pool 5) (codes "I") (codes "S"))
+unfolding clap_on_literals line program_app run_app walk_app asm_app bench_app run_line walk_line run_by number_in
+workers_behind_names = refl
+
+pub workers_of_rounds : line (run_words (codes "--engine" ∷ codes "rounds" ∷ codes "--workers" ∷ codes "2" ∷ codes "I" ∷ codes "S" ∷ [])) ≡ Some (runs 1000000 false rounds (codes "I") (codes "S"))
+unfolding clap_on_literals line program_app run_app walk_app asm_app bench_app run_line walk_line run_by number_in
+workers_of_rounds = refl
+
+pub workers_of_no_engine : line (run_words (codes "--workers" ∷ codes "2" ∷ codes "I" ∷ codes "S" ∷ [])) ≡ Some (runs 1000000 false demand (codes "I") (codes "S"))
+unfolding clap_on_literals line program_app run_app walk_app asm_app bench_app run_line walk_line run_by number_in
+workers_of_no_engine = refl
+
+pub no_workers : line (run_words (codes "--engine" ∷ codes "pool" ∷ codes "--workers" ∷ codes "0" ∷ codes "I" ∷ codes "S" ∷ [])) ≡ None
+unfolding clap_on_literals line program_app run_app walk_app asm_app bench_app run_line walk_line run_by number_in
+no_workers = refl
+
+pub too_many_workers : line (run_words (codes "--workers" ∷ codes "65" ∷ codes "I" ∷ codes "S" ∷ [])) ≡ None
+unfolding clap_on_literals line program_app run_app walk_app asm_app bench_app run_line walk_line run_by number_in
+too_many_workers = refl
+
+pub workers_given_again : line (run_words (codes "--workers" ∷ codes "2" ∷ codes "--workers" ∷ codes "2" ∷ codes "I" ∷ codes "S" ∷ [])) ≡ None
+unfolding clap_on_literals line program_app run_app walk_app asm_app bench_app run_line walk_line run_by number_in
+workers_given_again = refl
+
+pub nodes : line (run_words (codes "--engine" ∷ codes "pool" ∷ codes "--nodes" ∷ codes "2" ∷ codes "I" ∷ codes "S" ∷ [])) ≡ None
+unfolding clap_on_literals line program_app run_app walk_app asm_app bench_app run_line walk_line run_by number_in
+nodes = refl
 
 pub program_alone : line (codes "det" ∷ []) ≡ None
 unfolding clap_on_literals line program_app run_app walk_app asm_app bench_app run_line walk_line run_by number_in
@@ -208,6 +240,10 @@ pub bench_on_rounds : line (bench_words (codes "--engine" ∷ codes "rounds" ∷
 unfolding clap_on_literals line program_app run_app walk_app asm_app bench_app run_line walk_line run_by number_in
 bench_on_rounds = refl
 
+pub bench_on_a_pool : line (bench_words (codes "1" ∷ codes "--engine" ∷ codes "pool" ∷ codes "--workers" ∷ codes "8" ∷ [])) ≡ Some (bench (pool 8) 1)
+unfolding clap_on_literals line program_app run_app walk_app asm_app bench_app run_line walk_line run_by number_in
+bench_on_a_pool = refl
+
 pub bench_on_no_engine : line (bench_words (codes "1" ∷ codes "--engine=seats" ∷ [])) ≡ None
 unfolding clap_on_literals line program_app run_app walk_app asm_app bench_app run_line walk_line run_by number_in
 bench_on_no_engine = refl
@@ -215,6 +251,14 @@ bench_on_no_engine = refl
 pub walk_on_rounds : line (walk_words (codes "--engine" ∷ codes "rounds" ∷ codes "I" ∷ codes "S" ∷ codes "T" ∷ [])) ≡ None
 unfolding clap_on_literals line program_app run_app walk_app asm_app bench_app run_line walk_line run_by number_in
 walk_on_rounds = refl
+
+pub walk_with_workers : line (walk_words (codes "--workers" ∷ codes "2" ∷ codes "I" ∷ codes "S" ∷ codes "T" ∷ [])) ≡ None
+unfolding clap_on_literals line program_app run_app walk_app asm_app bench_app run_line walk_line run_by number_in
+walk_with_workers = refl
+
+pub asm_with_workers : line (codes "det" ∷ codes "asm" ∷ codes "--workers" ∷ codes "2" ∷ codes "A" ∷ []) ≡ None
+unfolding clap_on_literals line program_app run_app walk_app asm_app bench_app run_line walk_line run_by number_in
+asm_with_workers = refl
 
 pub two_seeds : line (bench_words (codes "1" ∷ codes "2" ∷ [])) ≡ None
 unfolding clap_on_literals line program_app run_app walk_app asm_app bench_app run_line walk_line run_by number_in
@@ -225,6 +269,9 @@ run_files = refl
 
 pub run_files_of_rounds : files_of (runs 2 false rounds (codes "I") (codes "S")) ≡ codes "I" ∷ codes "S" ∷ []
 run_files_of_rounds = refl
+
+pub run_files_of_a_pool : files_of (runs 2 false (pool 3) (codes "I") (codes "S")) ≡ codes "I" ∷ codes "S" ∷ []
+run_files_of_a_pool = refl
 
 pub walk_files : files_of (runs 2 false (schedule (codes "T")) (codes "I") (codes "S")) ≡ codes "I" ∷ codes "S" ∷ codes "T" ∷ []
 walk_files = refl

@@ -1,7 +1,7 @@
 //! The commands as `clap` reads them.
 
 ghost use Rattle.std.specs.Prelude.{IfOk};
-ghost use Rattle.command_line.specs.Line.{IsApp, IsRule, asm_app, bench_app, engine_rule, fuel_rule, program_app, run_app, seed_rule, walk_app};
+ghost use Rattle.command_line.specs.Line.{IsApp, IsRule, asm_app, bench_app, engine_rule, fuel_rule, program_app, run_app, seed_rule, walk_app, workers_rule};
 ghost use Rattle.command_line.specs.Line.{required_rule, flag as flag_rule, number as number_rule, required_number as required_number_rule};
 
 use clap::builder::ValueParser;
@@ -13,6 +13,9 @@ pub(crate) const GREATEST_FUEL: u32 = 4_294_967_295;
 
 /// The greatest seed: 2^32 - 1.
 pub(crate) const GREATEST_SEED: u32 = 4_294_967_295;
+
+/// The most workers that a pool may have.
+pub(crate) const MOST_WORKERS: u32 = 64;
 
 fn number<'a>(alloc: Global, id: &'a str, low: u64, high: u64, value: &'a str) -> Arg<'a>
     ensures { IsRule result (number_rule id.entry.now low high value.entry.now) }
@@ -56,6 +59,13 @@ fn engine_argument<'a>(alloc: Global) -> Arg<'a>
         .default_value("demand")
 }
 
+// `clap` reads it whatever the engine.
+fn workers_argument<'a>(alloc: Global) -> Arg<'a>
+    ensures { IsRule result workers_rule }
+{
+    number(alloc, "workers", 1, u64::from(MOST_WORKERS), "4")
+}
+
 fn seed_argument<'a>(alloc: Global) -> Arg<'a>
     ensures { IsRule result seed_rule }
 {
@@ -66,12 +76,14 @@ fn run_command<'a>(alloc: Global) -> Result<Command<'a>, AllocError>
     ensures { IfOk result (λ c. IsApp c run_app) }
 {
     let engine = engine_argument(alloc);
+    let workers = workers_argument(alloc);
     let fuel = fuel_argument(alloc);
     let digest = flag(alloc, "digest");
     let image = required_argument(alloc, "image");
     let script = required_argument(alloc, "script");
     Command::new(alloc, "run")
         .arg(engine)?
+        .arg(workers)?
         .arg(fuel)?
         .arg(digest)?
         .arg(image)?
@@ -103,8 +115,12 @@ fn bench_command<'a>(alloc: Global) -> Result<Command<'a>, AllocError>
     ensures { IfOk result (λ c. IsApp c bench_app) }
 {
     let engine = engine_argument(alloc);
+    let workers = workers_argument(alloc);
     let seed = seed_argument(alloc);
-    Command::new(alloc, "bench").arg(engine)?.arg(seed)
+    Command::new(alloc, "bench")
+        .arg(engine)?
+        .arg(workers)?
+        .arg(seed)
 }
 
 /// The program's command, one of whose subcommands has to be named.

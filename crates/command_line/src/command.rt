@@ -39,6 +39,11 @@ pub enum Engine<'a> {
     Demand,
     /// All spaces that can go on run side by side, round by round: `--engine rounds`.
     Rounds,
+    /// Workers in threads of their own take whichever space can go on, as they come: `--engine pool`.
+    Pool {
+        /// How many workers there are: from 1 to 64, or 4 where `--workers` is not given.
+        workers: u32,
+    },
     /// First the events of a schedule, by the schedule's file name, and then whatever is left to run: the word `walk`.
     Schedule(&'a str),
 }

@@ -219,6 +219,22 @@ pub by_engine : {V : Type 0} (a b : Engine) (shows : V → Expectation) (whole :
     → Reads shows (engine_steps b) whole i r → Reads shows (engine_steps a) whole i r
 by_engine a b shows whole i r same h = subst (λ (x : Engine). Reads shows (engine_steps x) whole i r) (sym same) h
 
+-- an engine that has no files has read them
+pub none_to_read : {V : Type 0} (shows : V → Expectation) (whole : List (List ℕ) → Option Expectation) (i : Input) (v : V) → whole [] ≡ Some (shows v) → IsDone (shows v).end
+    → i.asked_after ≡ i.asked_before → Reads shows [] whole i (Ok v)
+none_to_read shows whole i v made done unasked = record {
+  contents = [];
+  files = record {
+    as_told = none_told [] i.told;
+    count = 0;
+    asked = unasked ∙ sym (append-nil i.asked_before);
+    least = omega arith;
+    most = omega arith;
+    in_order = λ j lt. absurd (omega arith);
+  };
+  gives = subst (λ (o : Option Expectation). GivesExpectation shows o i (Ok v)) (sym made) (refl, done);
+}
+
 -- what files make that are not refused
 pub run_made : (fuel : ℕ) (digest : Bool) (p : Result Image End) (q : Result Devices End) (i : Image) (d : Devices) → p ≡ Ok i → q ≡ Ok d → expectation_of_run fuel digest p q ≡ Some (run_shows fuel digest i d)
 run_made fuel digest p q i d image devices =

@@ -3,15 +3,16 @@ ghost use Rattle.bench_model.specs.Generated.{generated};
 ghost use Rattle.report_model.specs.Summary.{summary};
 ghost use Rattle.script_model.specs.Script.{devices_from};
 ghost use Rattle.command_line.specs.Line as line;
-ghost use Rattle.command_line.specs.Line.{engine_of};
+ghost use Rattle.command_line.specs.Line.{engine_of, IsStaffed};
 ghost use Rattle.det_cli.specs.declared.limits.TheConstants.{BENCH_FUEL};
 ghost use Rattle.det_cli.specs.Commands.{expectation_of_bench, settled_root};
 ghost use Rattle.det_cli.specs.Files.{input_of};
 ghost use Rattle.det_cli.specs.Writing.{IsUntouched, Output, output_of};
 ghost use Rattle.det_cli.specs.Answers.{Course, Writes};
+ghost use Rattle.det_cli.specs.Ending.{BringsToEnds};
 
 use crate::end::End;
-use crate::evaluating::{Plan, read_plan};
+use crate::evaluating::{Booted, Plan, read_plan};
 use crate::limits::BENCH_FUEL;
 use crate::running::{settled_root, write_end};
 use crate::writing::write_all;
@@ -20,8 +21,8 @@ use det_host::{Loader, Sink};
 use det_report::summary;
 use dev_script::Devices;
 use rv_asm::generated;
+use space_tree::Space;
 use std::alloc::{AllocError, Global};
-use std::thread::Threads;
 
 // The devices of an empty script.
 fn no_script(alloc: Global) -> Devices
@@ -31,32 +32,34 @@ fn no_script(alloc: Global) -> Devices
 }
 
 // The summary of a generated image that has run on an empty script.
-fn summary_of(
-    rt: &(impl Threads + Sync),
+fn summary_of<F: Fn(Booted) -> Result<Space, AllocError>>(
+    settle: &F,
     alloc: Global,
-    plan: &Plan,
+    plan: Plan,
     seed: u32,
 ) -> Result<Vec<u8>, AllocError>
+    requires settles { BringsToEnds (F.pre settle.now) (F.post settle.now) }
     ensures { IfOk result (λ v. v.items ≡ summary (settled_root (generated seed) (devices_from []) BENCH_FUEL)) }
 {
     let image = generated(alloc, seed)?;
-    let root = settled_root(rt, alloc, &image, no_script(alloc), plan, BENCH_FUEL)?;
+    let root = settled_root(settle, alloc, &image, no_script(alloc), plan, BENCH_FUEL)?;
     summary(alloc, &root)
 }
 
 // Makes an image from a number, runs it by a plan, and writes its summary.
-fn sum_up<R: Threads + Sync, O: Sink>(
-    rt: &R,
+fn sum_up<F: Fn(Booted) -> Result<Space, AllocError>, O: Sink>(
+    settle: &F,
     alloc: Global,
-    plan: &Plan,
+    plan: Plan,
     seed: u32,
     out: &mut O,
 ) -> End
+    requires settles { BringsToEnds (F.pre settle.now) (F.post settle.now) }
     ensures writes { (err : Output) → IsUntouched err
         → Writes (expectation_of_bench seed) (output_of O.taken O.faults out.old out.new) err result }
     ensures out_later { O.faults out.old ≤ O.faults out.new }
 {
-    let Ok(text) = summary_of(rt, alloc, plan, seed) else {
+    let Ok(text) = summary_of(settle, alloc, plan, seed) else {
         return End::NoMemory;
     };
     match write_all(out, &text) {
@@ -66,14 +69,16 @@ fn sum_up<R: Threads + Sync, O: Sink>(
 }
 
 /// Makes an image from a number, runs it by an engine, and writes its summary.
-pub(crate) fn bench<R: Threads + Sync, L: Loader, O: Sink>(
-    rt: &R,
+pub(crate) fn bench<F: Fn(Booted) -> Result<Space, AllocError>, L: Loader, O: Sink>(
+    settle: &F,
     alloc: Global,
     engine: Engine<'_>,
     seed: u32,
     files: &mut L,
     out: &mut O,
 ) -> End
+    requires staffed { IsStaffed (engine_of engine) }
+    requires settles { BringsToEnds (F.pre settle.now) (F.post settle.now) }
     ensures course { (err : Output) → IsUntouched err → Course (line.bench (engine_of engine.entry) seed)
         (input_of L.told L.asked L.faults files.old files.new)
         (output_of O.taken O.faults out.old out.new) err result }
@@ -81,7 +86,7 @@ pub(crate) fn bench<R: Threads + Sync, L: Loader, O: Sink>(
     ensures out_later { O.faults out.old ≤ O.faults out.new }
 {
     match read_plan(alloc, files, engine) {
-        Ok(plan) => sum_up(rt, alloc, &plan, seed, out),
+        Ok(plan) => sum_up(settle, alloc, plan, seed, out),
         Err(end) => end,
     }
 }

@@ -2,15 +2,17 @@ ghost use Rattle.std.specs.Prelude.{◌≡◌, ◌≤◌, ℕ, List, Option, Som
 ghost use Rattle.space_model.specs.Space.{is_settled};
 ghost use Rattle.space_model.specs.Sound.{IsSound};
 ghost use Rattle.run_model.specs.Demand.{settle_tree};
-ghost use Rattle.command_line.specs.Line.{engine_of};
+ghost use Rattle.command_line.specs.Line.{engine_of, IsStaffed};
 ghost use Rattle.det_cli.specs.Files.{Expectation, input_of};
 ghost use Rattle.det_cli.specs.Commands.{engine_steps};
 ghost use Rattle.det_cli.specs.Status.{IsDone};
 ghost use Rattle.det_cli.specs.Stages.{Reads};
+ghost use Rattle.det_cli.specs.Ending.{Ends};
 
 use crate::end::End;
 use crate::limits::QUANTUM;
 use crate::reading::load_as;
+use crate::staff::{Staff, staff_of};
 use command_line::Engine;
 use demand_eval::settle;
 use det_core::walk;
@@ -27,6 +29,8 @@ pub(crate) enum Plan {
     Demand,
     /// All spaces that can go on run side by side, round by round.
     Rounds,
+    /// Workers take whichever space can go on, as they come.
+    Pool(Staff),
     /// First the events at these paths, and then whatever is left to run.
     Schedule(Vec<Path>),
 }
@@ -37,6 +41,7 @@ pub(crate) fn read_plan<L: Loader>(
     files: &mut L,
     engine: Engine<'_>,
 ) -> Result<Plan, End>
+    requires { IsStaffed (engine_of engine) }
     // Whatever a command makes, these files do not change it.
     ensures reads { (whole : List (List ℕ) → Option Expectation) (e : Expectation) → ((rest : List (List ℕ)) → whole rest ≡ Some e) → IsDone e.end
         → Reads (λ plan. e) (engine_steps (engine_of engine.entry)) whole (input_of L.told L.asked L.faults files.old files.new) result }
@@ -45,6 +50,7 @@ pub(crate) fn read_plan<L: Loader>(
     match engine {
         Engine::Demand => Ok(Plan::Demand),
         Engine::Rounds => Ok(Plan::Rounds),
+        Engine::Pool { workers } => Ok(Plan::Pool(staff_of(workers))),
         Engine::Schedule(name) => {
             let paths = load_as::<L, Vec<Path>>(alloc, files, name)?;
             Ok(Plan::Schedule(paths))
@@ -62,21 +68,28 @@ fn walk_and_settle(alloc: Global, paths: &[Path], root: Space) -> Result<Space, 
     settle(alloc, walked)
 }
 
-/// What a root settles to, in the order of a plan, which does not change it: by rounds on all processors, else on this thread. The one error is
-/// want of memory.
-pub(crate) fn evaluate(
+/// A root that is to be brought to its end, and the plan by which.
+#[derive(Drop)]
+pub(crate) struct Booted {
+    pub(crate) root: Space,
+    pub(crate) plan: Plan,
+}
+
+/// Brings a root to its end: on all processors where the plan is of rounds, and else on this thread, a plan of workers too, which is then done on demand. It
+/// waits for no other thread but those that it has started and that have all they need to end: so it returns, whatever the plan. The one error is want of
+/// memory.
+pub(crate) fn settle_still(
     rt: &(impl Threads + Sync),
     alloc: Global,
-    plan: &Plan,
-    root: Space,
+    booted: Booted,
 ) -> Result<Space, AllocError>
-    requires { IsSound root }
-    ensures meaning { IfOk result (λ s. s ≡ settle_tree root) }
-    ensures settled { IfOk result (λ s. is_settled s ≡ true) }
+    requires { IsSound booted.root }
+    ensures { Ends booted.root result }
 {
+    let Booted { root, plan } = booted;
     match plan {
-        Plan::Demand => settle(alloc, root),
+        Plan::Demand | Plan::Pool(_) => settle(alloc, root),
         Plan::Rounds => rounds(rt, alloc, root, QUANTUM),
-        Plan::Schedule(paths) => walk_and_settle(alloc, paths, root),
+        Plan::Schedule(paths) => walk_and_settle(alloc, &paths, root),
     }
 }

@@ -9,12 +9,14 @@ mod fault_line;
 mod formats;
 mod limits;
 mod main_call;
+mod pooling;
 mod program;
 mod reading;
 mod running;
+mod staff;
 mod writing;
 
 pub use end::{End, status};
 pub use fault_line::write_fault;
-pub use main_call::det_main;
+pub use main_call::{det_main, det_still};
 pub use program::{Exit, det_program};

@@ -9,6 +9,7 @@ use crate::fault_line::write_fault;
 use crate::main_call::det_main;
 use det_host::{Gate, Loader, Sink, SinkError};
 use std::alloc::Global;
+use std::sync::Wait;
 use std::thread::Threads;
 
 /// How the program ended, and the status that it ends with.
@@ -30,8 +31,8 @@ fn say<E: Sink>(alloc: Global, ended: End, err: &mut E) -> End
     }
 }
 
-/// Does all that the program does: what `det_main` does, and then the line that names a fault's cause.
-pub fn det_program<R: AllocGlobal + Threads + Sync, L: Loader, O: Sink, E: Sink, G: Gate>(
+/// Does all that the program does: what `det_main` does, and then the line that names a fault's cause. As that it returns on each line but those of a pool.
+pub fn det_program<R: AllocGlobal + Threads + Wait + Sync, L: Loader, O: Sink, E: Sink, G: Gate>(
     rt: &R,
     words: &[String],
     files: &mut L,

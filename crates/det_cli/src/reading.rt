@@ -1,6 +1,6 @@
 ghost use Rattle.std.specs.Prelude.{◌≡◌, ◌≤◌, ◌<◌, ◌^◌, List, ℕ};
 ghost use Rattle.command_line.specs.Line as line;
-ghost use Rattle.command_line.specs.Line.{run_of};
+ghost use Rattle.command_line.specs.Line.{engine_of, run_of, IsStaffed};
 ghost use Rattle.det_cli.specs.Files.{input_of};
 ghost use Rattle.det_cli.specs.Commands.{run_shows, steps_of, whole_of};
 ghost use Rattle.det_cli.specs.Stages.{LoadsFile, Reads, ReadsFile};
@@ -53,6 +53,7 @@ pub(crate) fn read_run<L: Loader>(
     files: &mut L,
     run: &Run<'_>,
 ) -> Result<(Image, Devices, Plan), End>
+    requires { IsStaffed (engine_of run.now.engine) }
     ensures reads { Reads (λ x. run_shows run.now.fuel run.now.digest x.0 x.1)
         (steps_of (line.run (run_of run.now))) (whole_of (line.run (run_of run.now)))
         (input_of L.told L.asked L.faults files.old files.new) result }

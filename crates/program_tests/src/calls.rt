@@ -2,6 +2,7 @@ use det_cli::{End, Exit, det_program, status};
 use det_host::{LoadError, Loader, MemLoader, MemSink, OpenGate};
 use std::alloc::{AllocError, Global};
 use std::process::Abort;
+use std::sync::Wait;
 use std::test::*;
 use std::thread::Threads;
 
@@ -103,7 +104,7 @@ fn assert_row(rt: &impl Abort, row: &Row<'_>, exit: &Exit, out: &[u8], err: &[u8
 }
 
 // Calls the program, asserts what the row says, and gives the loader back.
-fn called<R: AllocGlobal + Abort + Threads + Sync>(
+fn called<R: AllocGlobal + Abort + Threads + Wait + Sync>(
     rt: &R,
     row: &Row<'_>,
 ) -> Result<MemLoader, AllocError> {
@@ -118,7 +119,7 @@ fn called<R: AllocGlobal + Abort + Threads + Sync>(
 }
 
 /// Calls the program, and asserts what the row says.
-pub(crate) fn check<R: AllocGlobal + Abort + Threads + Sync>(rt: &R, row: &Row<'_>) {
+pub(crate) fn check<R: AllocGlobal + Abort + Threads + Wait + Sync>(rt: &R, row: &Row<'_>) {
     match called(rt, row) {
         Ok(_) => {}
         Err(_) => panic!(rt; "no memory"),
@@ -127,7 +128,7 @@ pub(crate) fn check<R: AllocGlobal + Abort + Threads + Sync>(rt: &R, row: &Row<'
 
 /// The same, where the load of number `next` would fail. The first load after the call fails, so the call has asked for just the files
 /// before it.
-pub(crate) fn check_loads<R: AllocGlobal + Abort + Threads + Sync>(
+pub(crate) fn check_loads<R: AllocGlobal + Abort + Threads + Wait + Sync>(
     rt: &R,
     row: &Row<'_>,
     next: u64,

@@ -12,6 +12,7 @@ use image_file::{ImageError, ImageErrorKind};
 use rv_asm::{AsmError, AsmErrorKind};
 use std::alloc::AllocError;
 use std::process::Abort;
+use std::sync::Wait;
 use std::test::*;
 use std::thread::Threads;
 
@@ -19,12 +20,14 @@ const RUN: &str = "det run image script";
 
 const ROUNDS: &str = "det run --engine rounds image script";
 
+const POOL: &str = "det run --engine pool image script";
+
 const WALK: &str = "det walk image script schedule";
 
 const ASM: &str = "det asm image";
 
 // Words that are no command; nothing is loaded.
-fn one_of_words<R: AllocGlobal + Abort + Threads + Sync>(rt: &R, words: &str) {
+fn one_of_words<R: AllocGlobal + Abort + Threads + Wait + Sync>(rt: &R, words: &str) {
     let line = "det: usage: run|walk|asm|bench\n";
     check_loads(rt, &plain(words, &WRITE_TWO, End::Usage, b"", line), 1);
 }
@@ -36,7 +39,8 @@ fn words_that_are_refused_load_nothing(rt: HostRuntime) -> Result<(), Fail> {
     one_of_words(&rt, "det walk image script");
     one_of_words(&rt, "det asm image script");
     one_of_words(&rt, "det bench x");
-    one_of_words(&rt, "det run --engine pool image script");
+    one_of_words(&rt, "det run --engine seats image script");
+    one_of_words(&rt, "det run --engine pool --workers 65 image script");
     Ok(())
 }
 
@@ -47,13 +51,14 @@ fn commands_load_their_files(rt: HostRuntime) -> Result<(), Fail> {
     check_loads(&rt, &plain(ASM, SOURCE, End::Ret, &RETURN_SEVEN, ""), 2);
     check_loads(&rt, &plain("det bench 0", b"", End::Ret, SUMMARY, ""), 1);
     check_loads(&rt, &plain(ROUNDS, &WRITE_TWO, End::Ret, b"AB", REPORT), 3);
+    check_loads(&rt, &plain(POOL, &WRITE_TWO, End::Ret, b"AB", REPORT), 3);
     let words = "det bench --engine rounds 0";
     check_loads(&rt, &plain(words, b"", End::Ret, SUMMARY, ""), 1);
     Ok(())
 }
 
 // A walk by files of which one is refused; `next` is the load that is not made any more.
-fn one_of_files<R: AllocGlobal + Abort + Threads + Sync>(
+fn one_of_files<R: AllocGlobal + Abort + Threads + Wait + Sync>(
     rt: &R,
     files: [&[u8]; 3],
     next: u64,
@@ -89,7 +94,9 @@ fn a_file_that_is_refused_is_the_last(rt: HostRuntime) -> Result<(), Fail> {
 }
 
 // The end of a call of `det_main` on a source that is refused, and how many bytes its sinks have taken.
-fn main_called<R: AllocGlobal + Threads + Sync>(rt: &R) -> Result<(End, usize, usize), AllocError> {
+fn main_called<R: AllocGlobal + Threads + Wait + Sync>(
+    rt: &R,
+) -> Result<(End, usize, usize), AllocError> {
     let alloc = rt.alloc();
     let words = words_of(alloc, ASM)?;
     let mut files = files_of(alloc, &plain(ASM, b"no", End::Ret, b"", ""))?;

@@ -4,6 +4,7 @@ use crate::calls::{REPORT, RETURN_SEVEN, Row, SOURCE, SUMMARY, WRITE_TWO, check,
 use det_cli::{End, write_fault};
 use det_host::SureSink;
 use std::process::Abort;
+use std::sync::Wait;
 use std::test::*;
 use std::thread::Threads;
 
@@ -18,7 +19,7 @@ const BENCH: &str = "det bench 0";
 const WRITE_FAULT: &str = "det: write fault\n";
 
 // A call whose sinks take at most so many bytes a call, and in which these calls of `out` fail.
-fn one_of_outs<R: AllocGlobal + Abort + Threads + Sync>(
+fn one_of_outs<R: AllocGlobal + Abort + Threads + Wait + Sync>(
     rt: &R,
     call: (&str, &[u8]),
     most: usize,
@@ -65,7 +66,7 @@ fn a_report_that_fails(rt: HostRuntime) -> Result<(), Fail> {
 }
 
 // A call whose sinks take one byte a call.
-fn one_of_pieces<R: AllocGlobal + Abort + Threads + Sync>(
+fn one_of_pieces<R: AllocGlobal + Abort + Threads + Wait + Sync>(
     rt: &R,
     call: (&str, &[u8]),
     out: &[u8],
@@ -90,7 +91,11 @@ fn a_sink_may_take_one_byte_a_call(rt: HostRuntime) -> Result<(), Fail> {
 }
 
 // A call in which the load of this number fails.
-fn one_of_loads<R: AllocGlobal + Abort + Threads + Sync>(rt: &R, words: &str, loads: &[u64]) {
+fn one_of_loads<R: AllocGlobal + Abort + Threads + Wait + Sync>(
+    rt: &R,
+    words: &str,
+    loads: &[u64],
+) {
     let fault = plain(words, SOURCE, End::ReadFault, b"", "det: read fault\n");
     let image: &[u8] = if words == ASM { SOURCE } else { &WRITE_TWO };
     check(

@@ -12,8 +12,8 @@ use std::process::Abort;
 use std::test::*;
 use std::thread::Threads;
 
-// Two threads write neighbouring bytes, and the joins bring both to the root, which returns the two bytes (`examples/two_threads.s`).
-const TWO_THREADS: &[u8] = b"
+/// Two threads write neighbouring bytes, and the joins bring both to the root, which returns the two bytes (`examples/two_threads.s`).
+pub(crate) const TWO_THREADS: &[u8] = b"
 .segment 0x1000 1
         addi s0, zero, 0
 fork:   addi a1, s0, 0
@@ -42,7 +42,8 @@ kid:    lui t0, 2
         .byte 0
 ";
 
-const REPORT: &[u8] = b"/ ret 00004241 00001044 24
+/// Its report.
+pub(crate) const REPORT: &str = "/ ret 00004241 00001044 24
 /0 ret 00000001 0000105c 7
 /1 ret 00000001 0000105c 7
 ";
@@ -64,7 +65,7 @@ fn one_quantum<R: AllocGlobal + Abort + Threads + Sync>(rt: &R, quantum: u32)
     requires { 1 ≤ quantum }
 {
     match reported(rt, rt.alloc(), quantum) {
-        Ok(found) => assert_eq!(rt; found.as_slice(), REPORT),
+        Ok(found) => assert_eq!(rt; found.as_slice(), REPORT.as_bytes()),
         Err(_) => panic!(rt; "no memory"),
     }
 }

@@ -15,7 +15,7 @@ pub returns-in-Some : goal.returns-in-Some
 returns-in-Some g c =
     command_answers _ _ _ _ _ _ (sym (ap (option_map line_of) (sym c.in-Some.is) ∙ c.in-Ok.ensures.line))
     (λ r. is_some _ _ c.in-Some.is (c.in-Ok.ensures.refused.1 r))
-    c.carry_out.ensures.course (c.carry_out.ensures.files_later, c.carry_out.ensures.out_later, c.carry_out.ensures.err_later)
+    c.carry_out_pooled.ensures.course (c.carry_out_pooled.ensures.files_later, c.carry_out_pooled.ensures.out_later, c.carry_out_pooled.ensures.err_later)
 
 pub returns-in_default : goal.returns-in_default
 returns-in_default g c = unread_answers _ _ _ _ (refl, refl) (refl, refl) (refl, refl) (omega arith, omega arith, omega arith)
