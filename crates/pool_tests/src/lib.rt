@@ -1,9 +1,0 @@
-//! Tests of a board: job by job, by one thread, and by a pool of workers in threads.
-#![tactic(auto)]
-
-#[cfg(test)]
-mod by_hand;
-#[cfg(test)]
-mod programs;
-#[cfg(test)]
-mod whole_runs;
