@@ -3,8 +3,7 @@ ghost use Rattle.std.specs.Prelude.{◌≡◌};
 use space_tree::Space;
 use std::marker::Model;
 
-/// The tree that a board began with, which nothing changes. Contracts see the tree. (It is a type of its own so that a proof that a board may be sent to a thread
-/// looks into one tree, and finds the other's known.)
+/// The tree that a board began with, which nothing changes. Contracts see the tree.
 #[derive(Drop)]
 pub(crate) struct Boot {
     space: Space,

@@ -1,7 +1,7 @@
 use path_set::PathSet;
 use space_tree::Path;
 
-/// Where a board looks for the next job and the next call. Each list may have more, since each path is looked at before it is used.
+/// Where a board looks for the next job and the next call. `run` and `calls` may have more than they have to, since each path is looked at before it is used.
 #[derive(Drop)]
 pub(crate) struct Lists {
     /// The paths of the jobs that are out, and no others.
