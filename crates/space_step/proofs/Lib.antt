@@ -10,3 +10,5 @@ pub mod Advancing
 pub mod Caching
 pub mod Marking
 pub mod Leaving
+pub mod Told
+pub mod WithOutput

@@ -16,7 +16,7 @@ pub enum Next {
 pub struct Advance {
     /// How many local events there were.
     pub ran: u32,
-    /// What is next: `Local` where there were as many events as there might be, and nothing is said of the next one. None where
-    /// it is a local event for which there was no memory.
+    /// What is next: `Local` where there were as many events as there might be, or where enough is ready of what was written to the console, and
+    /// nothing is said of the next one. None where it is a local event for which there was no memory.
     pub next: Option<Next>,
 }

@@ -5,6 +5,7 @@ mod calling;
 mod decode_cache;
 mod event;
 mod files;
+mod output;
 mod paying;
 mod peeking;
 mod run;
@@ -15,6 +16,7 @@ mod stretch;
 
 pub use decode_cache::DecodeCache;
 pub use event::{Advance, Next};
+pub use output::advance_with_output;
 pub use peeking::peek;
 pub use run::{Run, run_local};
 pub use running::{advance, next};

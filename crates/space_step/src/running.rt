@@ -4,7 +4,7 @@ ghost use Rattle.instruction_model.specs.Outcome.{view_of, outcome, traps};
 ghost use Rattle.space_model.specs.Event.{next, moves, Follows, MayPay};
 ghost use Rattle.space_model.specs.Sound.{IsSoundTop};
 ghost use Rattle.space_step.specs.Stretch.{Ends, Pays};
-ghost use Rattle.space_step.specs.Running.{Advances, Goes};
+ghost use Rattle.space_step.specs.Running.{Advances, Goes, ProgressWrites};
 ghost use Rattle.space_step.specs.Steps.{Steps, IsNextLocal};
 
 use crate::calling::call;
@@ -51,6 +51,7 @@ fn execute_paid<S: Source>(source: &mut S, top: &mut Top, budget: u32) -> Stretc
     ensures follows { (levels : ℕ) → Follows levels result.count top.old top.new }
     ensures may_pay { result.count < budget → MayPay top.new }
     ensures end { Ends result.end result.count budget (outcome (view_of top.new.memory) top.new.registers) }
+    ensures devices { top.new.devices ≡ top.old.devices }
     ensures agrees { S.agrees source.new (view_of top.new.memory) }
 {
     let stretch = execute(source, &mut top.registers, &mut top.memory, budget);
@@ -66,6 +67,7 @@ fn run_stretch<S: Source>(source: &mut S, top: &mut Top, depth: u8, budget: u32)
     requires running { top.old.status ≡ Status.Running }
     requires pays { Pays budget top.old }
     ensures goes { Goes (levels_below depth) budget result top.old top.new }
+    ensures writes { ProgressWrites (levels_below depth) result top.old top.new }
     ensures agrees { S.agrees source.new (view_of top.new.memory) }
 {
     let Stretch { count, end } = execute_paid(source, top, budget);
@@ -84,12 +86,14 @@ fn run_stretch<S: Source>(source: &mut S, top: &mut Top, depth: u8, budget: u32)
     }
 }
 
-// Local events of a space at a depth, at most so many: at least one, unless something blocks the first.
-fn proceed<S: Source>(source: &mut S, top: &mut Top, depth: u8, quantum: u32) -> Progress
+/// Local events of a space at a depth, at most so many: at least one, unless something blocks the first. Of these the last alone may write to the
+/// console.
+pub(crate) fn proceed<S: Source>(source: &mut S, top: &mut Top, depth: u8, quantum: u32) -> Progress
     requires agrees { S.agrees source.old (view_of top.old.memory) }
     requires depth { depth ≤ greatest_depth }
     requires quantum { 1 ≤ quantum }
     ensures goes { Goes (levels_below depth) quantum result top.old top.new }
+    ensures writes { ProgressWrites (levels_below depth) result top.old top.new }
     ensures agrees { S.agrees source.new (view_of top.new.memory) }
 {
     if top.is_stopped() {
