@@ -8,7 +8,7 @@ use Rattle.det_host.specs.declared.sink.SinkError.TheVariants.{Failed, Memory}
 use Rattle.det_cli.specs.declared.end.End.{End}
 use Rattle.det_cli.specs.declared.end.End.TheVariants.{Usage, ReadFault, WriteFault, NoMemory}
 use Rattle.det_cli.specs.Status.{status_of, IsDone, IsBad, IsEarly}
-use Rattle.det_cli.specs.Writing.{Output, TakesPrefix, IsUntouched, Wrote, WrotePrefix, StopsWithin}
+use Rattle.det_host.specs.Writing.{Output, TakesPrefix, IsUntouched, Wrote, WrotePrefix, StopsWithin}
 use Rattle.det_cli.specs.Files.{Expectation, Input, Step, judge}
 use Rattle.det_cli.specs.Commands.{engine_steps, steps_of, whole_of, expectation_of_bench, expectation_of_files}
 use Rattle.det_cli.specs.Answers.{Writes, Ends, IsUnasked, Course, CourseOf}

@@ -1,4 +1,3 @@
-pub mod Written
 pub mod Stages
 pub mod Courses
 pub mod Told

@@ -5,7 +5,7 @@ use Rattle.command_line.specs.Line.{Line, line, IsRefused}
 use Rattle.det_cli.specs.declared.end.End.{End}
 use Rattle.det_cli.specs.declared.end.End.TheVariants.{NoMemory}
 use Rattle.det_cli.specs.Status.{status_of, IsDone}
-use Rattle.det_cli.specs.Writing.{Output, IsUntouched, Wrote}
+use Rattle.det_host.specs.Writing.{Output, IsUntouched, Wrote}
 use Rattle.det_cli.specs.Files.{Expectation, Input, told_files}
 use Rattle.det_cli.specs.Commands.{steps_of, whole_of, expectation_of_files, expectation_of_told}
 use Rattle.det_cli.specs.Answers.{Writes, Ends, Course, NoCourse, IsUnasked, CourseOf, Answers, Later, Says, until, since, Program}

@@ -7,7 +7,7 @@ use Rattle.det_cli.specs.declared.end.End.{End}
 use Rattle.det_cli.specs.declared.end.End.TheVariants.{Usage, ReadFault, WriteFault, NoMemory}
 use Rattle.det_cli.specs.Status.{IsDone, IsBad, IsEarly}
 use Rattle.det_cli.specs.Lines.{fault_line}
-use Rattle.det_cli.specs.Writing.{Output, IsUntouched, Wrote, WrotePrefix, StopsWithin}
+use Rattle.det_host.specs.Writing.{Output, IsUntouched, Wrote, WrotePrefix, StopsWithin}
 use Rattle.det_cli.specs.Files.{Expectation, Input, ReadFiles, told_files}
 use Rattle.det_cli.specs.Commands.{steps_of, whole_of, expectation_of_files, expectation_of_told}
 

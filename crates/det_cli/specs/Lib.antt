@@ -1,6 +1,5 @@
 pub mod Status
 pub mod Lines
-pub mod Writing
 pub mod Files
 pub mod Commands
 pub mod Answers

@@ -3,14 +3,14 @@ ghost use Rattle.image_model.specs.Image.{image_bytes};
 ghost use Rattle.command_line.specs.Line.{asm};
 ghost use Rattle.det_cli.specs.Commands.{expectation_of_bytes};
 ghost use Rattle.det_cli.specs.Files.{input_of};
-ghost use Rattle.det_cli.specs.Writing.{IsUntouched, Output, output_of};
+ghost use Rattle.det_host.specs.Writing.{IsUntouched, Output, output_of};
 ghost use Rattle.det_cli.specs.Answers.{Course, Writes};
 
 use crate::end::End;
 use crate::formats::Assembled;
 use crate::reading::load_as;
 use crate::running::write_end;
-use crate::writing::write_all;
+use det_host::write_all;
 use det_host::{Loader, Sink};
 use image_file::{Image, write_image};
 use std::alloc::Global;

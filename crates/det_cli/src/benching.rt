@@ -7,7 +7,7 @@ ghost use Rattle.command_line.specs.Line.{engine_of, IsStaffed};
 ghost use Rattle.det_cli.specs.declared.limits.TheConstants.{BENCH_FUEL};
 ghost use Rattle.det_cli.specs.Commands.{expectation_of_bench, settled_root};
 ghost use Rattle.det_cli.specs.Files.{input_of};
-ghost use Rattle.det_cli.specs.Writing.{IsUntouched, Output, output_of};
+ghost use Rattle.det_host.specs.Writing.{IsUntouched, Output, output_of};
 ghost use Rattle.det_cli.specs.Answers.{Course, Writes};
 ghost use Rattle.det_cli.specs.Ending.{BringsToEnds};
 
@@ -15,7 +15,7 @@ use crate::end::End;
 use crate::evaluating::{Booted, Plan, read_plan};
 use crate::limits::BENCH_FUEL;
 use crate::running::{settled_root, write_end};
-use crate::writing::write_all;
+use det_host::write_all;
 use command_line::Engine;
 use det_host::{Loader, Sink};
 use det_report::summary;

@@ -1,10 +1,10 @@
 ghost use Rattle.std.specs.Prelude.{◌≡◌, ◌≤◌, OnOk, IfOk, IsErrOf, string_bytes};
 ghost use Rattle.det_host.specs.Outside.{Takes};
 ghost use Rattle.det_cli.specs.Lines.{fault_line};
-ghost use Rattle.det_cli.specs.Writing.{TakesPrefix, StopsWithin, output_of};
+ghost use Rattle.det_host.specs.Writing.{TakesPrefix, StopsWithin, output_of};
 
 use crate::end::End;
-use crate::writing::write_all;
+use det_host::write_all;
 use det_host::{Sink, SinkError};
 use std::alloc::{AllocError, Global};
 

@@ -14,7 +14,6 @@ mod program;
 mod reading;
 mod running;
 mod staff;
-mod writing;
 
 pub use end::{End, status};
 pub use fault_line::write_fault;

@@ -1,7 +1,7 @@
 ghost use Rattle.std.specs.Prelude.{◌≤◌, map, string_bytes};
 ghost use Rattle.command_line.specs.Line.{line_of, IsInRange};
 ghost use Rattle.det_cli.specs.Files.{input_of};
-ghost use Rattle.det_cli.specs.Writing.{output_of};
+ghost use Rattle.det_host.specs.Writing.{output_of};
 ghost use Rattle.det_cli.specs.Answers.{Answers, Course};
 ghost use Rattle.space_model.specs.Sound.{IsSound};
 ghost use Rattle.det_cli.specs.Ending.{BringsToEnds, Ends};

@@ -1,7 +1,7 @@
 ghost use Rattle.std.specs.Prelude.{◌≡◌, ◌≤◌, ◌⊎◌, map, string_bytes};
 ghost use Rattle.det_cli.specs.Status.{status_of};
 ghost use Rattle.det_cli.specs.Files.{input_of};
-ghost use Rattle.det_cli.specs.Writing.{output_of};
+ghost use Rattle.det_host.specs.Writing.{output_of};
 ghost use Rattle.det_cli.specs.Answers.{Says, Program};
 
 use crate::end::{End, status};

@@ -4,14 +4,14 @@ ghost use Rattle.command_line.specs.Line as line;
 ghost use Rattle.command_line.specs.Line.{engine_of, run_of, IsStaffed};
 ghost use Rattle.det_cli.specs.Commands.{end_of, expectation_of_root, run_shows, settled_root};
 ghost use Rattle.det_cli.specs.Files.{input_of};
-ghost use Rattle.det_cli.specs.Writing.{output_of};
+ghost use Rattle.det_host.specs.Writing.{output_of};
 ghost use Rattle.det_cli.specs.Answers.{Course, Writes};
 ghost use Rattle.det_cli.specs.Ending.{BringsToEnds};
 
 use crate::end::End;
 use crate::evaluating::{Booted, Plan};
 use crate::reading::read_run;
-use crate::writing::write_all;
+use det_host::write_all;
 use command_line::Run;
 use det_core::boot;
 use det_host::{Loader, Sink, SinkError};

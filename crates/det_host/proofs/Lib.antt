@@ -1,3 +1,4 @@
 pub mod Numbered
 pub mod Reading
 pub mod Sending
+pub mod Written

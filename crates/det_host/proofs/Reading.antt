@@ -1,7 +1,8 @@
 -- What was consumed piece by piece of a reader that tells what it has left, and what a load of a file then answers.
 use Rattle.std.proofs.Common.{◌≡◌, ℕ, List, [], ◌++◌, length, Option, Some, None, IfSome, refl, sym, ap, subst, ◌∙◌, append_assoc, length-append, ◌≤◌, ◌<◌, ◌+◌, ◌∷◌, Result, Ok, Err, inr, arith}
 use Rattle.std.proofs.lemmas.List.{append-nil}
-use Rattle.std.specs.Io.KnownBytes.{Consumes, Keeps, IsAtEnd}
+use Rattle.std.specs.Io.KnownBytes.{Consumes, Keeps, IsAtEnd, ReadConsumes}
+use Rattle.det_host.proofs.Sending.{kept_still}
 use Rattle.det_host.specs.Outside.{Request, Loads, Asks}
 use Rattle.det_host.specs.FileReading.{Opens, LosesAtMost, ReadsWithin}
 use Rattle.det_host.specs.declared.loader.LoadError.{LoadError}
@@ -78,3 +79,14 @@ asks_made old new request (Ok v) h = h
 asks_made old new request (Err Failed) h = h
 asks_made old new request (Err (TooLarge read)) h = h
 asks_made old new request (Err Memory) h = inr h
+
+-- a reader that gave nothing, again and again, and then answers
+consumed_then : (old mid new : Option (List ℕ)) (a : List ℕ) → Keeps old mid → Consumes mid new a → Consumes old new a
+consumed_then None mid new a h g = tt
+consumed_then (Some xs) None new a h g = absurd h
+consumed_then (Some xs) (Some ys) None a h g = absurd g
+consumed_then (Some xs) (Some ys) (Some zs) a h g = sym h ∙ g
+
+pub read_then : {E : Type 0} (old mid new : Option (List ℕ)) (r : Result ℕ E) (buffer : List ℕ) → Keeps old mid → ReadConsumes mid new r buffer → ReadConsumes old new r buffer
+read_then old mid new (Ok n) buffer h g = (consumed_then old mid new _ h g.0, g.1)
+read_then old mid new (Err e) buffer h g = kept_still old mid new h g

@@ -1,5 +1,5 @@
 -- What a writer that tells its bytes was sent piece by piece.
-use Rattle.std.proofs.Common.{ℕ, ◌+◌, ◌-◌, List, [], ◌++◌, length, take, drop, Option, Some, None, sym, ap, subst, ◌∙◌, append_assoc, arith}
+use Rattle.std.proofs.Common.{ℕ, ◌+◌, ◌-◌, List, [], ◌++◌, length, take, drop, Option, Some, None, refl, sym, ap, subst, ◌∙◌, append_assoc, arith}
 use Rattle.std.proofs.Math.Seq.{take-add}
 use Rattle.std.proofs.lemmas.List.{append-nil, take_all, length-drop}
 use Rattle.std.specs.Io.KnownBytes.{Appends, Keeps}
@@ -33,3 +33,20 @@ pub takes_sent : (old new : Option (List ℕ)) (a : List ℕ) → Appends old ne
 takes_sent None new a h = tt
 takes_sent (Some xs) None a h = absurd h
 takes_sent (Some xs) (Some ys) a h = ap (λ (u : List ℕ). Some u) h
+
+-- a writer that took nothing, again and again, and then some bytes
+pub kept_same : (known : Option (List ℕ)) → Keeps known known
+kept_same None = tt
+kept_same (Some xs) = refl
+
+pub kept_still : (old mid new : Option (List ℕ)) → Keeps old mid → Keeps mid new → Keeps old new
+kept_still None mid new h g = tt
+kept_still (Some xs) None new h g = absurd h
+kept_still (Some xs) (Some ys) None h g = absurd g
+kept_still (Some xs) (Some ys) (Some zs) h g = g ∙ h
+
+pub sent_then : (old mid new : Option (List ℕ)) (a : List ℕ) → Keeps old mid → Appends mid new a → Appends old new a
+sent_then None mid new a h g = tt
+sent_then (Some xs) None new a h g = absurd h
+sent_then (Some xs) (Some ys) None a h g = absurd g
+sent_then (Some xs) (Some ys) (Some zs) a h g = g ∙ ap (λ (u : List ℕ). u ++ a) h

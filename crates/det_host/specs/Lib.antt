@@ -1,3 +1,4 @@
 pub mod Outside
 pub mod FileReading
 pub mod Held
+pub mod Writing

@@ -14,6 +14,7 @@ mod request;
 mod sink;
 mod sure_sink;
 mod system_files;
+mod writing;
 
 pub use file_reader::FileReader;
 pub use gate::{Gate, GateEvent, OpenGate};
@@ -25,3 +26,4 @@ pub use real_sink::StdSink;
 pub use sink::{Sink, SinkError};
 pub use sure_sink::SureSink;
 pub use system_files::SystemFiles;
+pub use writing::write_all;

@@ -1,11 +1,15 @@
-ghost use Rattle.std.specs.Prelude.{◌≡◌, ◌≤◌, ◌<◌, ◌^◌, ◌+◌, List, [], ℕ, IfOk, IsErrOf, Ok};
-ghost use Rattle.std.specs.Io.KnownBytes.{IsAtEnd};
+ghost use Rattle.std.specs.Prelude.{◌≡◌, ◌≢◌, ◌≤◌, ◌<◌, ◌^◌, ◌+◌, List, [], ℕ, length, IfOk, IfErr, IsErrOf, Ok};
+ghost use Rattle.std.specs.Io.{ReadsAtMost};
+ghost use Rattle.std.specs.Io.KnownBytes.{IsAtEnd, ReadConsumes};
+ghost use Rattle.std.specs.IoError.{error_kind};
 ghost use Rattle.det_host.specs.Outside.{Rose, Loads, Asks};
 ghost use Rattle.det_host.specs.FileReading.{Gains, LosesAtMost, ReadsWithin};
 
 use crate::request::{Request, ask};
 use crate::{FileReader, LoadError, Loader, SystemFiles};
 use std::alloc::Global;
+use std::io;
+use std::io::ErrorKind;
 
 /// Loads files by their names through a reader of files, by default that of the operating system. It tells what its reader tells.
 #[derive(Drop)]
@@ -48,6 +52,28 @@ impl<F: FileReader + Drop> FileLoader<F> {
 // The most bytes that one turn reads.
 const PIECE: usize = 4096;
 
+// Reads some next bytes to the front of a buffer, and tries again where it was interrupted before it had any.
+#[tactic(auto, using(crate::proofs::Sending::kept_same, crate::proofs::Sending::kept_still, crate::proofs::Reading::read_then))]
+fn read_some<F: FileReader>(files: &mut F, buffer: &mut [u8]) -> io::Result<usize>
+    ensures bound { ReadsAtMost result buffer.new }
+    ensures long { length buffer.new ≡ length buffer.old }
+    ensures bytes { ReadConsumes (F.left files.old) (F.left files.new) result buffer.new }
+    ensures held { (other : List ℕ) → F.held files.new other ≡ F.held files.old other }
+    ensures retried { IfErr result (λ e. error_kind e ≢ ErrorKind.Interrupted) }
+{
+    for _ in 0..u64::MAX {
+        match files.read(buffer) {
+            Ok(count) => return Ok(count),
+            Err(error) => {
+                if error.kind() != ErrorKind::Interrupted {
+                    return Err(error);
+                }
+            }
+        }
+    }
+    Err(io::Error::from(ErrorKind::TimedOut))
+}
+
 // Reads at least one byte and at most so many, and puts them behind the others; none at the file's end.
 fn read_piece<F: FileReader>(
     files: &mut F,
@@ -63,7 +89,7 @@ fn read_piece<F: FileReader>(
     ensures held { (other : List ℕ) → F.held files.new other ≡ F.held files.old other }
 {
     let mut buffer = [0u8; PIECE];
-    match files.read(&mut buffer[..wanted]) {
+    match read_some(files, &mut buffer[..wanted]) {
         Ok(count) => match bytes.extend_from_slice(&buffer[..count]) {
             Ok(()) => Ok(count),
             Err(_) => Err(LoadError::Memory),

@@ -2,8 +2,8 @@ use Rattle.std.proofs.Common.{◌≡◌, ◌-◌, arith, length, take, drop, Lis
 use Rattle.std.proofs.lemmas.Grind.{common_steps}
 use Rattle.std.proofs.lemmas.List.{take_all, length-drop}
 use Rattle.det_host.specs.Outside.{Takes}
-use Rattle.det_cli.proofs.Written.{took_more}
-use Rattle.det_cli.proofs.writing.write_all.Goals as goal
+use Rattle.det_host.proofs.Written.{took_more}
+use Rattle.det_host.proofs.writing.write_all.Goals as goal
 
 pub pieces-preserved : goal.pieces-preserved
 pieces-preserved g c =

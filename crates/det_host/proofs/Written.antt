@@ -3,7 +3,7 @@ use Rattle.std.proofs.Common.{◌≡◌, ◌≤◌, ◌<◌, ◌+◌, ℕ, List,
 use Rattle.std.proofs.Math.Seq.{take-add}
 use Rattle.std.proofs.lemmas.List.{append-nil, nil_from_length, length-drop, take-append-drop}
 use Rattle.det_host.specs.Outside.{Takes}
-use Rattle.det_cli.specs.Writing.{TakesPrefix}
+use Rattle.det_host.specs.Writing.{TakesPrefix}
 
 take_long : (bytes : List ℕ) (k : ℕ) → length bytes ≤ k → take k bytes ≡ bytes
 take_long bytes k le = sym (append-nil (take k bytes)) ∙ ap (λ (u : List ℕ). take k bytes ++ u) (sym (nil_from_length (drop k bytes) (omega (arith, length-drop k bytes)))) ∙ take-append-drop k bytes
