@@ -3,3 +3,4 @@ pub mod Turns
 pub mod Everyone
 pub mod Awaited
 pub mod Settled
+pub mod Streams

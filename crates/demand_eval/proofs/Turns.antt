@@ -1,5 +1,5 @@
 -- A space that has had local events, or a call, goes on to the same end.
-use Rattle.std.proofs.Common.{◌≡◌, ℕ, zero, suc, pred, ◌+◌, ◌≤◌, ◌<◌, Bool, true, false, cond, Option, Some, refl, sym, ap, ◌∙◌, subst, arith}
+use Rattle.std.proofs.Common.{◌≡◌, ℕ, zero, suc, pred, ◌+◌, ◌≤◌, ◌<◌, Bool, true, false, cond, List, Option, Some, None, refl, sym, ap, ◌∙◌, subst, arith}
 use Rattle.call_model.specs.declared.Call.{Call}
 use Rattle.space_model.specs.Stop.{is_stopped}
 use Rattle.space_model.specs.Space.{Space, space, Top, Children, top_of, children_of}
@@ -11,11 +11,13 @@ use Rattle.space_model.proofs.Next.{next_meets, follows_sound}
 use Rattle.space_step.specs.declared.event.Next.{Next}
 use Rattle.space_step.specs.declared.event.Next.TheVariants as answers
 use Rattle.space_step.specs.Running.{Ended}
+use Rattle.space_step.specs.Output.{EndedWithOutput}
 use Rattle.run_model.specs.Demand.{run, left_of, of_children, wait_for}
 use Rattle.run_model.proofs.Fuel.{left_falls, stopped_rests}
 use Rattle.run_model.proofs.Run.{run_on, run-run_on, run_on-follows, run_on-rests, run_on-meets, meet_fuel, call_costs}
 use Rattle.run_model.proofs.Sound.{KeepsSound, wait_for_sound, meaning_sound, next_meets_sound}
-use Rattle.demand_eval.specs.Turns.{IsSoundBelow, GoesOn, with_awaited}
+use Rattle.run_model.proofs.Console.{meet_devices}
+use Rattle.demand_eval.specs.Turns.{IsSoundBelow, GoesOn, KeepsDevices, IsTold, Comes, Turned, with_awaited}
 
 -- what a space that has gone on is told of what is next
 told : (levels quantum ran : ℕ) (o p : Option Next) (t : Top) → Ended levels quantum ran o t → o ≡ p → Ended levels quantum ran p t
@@ -35,7 +37,7 @@ pub follows_left : (levels n : ℕ) (t u : Top) → Follows levels n t u → lef
 follows_left levels zero t u is = rw is (omega arith)
 follows_left levels (suc n) t u is = let first = left_falls levels t is.0 is.1 in let rest = follows_left levels n is.0 u is.2 in omega arith
 
-run-follows : (levels n : ℕ) (t u : Top) (cs : Children) → Follows levels n t u → run levels (space u cs) ≡ run levels (space t cs)
+pub run-follows : (levels n : ℕ) (t u : Top) (cs : Children) → Follows levels n t u → run levels (space u cs) ≡ run levels (space t cs)
 run-follows levels n t u cs is = run-run_on levels (space u cs) ∙ sym (run_on-follows (of_children levels) levels n t u cs is) ∙ sym (run-run_on levels (space t cs))
 
 -- after so many events a space is as sound
@@ -113,3 +115,31 @@ pub met : (levels : ℕ) (k : Call) (s w r : Space) → IsSoundBelow levels s �
 met levels k (space t cs) w r ok e waited is =
     let here : r ≡ meet levels k (after_payment t t) (wait_for (of_children levels) (awaits k) cs).children = is ∙ ap (λ v. meet levels k (after_payment (top_of v) (top_of v)) (children_of v)) waited in
     rw here (met_here levels k t cs (wait_for (of_children levels) (awaits k) cs).children ok e refl)
+
+-- and it keeps its devices
+pub met_devices : (levels : ℕ) (k : Call) (s w r : Space) → w ≡ with_awaited levels k s → r ≡ meet levels k (after_payment (top_of w) (top_of w)) (children_of w) → KeepsDevices s r
+met_devices levels k (space t cs) w r waited is =
+    let here : r ≡ meet levels k (after_payment t t) (wait_for (of_children levels) (awaits k) cs).children = is ∙ ap (λ v. meet levels k (after_payment (top_of v) (top_of v)) (children_of v)) waited in
+    ap (λ v. (top_of v).devices) here ∙ meet_devices levels k (after_payment t t) (wait_for (of_children levels) (awaits k) cs).children
+
+-- what is told of what is next
+pub told_next : (levels quantum enough ran : ℕ) (o : Option Next) (output : List ℕ) (t : Top) → EndedWithOutput levels quantum enough ran o output t → IsTold levels o t
+told_next levels quantum enough ran None output t h = tt
+told_next levels quantum enough ran (Some answers.Local) output t h = tt
+told_next levels quantum enough ran (Some (answers.Meet k)) output t h = h.1
+told_next levels quantum enough ran (Some answers.Stopped) output t h = h.1
+
+-- local events, and then the call that is next
+pub turned : (levels quantum enough ran : ℕ) (o : Option Next) (stopped : Bool) (output : List ℕ) (t u : Top) (cs : Children) (s r : Space) → IsSoundBelow levels s → space t cs ≡ s → Follows levels ran t u
+    → EndedWithOutput levels quantum enough ran o output u → Comes levels o stopped (space u cs) r → Turned levels stopped s r
+turned levels quantum enough ran None stopped output t u cs s r ok is f h c = absurd c
+turned levels quantum enough ran (Some answers.Local) stopped output t u cs s r ok is f h c =
+    rw c.0 (subst (GoesOn levels s) (sym c.1) (advanced levels ran t u cs s ok is f h.0))
+turned levels quantum enough ran (Some (answers.Meet k)) stopped output t u cs s r ok is f h c = rw c.0 (advanced_then levels ran t u cs s r is f c.1)
+turned levels quantum enough ran (Some answers.Stopped) stopped output t u cs s r ok is f h c = rw c.0 (c.1 ∙ advanced_stopped levels ran t u cs s is f h.1)
+
+pub came_devices : (levels : ℕ) (o : Option Next) (stopped : Bool) (s r : Space) → Comes levels o stopped s r → KeepsDevices s r
+came_devices levels None stopped s r c = absurd c
+came_devices levels (Some answers.Local) stopped s r c = ap (λ v. (top_of v).devices) c.1
+came_devices levels (Some (answers.Meet k)) stopped s r c = c.2
+came_devices levels (Some answers.Stopped) stopped s r c = ap (λ v. (top_of v).devices) c.1

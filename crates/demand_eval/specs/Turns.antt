@@ -1,9 +1,13 @@
 -- What a run does to a space, turn by turn.
 -- Our choice: a restatement for proofs.
-use Rattle.std.specs.Prelude.{◌≡◌, ℕ, ◌<◌, List, [], ◌∷◌, Bool, true, false}
+use Rattle.std.specs.Prelude.{◌≡◌, ℕ, ◌<◌, List, [], ◌∷◌, Bool, true, false, Option, Some, None}
 use Rattle.call_model.specs.declared.Call.{Call}
 use Rattle.space_model.specs.declared.Reach.{Reach}
-use Rattle.space_model.specs.Space.{Space, Children, none, child, top_of}
+use Rattle.space_model.specs.Space.{Space, Children, Top, none, child, top_of}
+use Rattle.space_model.specs.Change.{after_payment}
+use Rattle.space_model.specs.Event.{next, rests, meets}
+use Rattle.space_step.specs.declared.event.Next.{Next}
+use Rattle.space_step.specs.declared.event.Next.TheVariants.{Local, Meet, Stopped}
 use Rattle.space_model.specs.Sound.{IsSoundAt}
 use Rattle.space_model.specs.Path.{under}
 use Rattle.space_model.specs.Meeting.{awaits}
@@ -42,3 +46,21 @@ pub record GoesOn (levels : ℕ) (old new : Space) : Type 0 where
 abbrev pub Turned : ℕ → Bool → Space → Space → Type 0
 Turned levels true old new = new ≡ run levels old
 Turned levels false old new = GoesOn levels old new
+
+-- a root has the devices that it had
+abbrev pub KeepsDevices : Space → Space → Type 0
+KeepsDevices old new = let t = top_of old in let u = top_of new in u.devices ≡ t.devices
+
+-- what is next of a space that has gone on; of a local event nothing is said
+abbrev pub IsTold : ℕ → Option Next → Top → Type 0
+IsTold levels None t = Unit {0}
+IsTold levels (Some Local) t = Unit {0}
+IsTold levels (Some (Meet k)) t = next levels t ≡ meets k (after_payment t t)
+IsTold levels (Some Stopped) t = next levels t ≡ rests
+
+-- the call that was next has met its children, or there was none; and whether the space has stopped
+abbrev pub Comes : ℕ → Option Next → Bool → Space → Space → Type 0
+Comes levels None stopped old new = ⊥
+Comes levels (Some Local) stopped old new = (stopped ≡ false) × (new ≡ old)
+Comes levels (Some (Meet k)) stopped old new = (stopped ≡ false) × GoesOn levels old new × KeepsDevices old new
+Comes levels (Some Stopped) stopped old new = (stopped ≡ true) × (new ≡ old)

@@ -6,7 +6,7 @@ ghost use Rattle.space_model.specs.Change.{after_payment};
 ghost use Rattle.space_model.specs.Path.{under};
 ghost use Rattle.space_model.specs.Event as event;
 ghost use Rattle.run_model.specs.Demand.{run, settle_tree};
-ghost use Rattle.demand_eval.specs.Turns.{IsSoundBelow, GoesOn, Turned, end_of, numbers_of, with_awaited, with_everyone};
+ghost use Rattle.demand_eval.specs.Turns.{IsSoundBelow, GoesOn, KeepsDevices, Turned, end_of, numbers_of, with_awaited, with_everyone};
 
 use space_model::Reach;
 use space_step::{DecodeCache, Next, advance};
@@ -15,14 +15,14 @@ use std::alloc::{AllocError, Global};
 use std::collections::BTreeMap;
 use trap_ret::{AcceptedCall, Call, awaits};
 
-// For how many events a space runs before it is asked again what is next.
-const STRETCH: u32 = 1 << 20;
+/// For how many events a space runs before it is asked again what is next.
+pub(crate) const STRETCH: u32 = 1 << 20;
 
-// What one space after the other runs by: where memory comes from, and the decoded instructions.
+/// What one space after the other runs by: where memory comes from, and the decoded instructions.
 #[derive(Drop)]
-struct Runner {
-    alloc: Global,
-    cache: DecodeCache,
+pub(crate) struct Runner {
+    pub(crate) alloc: Global,
+    pub(crate) cache: DecodeCache,
 }
 
 // The child of that number, where it is there, runs until it stops, or settles.
@@ -59,9 +59,9 @@ fn wait_for(runner: &mut Runner, call: Call, space: &mut Space, depth: u8) -> Re
     Ok(())
 }
 
-// The call that is next, once what it waits for is ready.
+/// The call that is next, once what it waits for is ready.
 #[cycle(settle)]
-fn meet(
+pub(crate) fn meet(
     runner: &mut Runner,
     call: AcceptedCall,
     space: &mut Space,
@@ -70,7 +70,8 @@ fn meet(
     requires depth { depth ≤ greatest_depth }
     requires sound { IsSoundBelow (levels_below depth) space.old }
     requires next { event.next (levels_below depth) (top_of space.old) ≡ event.meets call (after_payment (top_of space.old) (top_of space.old)) }
-    ensures { OnOk result (GoesOn (levels_below depth) space.old space.new) }
+    ensures goes { OnOk result (GoesOn (levels_below depth) space.old space.new) }
+    ensures devices { OnOk result (KeepsDevices space.old space.new) }
 {
     wait_for(runner, call.call(), space, depth)?;
     user_runtime::meet(runner.alloc, call, depth, space)
@@ -144,9 +145,13 @@ fn remember(space: &mut Space)
     space.children.remember();
 }
 
-// Every child settles, unless it is known that all have.
+/// Every child settles, unless it is known that all have.
 #[cycle(settle)]
-fn settle_children(runner: &mut Runner, space: &mut Space, depth: u8) -> Result<(), AllocError>
+pub(crate) fn settle_children(
+    runner: &mut Runner,
+    space: &mut Space,
+    depth: u8,
+) -> Result<(), AllocError>
     requires depth { depth ≤ greatest_depth }
     requires sound { IsSoundBelow (levels_below depth) space.old }
     ensures { OnOk result (space.new ≡ with_everyone (levels_below depth) space.old) }

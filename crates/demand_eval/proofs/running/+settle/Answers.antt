@@ -3,7 +3,7 @@ use Rattle.space_model.specs.Space.{over}
 use Rattle.std.proofs.lemmas.Result.{on_ok_weaker}
 use Rattle.demand_eval.specs.Turns.{end_of, with_awaited}
 use Rattle.demand_eval.proofs.Children.{child_below, child_becomes, child_missing, one_below}
-use Rattle.demand_eval.proofs.Turns.{may_meet, may_pay, met, told_local, told_meet, told_stopped, advanced_sound, advanced, advanced_then, advanced_stopped}
+use Rattle.demand_eval.proofs.Turns.{may_meet, may_pay, met, met_devices, told_local, told_meet, told_stopped, advanced_sound, advanced, advanced_then, advanced_stopped}
 use Rattle.demand_eval.proofs.Everyone.{over_all-more, over_all-done, settled_all, one_settled, run_then, ran_sound}
 use Rattle.demand_eval.proofs.Awaited.{over_awaited-more, over_awaited-done, awaited_all, one_awaited}
 use Rattle.demand_eval.proofs.Settled.{stays}
@@ -45,10 +45,15 @@ meet-meet-requires t c =
     let waited = c.in_ok-wait_for.ensures ∙ ap (λ k. with_awaited (8 - c.args.depth) k c.args.space.now) c.call.ensures.value in
     record { depth = c.requires.depth; may_meet = may_meet _ _ c.args.space.now c.requires.next; may_pay = may_pay _ _ c.args.space.now _ c.requires.next waited }
 
-pub meet-returns : goal.meet-returns
-meet-returns t c =
+pub meet-returns-clause-goes : goal.meet-returns-clause-goes
+meet-returns-clause-goes t c =
     let waited = c.in_ok-wait_for.ensures ∙ ap (λ k. with_awaited (8 - c.args.depth) k c.args.space.now) c.call.ensures.value in
     on_ok_weaker c.meet.result (λ h. met _ _ _ _ _ c.requires.sound c.requires.next waited h) c.meet.ensures.ok
+
+pub meet-returns-clause-devices : goal.meet-returns-clause-devices
+meet-returns-clause-devices t c =
+    let waited = c.in_ok-wait_for.ensures ∙ ap (λ k. with_awaited (8 - c.args.depth) k c.args.space.now) c.call.ensures.value in
+    on_ok_weaker c.meet.result (λ h. met_devices _ _ _ _ _ waited h) c.meet.ensures.ok
 
 pub turn-meet-requires : goal.turn-meet-requires
 turn-meet-requires t c =
@@ -62,7 +67,7 @@ turn-returns-in-Local t c =
     advanced _ _ _ _ _ _ c.requires.sound c.space.view_is ran.follows (omega (arith, all))
 
 pub turn-returns-in_ok-meet-in-Meet : goal.turn-returns-in_ok-meet-in-Meet
-turn-returns-in_ok-meet-in-Meet t c = advanced_then _ _ _ _ _ _ _ c.space.view_is c.in_ok-reached.ensures.ok.follows c.in_ok-meet-in-Meet.ensures
+turn-returns-in_ok-meet-in-Meet t c = advanced_then _ _ _ _ _ _ _ c.space.view_is c.in_ok-reached.ensures.ok.follows c.in_ok-meet-in-Meet.ensures.goes
 
 pub turn-returns-in-Stopped : goal.turn-returns-in-Stopped
 turn-returns-in-Stopped t c =
