@@ -2,3 +2,4 @@ pub mod Jobs
 pub mod Later
 pub mod Onward
 pub mod Moves
+pub mod RootFirst

@@ -1,7 +1,8 @@
 //! The run of a tree in rounds: in each round the spaces that have local events go on side by side, and then each call meets its children
-//! whose time has come.
+//! whose time has come. The console of the root is written when the run is over, or round by round.
 #![tactic(auto)]
 
+mod apart;
 mod begun;
 mod engine;
 mod going;
@@ -13,5 +14,7 @@ mod round;
 mod running;
 mod side_by_side;
 mod starting;
+mod streaming;
 
 pub use running::rounds;
+pub use streaming::rounds_to;

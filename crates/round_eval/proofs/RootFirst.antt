@@ -1,0 +1,129 @@
+-- Rounds in which the root goes on by itself, and what they write to its console.
+use Rattle.std.proofs.Common.{◌≡◌, ℕ, zero, suc, ◌+◌, ◌*◌, ◌-◌, ◌≤◌, ◌<◌, Bool, true, false, List, [], ◌∷◌, ◌++◌, length, Option, Some, None, Result, Ok, Err, IfOk, OnErr, refl, sym, ◌∙◌, ap, subst, arith}
+use Rattle.std.specs.Prelude.{nat_lt, cond}
+use Rattle.std.proofs.lemmas.Bool.Decides.{nat_tests}
+use Rattle.call_model.specs.declared.Call.{Call}
+use Rattle.det_host.specs.Writing.{Output, StopsWithin, TakesPrefix}
+use Rattle.space_model.specs.Stop.{is_stopped}
+use Rattle.space_model.specs.Space.{Space, space, Top, Children, top_of, find, over, console_bytes}
+use Rattle.space_model.specs.Beginning.{fresh_top}
+use Rattle.space_model.specs.Path.{replace_top}
+use Rattle.space_model.specs.Sound.{IsSound}
+use Rattle.space_model.specs.Event.{NextEvent, rests, moves, meets, next, Follows}
+use Rattle.run_model.specs.Console.{console_in}
+use Rattle.run_model.specs.Demand.{settle_tree}
+use Rattle.run_model.specs.Schedule.{is_enabled, may_happen, ready_call, call_at, step, where_some, event, try_meet}
+use Rattle.run_model.proofs.Console.{call_devices}
+use Rattle.run_model.proofs.Fuel.{stopped_rests}
+use Rattle.report_model.specs.Report.{console_of}
+use Rattle.det_laws.specs.Leads.{Leads}
+use Rattle.demand_eval.specs.Streams.{Begins, Lags, Writes}
+use Rattle.demand_eval.proofs.Streams.{begins_then, lags_then, writes_then}
+use Rattle.round_eval.specs.Later.{IsLater}
+use Rattle.round_eval.proofs.Later.{later_settles, later_sound, went}
+use Rattle.round_eval.proofs.Onward.{here_reaches}
+
+-- the root goes on
+pub root_went : (n : ℕ) (t u : Top) (s : Space) (cs : Children) → space t cs ≡ s → Follows 8 n t u → IsLater (nat_lt 0 n) s (space u cs)
+root_went n t u s cs is f = went s (space u cs) n (nat_lt 0 n) (here_reaches 8 n t u s cs is f) (λ some. grind (arith, nat_tests))
+
+pub root_wrote : (t u : Top) (cs : Children) (s : Space) (written ready output : List ℕ) → space t cs ≡ s → console_in u ≡ console_in t ++ written → ready ≡ [] → output ≡ ready ++ written
+    → console_of (space u cs) ≡ console_of s ++ output
+root_wrote t u cs s written ready output is wrote none appended =
+    wrote ∙ ap (λ l. console_in t ++ l) (sym (appended ∙ ap (λ l. l ++ written) none)) ∙ ap (λ (r : Space). console_of r ++ output) is
+
+-- a call of the root leaves its console
+after_call : (t : Top) (cs : Children) (x : NextEvent) (done : Bool) → next 8 t ≡ x → console_of (event 8 x (space t cs)) ≡ console_of (space t cs) → console_of (where_some (ready_call x cs) (event 8 x (space t cs)) (space t cs)) ≡ console_of (space t cs)
+after_call t cs rests done e kept = refl
+after_call t cs (moves u) done e kept = refl
+after_call t cs (meets k u) done e kept = go (ready_call (meets k u) cs)
+  where
+    go : (o : Option Call) → console_of (where_some o (event 8 (meets k u) (space t cs)) (space t cs)) ≡ console_of (space t cs)
+    go None = refl
+    go (Some c) = kept
+
+meets_quietly : (t : Top) (cs : Children) (x : NextEvent) → next 8 t ≡ x → console_of (where_some (ready_call x cs) (event 8 x (space t cs)) (space t cs)) ≡ console_of (space t cs)
+meets_quietly t cs rests e = refl
+meets_quietly t cs (moves u) e = refl
+meets_quietly t cs (meets k u) e = after_call t cs (meets k u) true e (ap console_bytes (call_devices 8 t u k cs e))
+
+pub root_met : (p : List ℕ) (s r : Space) → p ≡ [] → r ≡ try_meet p 8 s → console_of r ≡ console_of s
+root_met p (space t cs) r none met = ap console_of (met ∙ ap (λ q. try_meet q 8 (space t cs)) none) ∙ meets_quietly t cs (next 8 t) refl
+
+-- what happens below a root that has stopped happens below any
+leads_below : (ps : List (List ℕ)) (t u : Top) (cs : Children) (r : Space) → is_stopped u.status ≡ true → Leads 8 ps (space u cs) r → Leads 8 ps (space t cs) (replace_top t r)
+leads_below [] t u cs r stopped is = ap (replace_top t) is
+leads_below ([] ∷ ps) t u cs r stopped h = let none : may_happen (next 8 u) cs ≡ false = ap (λ x. may_happen x cs) (stopped_rests 8 u stopped) in absurd (cc)
+leads_below ((n ∷ p) ∷ ps) t u cs r stopped h = (h.0, leads_below ps t u (over n (step p 7) cs) r stopped h.1)
+
+below_later : (some : Bool) (t u : Top) (cs : Children) (r : Space) → is_stopped u.status ≡ true → IsLater some (space u cs) r → IsLater some (space t cs) (replace_top t r)
+below_later some t u cs r stopped later =
+    record { events = later.events; reached = (later.reached.0, later.reached.1, leads_below later.reached.0 t u cs r stopped later.reached.2); some = later.some }
+
+replaced : (t : Top) (w v : Top) (ds : Children) (r : Space) → space w ds ≡ r → space t ds ≡ replace_top t r
+replaced t w v ds r is = ap (replace_top t) is
+
+-- a round below the root: its top comes back to where it was
+pub went_below : (some : Bool) (fuel : ℕ) (t u w : Top) (cs ds : Children) (s r : Space) → space t cs ≡ s → u ≡ fresh_top fuel → IsLater some (space u cs) r → space w ds ≡ r → IsLater some s (space t ds)
+went_below some fuel t u w cs ds s r is fresh later end =
+    let stopped : is_stopped u.status ≡ true = ap (λ (v : Top). is_stopped v.status) fresh in
+    subst (λ q. IsLater some q (space t ds)) is (subst (IsLater some (space t cs)) (sym (ap (replace_top t) end)) (below_later some t u cs r stopped later))
+
+pub round_back : (some : Bool) (fuel : ℕ) (t t' u u' w : Top) (cs ds : Children) (s r : Space) → space t cs ≡ s → t' ≡ t → u' ≡ u → u ≡ fresh_top fuel → IsLater some (space u' cs) r → space w ds ≡ r
+    → IsLater some s (space t' ds)
+round_back some fuel t t' u u' w cs ds s r is same put fresh later end = went_below some fuel t' u' w cs ds s r (ap (λ v. space v cs) same ∙ is) (put ∙ fresh) later end
+
+pub below_quiet : (t : Top) (cs ds : Children) (s : Space) → space t cs ≡ s → console_of (space t ds) ≡ console_of s
+below_quiet t cs ds s is = ap console_of is
+
+-- a sink that fails behind a round
+pub fails_behind : (most : ℕ) (some : Bool) (s r : Space) (more : List ℕ) (o : Output) → IsSound s → IsLater some s r → console_of r ≡ console_of s ++ more → length more ≤ most → StopsWithin o more → Lags most o s r
+fails_behind most some s r more o ok later wrote few stops = record {
+  sound = later_sound some s r later ok;
+  same = later_settles some s r later ok;
+  more = more;
+  begins = wrote;
+  count = stops.0.0;
+  taken = stops.0.1.1;
+  not_all = stops.0.1.0;
+  near = omega (arith, few);
+  fault = stops.1;
+}
+
+pub begins_behind : (some : Bool) (s r : Space) (more : List ℕ) (o : Output) → IsSound s → IsLater some s r → console_of r ≡ console_of s ++ more → TakesPrefix o.taken_before o.taken_after more → Begins o s
+begins_behind some s r more o ok later wrote prefix = record { at = r; same = later_settles some s r later ok; more = more; begins = wrote; prefix = prefix }
+
+-- a bound that holds in more events
+pub lags_more : (most quantum : ℕ) (o : Output) (s at : Space) → 1 ≤ quantum → Lags most o s at → Lags (quantum * most) o s at
+lags_more most quantum o s at some lags = record {
+  sound = lags.sound;
+  same = lags.same;
+  more = lags.more;
+  begins = lags.begins;
+  count = lags.count;
+  taken = lags.taken;
+  not_all = lags.not_all;
+  near = omega (arith, lags.near, at_least most quantum some);
+  fault = lags.fault;
+}
+  where
+    at_least : (m q : ℕ) → 1 ≤ q → m ≤ q * m
+    at_least m zero h = absurd (omega arith)
+    at_least m (suc k) h = omega arith
+
+-- what comes of rounds, and of the settling behind them
+pub meaning_on : {E : Type 0} (r : Result Space E) (s m : Space) → settle_tree m ≡ settle_tree s → IfOk r (λ t. t ≡ settle_tree m) → IfOk r (λ t. t ≡ settle_tree s)
+meaning_on (Ok t) s m same h = h ∙ same
+meaning_on (Err e) s m same h = tt
+
+pub writes_on : {E : Type 0} (r : Result Space E) (a b c : Option (List ℕ)) (f g h : ℕ) (s m : Space) → Writes (record { taken_before = a; taken_after = b; faults_before = f; faults_after = g }) s m
+    → IfOk r (λ t. Writes (record { taken_before = b; taken_after = c; faults_before = g; faults_after = h }) m t)
+    → IfOk r (λ t. Writes (record { taken_before = a; taken_after = c; faults_before = f; faults_after = h }) s t)
+writes_on (Ok t) a b c f g h s m first then = writes_then a b c f g h s m t first then
+writes_on (Err e) a b c f g h s m first then = tt
+
+pub begins_on : {E : Type 0} (r : Result Space E) (a b c : Option (List ℕ)) (f g h : ℕ) (s m : Space) → settle_tree m ≡ settle_tree s → Writes (record { taken_before = a; taken_after = b; faults_before = f; faults_after = g }) s m
+    → OnErr r (Begins (record { taken_before = b; taken_after = c; faults_before = g; faults_after = h }) m)
+    → OnErr r (Begins (record { taken_before = a; taken_after = c; faults_before = f; faults_after = h }) s)
+begins_on (Ok t) a b c f g h s m same first then = tt
+begins_on (Err e) a b c f g h s m same first then = begins_then a b c f g h s m same first then
