@@ -1,4 +1,4 @@
-ghost use Rattle.std.specs.Prelude.{◌≡◌, ℕ, Bool, ◌-◌, ◌≤◌, ◌<◌, IfOk};
+ghost use Rattle.std.specs.Prelude.{◌≡◌, ℕ, Bool, ◌+◌, ◌-◌, ◌^◌, ◌≤◌, ◌<◌, IfOk};
 ghost use Rattle.call_model.specs.Limits.{greatest_depth, levels_below};
 ghost use Rattle.space_model.specs.Event.{next, IsNotLocal};
 ghost use Rattle.space_model.specs.Sound.{IsSoundTop};
@@ -77,6 +77,35 @@ impl Run {
         ensures { self.new ≡ self.old }
     {
         self.top.memory.freeze()
+    }
+
+    /// Goes on from the space after the events: at most as many more as the quantum, which is at least 1, and fewer only where what is next is no
+    /// local event. Its one error is want of memory for an event.
+    #[tactic(auto, using(crate::proofs::Advancing::ended_within, crate::proofs::Advancing::ended_early))]
+    pub fn go_on(self, quantum: u32, cache: &mut DecodeCache) -> Result<Run, AllocError>
+        requires quantum { 1 ≤ quantum }
+        requires fits { self.ran + quantum < 2 ^ 32 }
+        ensures depth { IfOk result (λ r. r.depth ≡ self.depth) }
+        ensures start { IfOk result (λ r. r.start ≡ self.start) }
+        ensures within { IfOk result (λ r. r.ran ≤ self.ran + quantum) }
+        ensures fewer { IfOk result (λ r. r.ran < self.ran + quantum → IsNotLocal (next (levels_below self.depth) r.top)) }
+    {
+        let Run {
+            depth,
+            start,
+            mut top,
+            ran,
+        } = self;
+        let Advance { ran: more, next } = advance(&mut top, depth, quantum, cache)?;
+        match next {
+            Some(_) => Ok(Run {
+                depth,
+                start,
+                top,
+                ran: ran + more,
+            }),
+            None => Err(AllocError),
+        }
     }
 
     /// The space before the events, and the space after them.
