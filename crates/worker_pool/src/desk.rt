@@ -8,16 +8,28 @@ use std::alloc::AllocError;
 use std::sync::Condvar;
 use std::sync::ledger::{Book, Ledger, Share};
 
+/// How many jobs that did not last come one after another before workers are woken with less haste.
+const FEW_SHORT: u32 = 8;
+
+/// How many short jobs are done from one ring to the next then.
+const BETWEEN_RINGS: u32 = 64;
+
 /// Lies under the lock: the shop, beside the books of the jobs that are out and of what was accepted.
 #[derive(Drop)]
 pub(crate) struct Desk<S: Shop, L: Ledger, M: Ledger> {
     pub(crate) shop: S,
     pub(crate) out: Book<L>,
     pub(crate) done: Book<M>,
-    /// How many workers wait for the bell.
+    /// How many workers have come, and have not gone home.
+    pub(crate) here: usize,
+    /// How many of them wait for the bell.
     pub(crate) asleep: usize,
     /// Whether one of them was rung for and has not come under the lock yet.
     pub(crate) rung: bool,
+    /// How many of them have jobs that are known to last.
+    pub(crate) lasting: usize,
+    /// How many results were handed in, since a job lasted, of jobs that did not.
+    pub(crate) short: u32,
     /// Whether memory was wanting somewhere, which ends all.
     pub(crate) failed: bool,
     pub(crate) ghost owed_is: { S.owed shop ≡ out.total },
@@ -112,19 +124,63 @@ impl<S: Shop, L: Ledger, M: Ledger> Desk<S, L, M> {
         taken
     }
 
-    /// Whom a worker rings for that leaves the lock with this turn. One that took a job rings for another where there may be more, and where nobody is on the
-    /// way already; one that met asks again itself; at the end, and where memory is wanting, all are to see it.
-    pub(crate) fn ring_after(&mut self, turn: &Result<Turn<S::Job>, AllocError>) -> Ring {
-        if self.asleep == 0 {
+    /// A worker's job lasts: another is rung for.
+    pub(crate) fn ring_as_it_lasts(&mut self) -> Ring {
+        self.lasting = self.lasting.saturating_add(1);
+        self.short = 0;
+        self.ring_beside()
+    }
+
+    /// A result is handed in, of a job that lasted or did not.
+    pub(crate) fn note(&mut self, lasted: bool) {
+        if lasted {
+            self.lasting = self.lasting.saturating_sub(1);
+        } else {
+            self.short = self.short.wrapping_add(1);
+        }
+    }
+
+    // Whether it pays to wake another worker for a job right when one is taken: while few were short, and then at times, since what waits beside the short
+    // jobs may last.
+    fn is_eager(&self) -> bool {
+        self.short < FEW_SHORT || self.short % BETWEEN_RINGS == 0
+    }
+
+    /// Whether a worker is to sleep though there may be jobs: where the last ones were short, workers that come one after another to the lock for such do no
+    /// more than one. Another is awake then, which comes back to the lock at once, or rings when it finds that its job lasts.
+    pub(crate) fn is_crowded(&self) -> bool {
+        let others = self
+            .here
+            .saturating_sub(self.asleep)
+            .saturating_sub(self.lasting);
+        self.short >= FEW_SHORT && !self.failed && others > 1
+    }
+
+    /// Whom a worker with a job rings for: for one other where there may be more, and where nobody is on the way already.
+    pub(crate) fn ring_beside(&mut self) -> Ring {
+        if self.asleep == 0 || self.rung || !self.shop.has_more() {
             return Ring::Nobody;
         }
+        self.rung = true;
+        Ring::One
+    }
+
+    /// Whom a worker rings for that leaves the lock with this turn. One that took a job rings where it pays now, and else if the job lasts; one that met asks
+    /// again itself; at the end, and where memory is wanting, all are to see it.
+    pub(crate) fn ring_after(&mut self, turn: &Result<Turn<S::Job>, AllocError>) -> Ring {
         match turn {
-            Ok(Turn::Job(_)) if !self.rung && self.shop.has_more() => {
-                self.rung = true;
-                Ring::One
-            }
+            Ok(Turn::Job(_)) if self.is_eager() => self.ring_beside(),
             Ok(Turn::Job(_) | Turn::Met | Turn::Rest) => Ring::Nobody,
-            Ok(Turn::Over) | Err(_) => Ring::All,
+            Ok(Turn::Over) | Err(_) => self.ring_at_the_end(),
         }
+    }
+
+    /// A worker goes home, and all that sleep are to see why.
+    pub(crate) fn ring_at_the_end(&mut self) -> Ring {
+        self.here = self.here.saturating_sub(1);
+        if self.asleep > 0 {
+            return Ring::All;
+        }
+        Ring::Nobody
     }
 }

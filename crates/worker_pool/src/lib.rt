@@ -8,7 +8,7 @@ mod side_by_side;
 mod worker;
 
 pub use pool::run_pool;
-pub use shop::{Shop, Turn};
+pub use shop::{Shop, Turn, Worked};
 
 #[cfg(test)]
 mod tests;

@@ -3,7 +3,7 @@
 ghost use Rattle.std.specs.Prelude.{◌≡◌, ◌+◌, ◌^◌, ◌<◌, IfOk, OnOk, sum, length, vec_len};
 
 use crate::desk::Desk;
-use crate::shop::{Shop, Turn};
+use crate::shop::{Shop, Turn, Worked};
 use crate::side_by_side::side_by_side;
 use crate::worker::{Served, Worker, serve};
 use det_host::Gate;
@@ -91,8 +91,11 @@ fn opened<S: Shop, L: Ledger, M: Ledger>(shop: S, out: Book<L>, done: Book<M>) -
         shop,
         out,
         done,
+        here: 0,
         asleep: 0,
         rung: false,
+        lasting: 0,
+        short: 0,
         failed: false,
     }
 }
@@ -191,7 +194,7 @@ fn drain<S: Shop, R: Wait>(rt: &R, alloc: Global, shop: S) -> Result<(S, u64), A
         match shop.turn(0)? {
             Turn::Job(job) => {
                 let mut tools = S::tools(alloc)?;
-                let done = S::work(&mut tools, job)?;
+                let done = done_whole::<S>(&mut tools, job)?;
                 if shop.commit(done) {
                     count += 1;
                 }
@@ -201,6 +204,14 @@ fn drain<S: Shop, R: Wait>(rt: &R, alloc: Global, shop: S) -> Result<(S, u64), A
         }
     }
     Ok((shop, count))
+}
+
+// Does a job from its beginning to its end.
+fn done_whole<S: Shop>(tools: &mut S::Tools, job: S::Job) -> Result<S::Done, AllocError> {
+    match S::work(tools, job)? {
+        Worked::Ended(done) => Ok(done),
+        Worked::Lasts(done) => S::go_on(tools, done),
+    }
 }
 
 fn add_first(counts: &mut [u64], more: u64)

@@ -17,6 +17,15 @@ pub enum Turn<J> {
     Over,
 }
 
+/// What a worker has done of a job.
+#[derive(Drop)]
+pub enum Worked<D> {
+    /// All of it.
+    Ended(D),
+    /// Its beginning; the rest may take long.
+    Lasts(D),
+}
+
 /// Work that is handed out job by job, is done outside of the lock, and whose results are taken back. Contracts see how many results were
 /// accepted, how many jobs are owed (handed out, and not yet handed in), and when the shop is idle: a statement, that there is nothing to do for a worker
 /// that asks.
@@ -48,16 +57,21 @@ pub trait Shop: Send + Drop {
         ensures same { IfOk result (λ t. is_idle t ≡ true → self.new ≡ self.old) };
 
     /// Whether another worker's turn may now be a job or a step. It is a hint, which wakes workers that wait: a shop that cannot tell answers true, at
-    /// the cost of a look in vain for each job. One that answers false too often has fewer workers at work, and no other result.
-    fn has_more(&self) -> bool {
+    /// the cost of a look in vain for each job that lasts. One that answers false too often has fewer workers at work, and no other result.
+    fn has_more(&mut self) -> bool
+        ensures { self.new ≡ self.old }
+    {
         true
     }
 
     /// The tools of one worker. The one error is want of memory.
     fn tools(alloc: Global) -> Result<Self::Tools, AllocError>;
 
-    /// Does a job. The one error is want of memory.
-    fn work(tools: &mut Self::Tools, job: Self::Job) -> Result<Self::Done, AllocError>;
+    /// Does a job, or the beginning of one that lasts: others are woken before the worker goes on with it. The one error is want of memory.
+    fn work(tools: &mut Self::Tools, job: Self::Job) -> Result<Worked<Self::Done>, AllocError>;
+
+    /// Does the rest of a job that lasts. The one error is want of memory.
+    fn go_on(tools: &mut Self::Tools, done: Self::Done) -> Result<Self::Done, AllocError>;
 
     /// Takes a result back, and says whether it was accepted.
     fn commit(&mut self, done: Self::Done) -> bool

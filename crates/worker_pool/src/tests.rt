@@ -1,4 +1,4 @@
-use crate::{Shop, Turn, run_pool};
+use crate::{Shop, Turn, Worked, run_pool};
 use det_host::{Gate, GateEvent, OpenGate};
 use std::alloc::{AllocError, Global};
 use std::sync::atomic::{AtomicU64, Ordering};
@@ -93,7 +93,7 @@ impl Shop for Row {
         }))
     }
 
-    fn has_more(&self) -> bool {
+    fn has_more(&mut self) -> bool {
         self.ready > 0
     }
 
@@ -102,11 +102,23 @@ impl Shop for Row {
         Ok(7)
     }
 
-    fn work(tools: &mut u32, job: Sum) -> Result<u32, AllocError> {
+    // Each fifth job lasts.
+    fn work(tools: &mut u32, job: Sum) -> Result<Worked<u32>, AllocError> {
         if !job.fits {
             return Err(AllocError);
         }
-        Ok(job.number.wrapping_mul(*tools))
+        let done = job.number.wrapping_mul(*tools);
+        Ok(if job.number % 5 == 0 {
+            Worked::Lasts(done)
+        } else {
+            Worked::Ended(done)
+        })
+    }
+
+    fn go_on(tools: &mut u32, done: u32) -> Result<u32, AllocError> {
+        let _ = tools;
+        yield_now();
+        Ok(done)
     }
 
     fn commit(&mut self, done: u32) -> bool {
@@ -196,16 +208,21 @@ impl Shop for Pair {
         Ok(())
     }
 
-    fn work(tools: &mut (), job: Arc<AtomicU64, Global>) -> Result<bool, AllocError> {
+    fn work(tools: &mut (), job: Arc<AtomicU64, Global>) -> Result<Worked<bool>, AllocError> {
         let _ = tools;
         job.fetch_add(1, Ordering::SeqCst);
         for _ in 0..10_000_000u32 {
             if job.load(Ordering::SeqCst) >= 2 {
-                return Ok(true);
+                return Ok(Worked::Ended(true));
             }
             yield_now();
         }
-        Ok(false)
+        Ok(Worked::Ended(false))
+    }
+
+    fn go_on(tools: &mut (), done: bool) -> Result<bool, AllocError> {
+        let _ = tools;
+        Ok(done)
     }
 
     fn commit(&mut self, done: bool) -> bool {

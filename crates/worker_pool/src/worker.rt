@@ -1,12 +1,14 @@
 // What one worker does, from its first turn to its last.
 //
-// No worker sleeps for ever beside a job. A worker sleeps only in `wait_for_turn`, where its own turn under the same lock was `Rest`. Whoever changes
-// the shop is awake and has the lock, and does not leave it to sleep before it has looked again:
-// - A turn that is a job: the worker comes back with the result. If there may be more, it rings for one that sleeps, once it has left the lock.
-//   That one looks, and does the same in its turn, so one after another is woken for as long as there may be more. Nobody is rung for while one that
+// No worker sleeps for ever beside a job. A worker sleeps in `wait_for_turn`, where its own turn under the same lock was `Rest`, and in `hand_in` beside another
+// that is awake. Whoever changes the shop is awake and has the lock, and does not leave it to sleep before it has looked again, unless another is awake:
+// - A turn that is a job: the worker comes back with the result. If there may be more, it rings for one that sleeps: once it has left the lock, or, where
+//   the last jobs were short (`is_eager`), once it knows that this one lasts; if it does not, the worker is back soon, and looks again. The one that was rung for
+//   looks, and does the same in its turn, so one after another is woken for as long as there may be more. Nobody is rung for while one that
 //   was rung for is on its way to the lock (`rung`): that one looks at whatever there is by then. Whoever wakes takes the note away, rung for or not.
 // - A turn that met: the worker comes back at once.
-// - A result that was handed in: the same worker takes its next turn under the same lock.
+// - A result that was handed in: the same worker takes its next turn under the same lock. Where the last jobs were short it sleeps first, but only beside
+//   another that is awake and has no job that lasts (`is_crowded`): that one comes back to the lock, or rings when it finds that its job lasts.
 // - A turn that is `Rest` changes nothing, so whatever it found wanting is wanting still; the shop answers it only while a job is out, and whoever
 //   has that job comes back.
 // - `Over`, and want of memory, ring for all.
@@ -19,7 +21,7 @@ ghost use Rattle.std.specs.Prelude.{◌≡◌, ◌+◌, ◌^◌, ◌<◌, cond, 
 ghost use Rattle.worker_pool.specs.Turns.{is_job};
 
 use crate::desk::{Desk, Ring};
-use crate::shop::{Shop, Turn};
+use crate::shop::{Shop, Turn, Worked};
 use det_host::{Gate, GateEvent};
 use std::alloc::{AllocError, Global};
 use std::sync::ledger::{Ledger, Share};
@@ -63,6 +65,7 @@ pub(crate) fn serve<S: Shop, L: Ledger, M: Ledger, G: Gate, R: Wait>(
         mut out,
         done: mut tally,
     } = worker;
+    come(rt, desk);
     let Ok(mut tools) = S::tools(alloc) else {
         return Err(fail(rt, desk, bell));
     };
@@ -72,7 +75,7 @@ pub(crate) fn serve<S: Shop, L: Ledger, M: Ledger, G: Gate, R: Wait>(
         turn = match turn {
             Turn::Job(job) => {
                 gate.pass(number, GateEvent::Took);
-                let Ok(done) = S::work(&mut tools, job) else {
+                let Ok(done) = work(rt, desk, bell, &mut tools, job) else {
                     return Err(fail(rt, desk, bell));
                 };
                 let (taken, next) = hand_in(rt, desk, bell, number, done, &mut out, &mut tally);
@@ -101,6 +104,12 @@ fn ended_with<L: Ledger, M: Ledger>(count: u64, out: Share<L>, done: Share<M>) -
     requires done { (done.parts ≡ 1) × (done.amount ≡ count) }
 {
     Served { count, out, done }
+}
+
+// One more worker is here.
+fn come<S: Shop, L: Ledger, M: Ledger, R: Wait>(rt: &R, desk: &Mutex<Desk<S, L, M>>) {
+    let mut guard = desk.lock(rt);
+    guard.here = guard.here.saturating_add(1);
 }
 
 // One turn under the lock.
@@ -152,13 +161,31 @@ fn wait_for_turn<S: Shop, L: Ledger, M: Ledger, R: Wait>(
     unreachable!()
 }
 
-// A result is handed in, and the next turn taken, under one lock. Answers whether the result was accepted.
+// Does a job, which wakes another worker where it lasts and there may be more. Answers what came of it, and whether it lasted.
+fn work<S: Shop, L: Ledger, M: Ledger, R: Wait>(
+    rt: &R,
+    desk: &Mutex<Desk<S, L, M>>,
+    bell: &Condvar,
+    tools: &mut S::Tools,
+    job: S::Job,
+) -> Result<(S::Done, bool), AllocError> {
+    match S::work(tools, job)? {
+        Worked::Ended(done) => Ok((done, false)),
+        Worked::Lasts(done) => {
+            let ring = desk.lock(rt).ring_as_it_lasts();
+            ring.sound(bell);
+            Ok((S::go_on(tools, done)?, true))
+        }
+    }
+}
+
+// A result is handed in, and the next turn taken, under one lock; where the workers stand in each other's way, once the bell has rung. Answers whether the result was accepted.
 fn hand_in<S: Shop, L: Ledger, M: Ledger, R: Wait>(
     rt: &R,
     desk: &Mutex<Desk<S, L, M>>,
     bell: &Condvar,
     number: usize,
-    done: S::Done,
+    done: (S::Done, bool),
     out: &mut Share<L>,
     tally: &mut Share<M>,
 ) -> (bool, Result<Turn<S::Job>, AllocError>)
@@ -170,8 +197,16 @@ fn hand_in<S: Shop, L: Ledger, M: Ledger, R: Wait>(
     ensures tally { tally.new.amount ≡ cond result.0 (tally.old.amount + 1) tally.old.amount }
     ensures small { tally.new.amount < 2 ^ 64 }
 {
+    let (done, lasted) = done;
     let mut guard = desk.lock(rt);
+    guard.note(lasted);
     let taken = guard.commit(done, out, tally);
+    if guard.is_crowded() {
+        guard.asleep = guard.asleep.saturating_add(1);
+        guard = bell.wait(rt, guard);
+        guard.asleep = guard.asleep.saturating_sub(1);
+        guard.rung = false;
+    }
     let turn = guard.turn(number, out);
     let ring = guard.ring_after(&turn);
     drop(guard);
@@ -185,7 +220,10 @@ fn fail<S: Shop, L: Ledger, M: Ledger, R: Wait>(
     desk: &Mutex<Desk<S, L, M>>,
     bell: &Condvar,
 ) -> AllocError {
-    desk.lock(rt).failed = true;
-    Ring::All.sound(bell);
+    let mut guard = desk.lock(rt);
+    guard.failed = true;
+    let ring = guard.ring_at_the_end();
+    drop(guard);
+    ring.sound(bell);
     AllocError
 }
