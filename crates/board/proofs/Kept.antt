@@ -43,7 +43,7 @@ path_cases (n ∷ p) (m ∷ q) = go (cases_eq n m) (path_cases p q)
     go (inr e) f = inr (λ g. e cc)
 
 -- where a call is next at a path, no local event is
-not_both : (q : List ℕ) (levels : ℕ) (s : Space) (k : Call) → is_local_at q levels s ≡ true → call_at q levels s ≡ Some k → ⊥
+pub not_both : (q : List ℕ) (levels : ℕ) (s : Space) (k : Call) → is_local_at q levels s ≡ true → call_at q levels s ≡ Some k → ⊥
 not_both [] levels s k goes may = go (next levels (top_of s)) goes may
   where
     go : (e : NextEvent) → is_local e ≡ true → ready_call e (children_of s) ≡ Some k → ⊥
@@ -168,16 +168,16 @@ taken_listed tree run calls news old new slot o t listed was sets = record {
     after : Space
     after = with_top q t tree
 
-    listed_still : (p : List ℕ) → p ≢ q → Has run p ⊎ (IsOnNews news p ⊎ IsOut old p) → Has run p ⊎ (IsOnNews (news ++ q ∷ []) p ⊎ IsOut new p)
+    listed_still : (p : List ℕ) → p ≢ q → Has run p ⊎ (Has news p ⊎ IsOut old p) → Has run p ⊎ (Has (news ++ q ∷ []) p ⊎ IsOut new p)
     listed_still p other (inl has) = inl has
-    listed_still p other (inr (inl on)) = inr (inl (still_news news q p on))
+    listed_still p other (inr (inl has)) = inr (inl (more_news news q p has))
     listed_still p other (inr (inr out)) = inr (inr (still_out slot o old new p was sets other out))
 
     runs : ListsRunning after run (news ++ q ∷ []) new
     runs p goes = go (path_cases p q)
       where
-        go : (p ≡ q) ⊎ (p ≡ q → ⊥) → Has run p ⊎ (IsOnNews (news ++ q ∷ []) p ⊎ IsOut new p)
-        go (inl e) = inr (inl (q, last_news news q, subst (λ r. IsOnWay r q) (sym e) (way_itself q)))
+        go : (p ≡ q) ⊎ (p ≡ q → ⊥) → Has run p ⊎ (Has (news ++ q ∷ []) p ⊎ IsOut new p)
+        go (inl e) = inr (inl (subst (Has (news ++ q ∷ [])) (sym e) (last_news news q)))
         go (inr other) = listed_still p other (listed.running p (sym (local_by_top p 8 tree after (top_other p q t tree other)) ∙ goes))
 
     calls_still : (p : List ℕ) → Has calls p ⊎ IsOnNews news p → Has calls p ⊎ IsOnNews (news ++ q ∷ []) p
@@ -204,10 +204,10 @@ stale_listed tree run calls news old new slot o listed was sets = record {
     q : List ℕ
     q = o.path.items
 
-    runs : (p : List ℕ) → (p ≡ q) ⊎ (p ≡ q → ⊥) → Has run p ⊎ (IsOnNews news p ⊎ IsOut old p) → Has run p ⊎ (IsOnNews (news ++ q ∷ []) p ⊎ IsOut new p)
+    runs : (p : List ℕ) → (p ≡ q) ⊎ (p ≡ q → ⊥) → Has run p ⊎ (Has news p ⊎ IsOut old p) → Has run p ⊎ (Has (news ++ q ∷ []) p ⊎ IsOut new p)
     runs p c (inl has) = inl has
-    runs p c (inr (inl on)) = inr (inl (still_news news q p on))
-    runs p (inl e) (inr (inr out)) = inr (inl (q, last_news news q, subst (λ r. IsOnWay r q) (sym e) (way_itself q)))
+    runs p c (inr (inl has)) = inr (inl (more_news news q p has))
+    runs p (inl e) (inr (inr out)) = inr (inl (subst (Has (news ++ q ∷ [])) (sym e) (last_news news q)))
     runs p (inr other) (inr (inr out)) = inr (inr (still_out slot o old new p was sets other out))
 
     calls_still : (p : List ℕ) → Has calls p ⊎ IsOnNews news p → Has calls p ⊎ IsOnNews (news ++ q ∷ []) p
@@ -216,21 +216,21 @@ stale_listed tree run calls news old new slot o listed was sets = record {
 
 -- the last of the news is listed
 pub news_listed : (tree : Space) (run calls run' calls' news : Paths) (q : List ℕ) (out : Slots) → IsListed tree run calls (news ++ q ∷ []) out
-    → HasAll run' run → HasAll calls' calls → HasWay run' q → HasWay calls' q → IsListed tree run' calls' news out
-news_listed tree run calls run' calls' news q out listed all_run all_calls way_run way_calls = record {
+    → HasAll run' run → HasAll calls' calls → Has run' q → HasWay calls' q → IsListed tree run' calls' news out
+news_listed tree run calls run' calls' news q out listed all_run all_calls there way_calls = record {
   running = λ p goes. runs p (listed.running p goes);
   meeting = λ p k may. meets p (listed.meeting p k may);
   goes = listed.goes;
   apart = listed.apart;
 }
   where
-    by_run : (p r : List ℕ) → (r ≡ q) ⊎ Has news r → IsOnWay p r → Has run' p ⊎ (IsOnNews news p ⊎ IsOut out p)
-    by_run p r (inl e) way = inl (way_run p (subst (IsOnWay p) e way))
-    by_run p r (inr has) way = inr (inl (r, has, way))
+    by_run : (p : List ℕ) → (p ≡ q) ⊎ Has news p → Has run' p ⊎ (Has news p ⊎ IsOut out p)
+    by_run p (inl e) = inl (subst (Has run') (sym e) there)
+    by_run p (inr has) = inr (inl has)
 
-    runs : (p : List ℕ) → Has run p ⊎ (IsOnNews (news ++ q ∷ []) p ⊎ IsOut out p) → Has run' p ⊎ (IsOnNews news p ⊎ IsOut out p)
+    runs : (p : List ℕ) → Has run p ⊎ (Has (news ++ q ∷ []) p ⊎ IsOut out p) → Has run' p ⊎ (Has news p ⊎ IsOut out p)
     runs p (inl has) = inl (all_run p has)
-    runs p (inr (inl on)) = by_run p on.0 (split_news news q on.0 on.1) on.2
+    runs p (inr (inl has)) = by_run p (split_news news q p has)
     runs p (inr (inr o)) = inr (inr o)
 
     by_call : (p r : List ℕ) → (r ≡ q) ⊎ Has news r → IsOnWay p r → Has calls' p ⊎ IsOnNews news p
@@ -250,7 +250,7 @@ more_listed tree run calls run' calls' news out listed all_run all_calls = recor
   apart = listed.apart;
 }
   where
-    runs : (p : List ℕ) → Has run p ⊎ (IsOnNews news p ⊎ IsOut out p) → Has run' p ⊎ (IsOnNews news p ⊎ IsOut out p)
+    runs : (p : List ℕ) → Has run p ⊎ (Has news p ⊎ IsOut out p) → Has run' p ⊎ (Has news p ⊎ IsOut out p)
     runs p (inl has) = inl (all_run p has)
     runs p (inr other) = inr other
 
@@ -279,7 +279,7 @@ met_listed tree fuel run calls news out q k sound listed may way_run way_calls a
     apart_from : (p : List ℕ) → is_local_at p 8 tree ≡ true → p ≢ q
     apart_from p goes e = not_both q 8 tree k (ap (λ r. is_local_at r 8 tree) (sym e) ∙ goes) may
 
-    runs : (p : List ℕ) → (at p after ≡ at p tree) ⊎ IsNear (awaits k) p q → is_local_at p 8 after ≡ true → Has run p ⊎ (IsOnNews news p ⊎ IsOut out p)
+    runs : (p : List ℕ) → (at p after ≡ at p tree) ⊎ IsNear (awaits k) p q → is_local_at p 8 after ≡ true → Has run p ⊎ (Has news p ⊎ IsOut out p)
     runs p (inl same) goes = listed.running p (sym (same_local p 8 tree after same) ∙ goes)
     runs p (inr (inl way)) goes = inl (way_run p way)
     runs p (inr (inr below)) goes = inl (awaited_run p (short p (local_enabled p 8 after goes)) below)
@@ -299,11 +299,11 @@ run_dropped tree run calls out p listed first away = record {
   apart = listed.apart;
 }
   where
-    one_of : (q : List ℕ) → is_local_at q 8 tree ≡ true → (q ≡ p) ⊎ Has (rest_of run) q → Has (rest_of run) q ⊎ (IsOnNews [] q ⊎ IsOut out q)
+    one_of : (q : List ℕ) → is_local_at q 8 tree ≡ true → (q ≡ p) ⊎ Has (rest_of run) q → Has (rest_of run) q ⊎ (Has [] q ⊎ IsOut out q)
     one_of q goes (inr later) = inl later
     one_of q goes (inl e) = inr (inr (subst (IsOut out) (sym e) (away (subst (λ r. is_local_at r 8 tree ≡ true) e goes))))
 
-    runs : (q : List ℕ) → is_local_at q 8 tree ≡ true → Has run q ⊎ (IsOnNews [] q ⊎ IsOut out q) → Has (rest_of run) q ⊎ (IsOnNews [] q ⊎ IsOut out q)
+    runs : (q : List ℕ) → is_local_at q 8 tree ≡ true → Has run q ⊎ (Has [] q ⊎ IsOut out q) → Has (rest_of run) q ⊎ (Has [] q ⊎ IsOut out q)
     runs q goes (inl has) = one_of q goes (subst (λ ps. Has ps q) first.first has)
     runs q goes (inr other) = inr other
 
@@ -328,18 +328,18 @@ call_dropped tree run calls out p listed first none = record {
 pub run_least : (tree : Space) (run calls : Paths) (out : Slots) (p q : List ℕ) → IsListed tree run calls [] out → IsFirst p run → MayBeTaken tree out q → (q ≡ p) ⊎ IsBefore p q
 run_least tree run calls out p q listed first may = go (listed.running q may.goes)
   where
-    go : Has run q ⊎ (IsOnNews [] q ⊎ IsOut out q) → (q ≡ p) ⊎ IsBefore p q
+    go : Has run q ⊎ (Has [] q ⊎ IsOut out q) → (q ≡ p) ⊎ IsBefore p q
     go (inl has) = first.least q has
-    go (inr (inl on)) = absurd on.1
+    go (inr (inl has)) = absurd has
     go (inr (inr out)) = absurd (may.inside out)
 
 -- and where none is listed none may be taken
 pub none_to_take : (tree : Space) (calls : Paths) (out : Slots) (q : List ℕ) → IsListed tree [] calls [] out → MayBeTaken tree out q → ⊥
 none_to_take tree calls out q listed may = go (listed.running q may.goes)
   where
-    go : Has [] q ⊎ (IsOnNews [] q ⊎ IsOut out q) → ⊥
+    go : Has [] q ⊎ (Has [] q ⊎ IsOut out q) → ⊥
     go (inl has) = has
-    go (inr (inl on)) = on.1
+    go (inr (inl has)) = has
     go (inr (inr out)) = may.inside out
 
 pub call_least : (tree : Space) (run calls : Paths) (out : Slots) (p q : List ℕ) (k : Call) → IsListed tree run calls [] out → IsFirst p calls → call_at q 8 tree ≡ Some k → (q ≡ p) ⊎ IsBefore p q
@@ -390,7 +390,7 @@ put_out_listed tree run run' calls news old new slot o listed may vacant sets fe
   apart = apart;
 }
   where
-    runs : (q : List ℕ) → (q ≡ o.path.items) ⊎ (q ≡ o.path.items → ⊥) → Has run q ⊎ (IsOnNews news q ⊎ IsOut old q) → Has run' q ⊎ (IsOnNews news q ⊎ IsOut new q)
+    runs : (q : List ℕ) → (q ≡ o.path.items) ⊎ (q ≡ o.path.items → ⊥) → Has run q ⊎ (Has news q ⊎ IsOut old q) → Has run' q ⊎ (Has news q ⊎ IsOut new q)
     runs q (inl e) was = inr (inr (slot, (o, sets.here, sym e)))
     runs q (inr other) (inl has) = inl (fewer q other has)
     runs q (inr other) (inr (inl on)) = inr (inl on)

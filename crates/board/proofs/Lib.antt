@@ -1,5 +1,7 @@
 pub mod Kept
 pub mod Ways
+pub mod Places
+pub mod Names
 pub mod Outs
 pub mod Histories
 pub mod Beginnings

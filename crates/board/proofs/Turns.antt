@@ -19,7 +19,7 @@ use Rattle.board.specs.declared.result.Commit.TheVariants.{Taken, Stale}
 use Rattle.board.specs.Jobs.{Slots, out_at, IsNoneOut, MayBeTaken, Sets}
 use Rattle.board.specs.Value.{Shown}
 use Rattle.board.specs.Steps.{Meets, IsTaken, IsStale, IsDropped, Commits}
-use Rattle.board.specs.Turns.{results_in, accepted, is_taken, IsFinished, IsIdle, IsTurn, IsOnlyOut, HandsOut, handed_in, HandsIn}
+use Rattle.board.specs.Turns.{results_in, accepted, is_taken, IsFinished, IsIdle, IsTurn, IsOnlyOut, HandsOut, handed_in, HandsIn, bare}
 use Rattle.board.proofs.Settling.{settled_meets_none, settled_takes_none}
 
 -- a run is one more result
@@ -135,6 +135,17 @@ pub none_taken_before : (old new : Shown) → new ≡ old → ((p : List ℕ) �
 none_taken_before old new same none = subst (λ (s : Shown). (p : List ℕ) → MayBeTaken s.tree s.out p → ⊥) same none
 
 -- a result that is handed in is counted exactly where it is taken
+-- the same of a turn whose job has more than a job: a name
+pub named_accepts : {A : Type 0} (job_of : A → Job) (old new : Shown) (r : Result (Turn A) AllocError) → IfOk r (λ t. IsTurn old (bare job_of t) new) → OnErr r (new ≡ old) → accepted new ≡ accepted old
+named_accepts job_of old new (Ok t) is err = turn_accepts old new (bare job_of t) is
+named_accepts job_of old new (Err e) is err = ap accepted err
+
+pub named_idles : {A : Type 0} (job_of : A → Job) (old new : Shown) (t : Turn A) → IsTurn old (bare job_of t) new → is_idle t ≡ true → IsIdle old
+named_idles job_of old new Met is h = absurd (true≢false (sym h))
+named_idles job_of old new (Hands named) is h = absurd (true≢false (sym h))
+named_idles job_of old new Rest is h = turn_idles old new Rest is refl
+named_idles job_of old new Over is h = turn_idles old new Over is refl
+
 pub hands_in_accepts : (old new : Shown) (d : Done) (b : Bool) → HandsIn old d b new → accepted new ≡ cond b (accepted old + 1) (accepted old)
 hands_in_accepts old new d b hands = go hands.0 hands.1 hands.2
   where

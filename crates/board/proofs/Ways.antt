@@ -2,7 +2,7 @@
 use Rattle.std.proofs.Common.{◌≡◌, ℕ, ◌+◌, ◌<◌, ◌≤◌, ◌==◌, ◌||◌, Bool, true, false, List, [], ◌∷◌, ◌++◌, length, take, Some, ◌⊎◌, inl, inr, refl, sym, ap, ap₂, ◌∙◌, subst, arith, true≢false}
 use Rattle.std.proofs.lemmas.Bool.Decides.{nat_tests}
 use Rattle.std.proofs.lemmas.Bool.{cases_eq}
-use Rattle.std.specs.Prelude.{slice_get, Option, None, IfSome, Result, Ok, Err, OnOk, OnErr, is_err}
+use Rattle.std.specs.Prelude.{slice_get, Option, None, IfSome, Result, Ok, Err, OnOk, OnErr, is_err, is_ok}
 use Rattle.std.proofs.lemmas.Option.{slice_get_within, get_or_from_slice_get}
 use Rattle.std.proofs.lemmas.List.{take_all, take_more}
 use Rattle.arrayvec.specs.ArrayVec.{ArrayVec}
@@ -110,6 +110,11 @@ awaited_end ps all named q i so_far past is =
 pub of_ok : {T E : Type 0} (r : Result T E) (P : Type 0) {b : Bool} → b ≡ false → b ≡ is_err r → OnOk r P → P
 of_ok (Ok x) P no_error told holds = holds
 of_ok (Err e) P no_error told holds = absurd (true≢false (sym told ∙ no_error))
+
+-- and what holds at Err where it is not Ok
+pub of_err : {T E : Type 0} (r : Result T E) (P : Type 0) {b : Bool} → b ≡ false → b ≡ is_ok r → OnErr r P → P
+of_err (Ok x) P no_ok told holds = absurd (true≢false (sym told ∙ no_ok))
+of_err (Err e) P no_ok told holds = holds
 
 pub if_some_weaker : {T : Type 0} (o : Option T) (P Q : T → Type 0) → ((x : T) → P x → Q x) → IfSome o P → IfSome o Q
 if_some_weaker None P Q f h = tt

@@ -16,9 +16,9 @@ use Rattle.board.specs.declared.job.Out.{Out}
 abbrev pub IsOnNews : Paths → List ℕ → Type 0
 IsOnNews news p = (q : List ℕ) × Has news q × IsOnWay p q
 
--- each space that has local events is listed, or is out
+-- each space that has local events is listed, or is news, or is out
 abbrev pub ListsRunning : Space → Paths → Paths → Slots → Type 0
-ListsRunning tree run news out = (p : List ℕ) → is_local_at p greatest_depth tree ≡ true → Has run p ⊎ (IsOnNews news p ⊎ IsOut out p)
+ListsRunning tree run news out = (p : List ℕ) → is_local_at p greatest_depth tree ≡ true → Has run p ⊎ (Has news p ⊎ IsOut out p)
 
 -- each call that may meet its children is listed
 abbrev pub ListsCalls : Space → Paths → Paths → Type 0

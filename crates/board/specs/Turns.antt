@@ -10,12 +10,14 @@ use Rattle.det_core.specs.declared.entry.Entry.{Entry}
 use Rattle.det_core.specs.declared.entry.Entry.TheVariants.{Ran, Met as MetEntry}
 use Rattle.worker_pool.specs.declared.shop.Turn.{Turn}
 use Rattle.worker_pool.specs.declared.shop.Turn.TheVariants.{Job as Hands, Met, Rest, Over}
+use Rattle.worker_pool.specs.declared.shop.Worked.{Worked}
+use Rattle.worker_pool.specs.declared.shop.Worked.TheVariants.{Ended, Lasts}
 use Rattle.board.specs.declared.job.Out.{Out}
 use Rattle.board.specs.declared.job.Job.{Job}
 use Rattle.board.specs.declared.done.Done.{Done}
 use Rattle.board.specs.declared.result.Commit.{Commit}
 use Rattle.board.specs.declared.result.Commit.TheVariants.{Taken, Stale}
-use Rattle.board.specs.declared.working.TheConstants.{QUANTUM}
+use Rattle.board.specs.declared.working.TheConstants.{QUANTUM, FIRST_EVENTS}
 use Rattle.board.specs.Jobs.{Slots, out_at, IsNoneOut, MayBeTaken}
 use Rattle.board.specs.Value.{Shown}
 use Rattle.board.specs.Steps.{Takes, Meets, Commits}
@@ -62,6 +64,13 @@ IsTurn old (Hands job) new = NoneMayMeet old × HandsOut old job new
 IsTurn old Rest new = IsIdle old × IsSomeOut old.out × (new ≡ old)
 IsTurn old Over new = IsFinished old × (new ≡ old)
 
+-- a turn whose job has lost its name
+abbrev pub bare : {A : Type 0} → (A → Job) → Turn A → Turn Job
+bare job_of Met = Met
+bare job_of (Hands named) = Hands (job_of named)
+bare job_of Rest = Rest
+bare job_of Over = Over
+
 abbrev pub is_over : Turn Job → Bool
 is_over Met = false
 is_over (Hands job) = false
@@ -79,12 +88,30 @@ handed_in b = record b { owed = b.owed - 1 }
 abbrev pub HandsIn : Shown → Done → Bool → Shown → Type 0
 HandsIn old d taken new = (c : Commit) × (taken ≡ is_taken c) × Commits (handed_in old) d c new
 
--- what comes of a job: it names the job's slot, ticket and path, and has the local events of its space from the job's start on, fewer than a quantum only
--- where what is next is no local event
-pub record IsOf (job : Job) (d : Done) : Type 0 where
+-- what comes of a job, or of its beginning: it names the job's slot, ticket and path, and has local events of its space from the job's start on
+pub record IsFor (job : Job) (d : Done) : Type 0 where
   pub slot : d.slot ≡ job.slot
   pub ticket : d.ticket ≡ job.ticket
   pub path : d.path ≡ job.path
   pub start : (let run = d.run in run.start) ≡ job.top
-  pub within : (let run = d.run in run.ran) ≤ QUANTUM
-  pub fewer : (let run = d.run in run.ran) < QUANTUM → IsNotLocal (next (levels_below (let run = d.run in run.depth)) (let run = d.run in run.top))
+
+-- at most so many events, and fewer only where what is next is no local event
+abbrev pub HasHad : ℕ → Done → Type 0
+HasHad quantum d = ((let run = d.run in run.ran) ≤ quantum) × ((let run = d.run in run.ran) < quantum → IsNotLocal (next (levels_below (let run = d.run in run.depth)) (let run = d.run in run.top)))
+
+-- what comes of a job: a quantum of events, or fewer where what is next is no local event
+abbrev pub IsOf : Job → Done → Type 0
+IsOf job d = IsFor job d × HasHad QUANTUM d
+
+-- the first events of a job: all that it has, or as many as a job has that lasts
+abbrev pub Begins : Job → Worked Done → Type 0
+Begins job (Ended d) = IsOf job d
+Begins job (Lasts d) = IsFor job d × ((let run = d.run in run.ran) ≡ FIRST_EVENTS)
+
+-- what comes of a job that lasts, once its space has gone on
+pub record GoesOn (d e : Done) : Type 0 where
+  pub slot : e.slot ≡ d.slot
+  pub ticket : e.ticket ≡ d.ticket
+  pub path : e.path ≡ d.path
+  pub start : (let run = e.run in run.start) ≡ (let run = d.run in run.start)
+  pub events : (let run = d.run in run.ran) ≤ QUANTUM → HasHad QUANTUM e

@@ -30,21 +30,24 @@ fn stands(tree: &Space, path: &Path, top: &Top) -> bool
     }
 }
 
-// Whether a result is of this job: its path is the job's, and its start is what stands there.
-fn is_of(tree: &Space, job: &Out, done: &Done) -> bool
+// Whether a result is of this job: its path is the job's, and its start is what stands there, which may be known.
+fn is_of(tree: &Space, job: &Out, done: &Done, known: bool) -> bool
+    requires { known ≡ true → top_at job.now.path.items tree.now ≡ Some (let run = done.now.run in run.start) }
     ensures yes { result ≡ true → IsStart tree.now job.now done.now }
     ensures no { IsStart tree.now job.now done.now → result ≡ true }
 {
-    job.path.as_slice() == done.path.as_slice() && stands(tree, &done.path, done.run.start())
+    job.path.as_slice() == done.path.as_slice()
+        && (known || stands(tree, &done.path, done.run.start()))
 }
 
-/// Whether a result is of the job in its slot.
-pub(crate) fn is_of_slot(tree: &Space, out: &Slab<Out>, done: &Done) -> bool
+/// Whether a result is of the job in its slot. That it began with what stands at the job's path may be known.
+pub(crate) fn is_of_slot(tree: &Space, out: &Slab<Out>, done: &Done, known: bool) -> bool
+    requires { known ≡ true → (o : Out) → out_at out.now.slots done.now.slot ≡ Some o → top_at o.path.items tree.now ≡ Some (let run = done.now.run in run.start) }
     ensures yes { result ≡ true → (o : Out) × (out_at out.now.slots done.now.slot ≡ Some o) × IsStart tree.now o done.now }
     ensures no { (o : Out) → out_at out.now.slots done.now.slot ≡ Some o → IsStart tree.now o done.now → result ≡ true }
 {
     match out.get(done.slot) {
-        Some(job) => is_of(tree, job, done),
+        Some(job) => is_of(tree, job, done, known),
         None => false,
     }
 }

@@ -4,6 +4,7 @@ ghost use Rattle.space_model.specs.Sound.{IsSound};
 ghost use Rattle.run_model.specs.Demand.{settle_tree};
 ghost use Rattle.det_core.specs.Legal.{Legal};
 ghost use Rattle.board.specs.Jobs.{IsNoneOut};
+ghost use Rattle.board.specs.Listed.{OutsApart, OutsRun};
 
 use crate::board::Board;
 use crate::closed::Closed;
@@ -17,6 +18,15 @@ impl Board {
         ensures some { 0 < self.now.nodes }
     {
         self.nodes
+    }
+
+    /// What is known of the tree and of the jobs that are out: it is sound, the space of each has local events, and none is out twice.
+    pub(crate) fn jobs_go_on(&self)
+        ensures sound { IsSound self.now.tree }
+        ensures run { OutsRun self.now.tree self.now.out }
+        ensures apart { OutsApart self.now.out }
+    {
+        let _entries = self.history.len();
     }
 
     /// Whether no job is out and no space in the tree runs. It takes no memory.

@@ -1,6 +1,7 @@
-ghost use Rattle.std.specs.Prelude.{◌≡◌, None, IsSome};
+ghost use Rattle.std.specs.Prelude.{◌≡◌, None, IsSome, true};
 ghost use Rattle.board.specs.declared.job.Out.{Out};
 ghost use Rattle.board.specs.Jobs.{Sets, out_at};
+ghost use Rattle.board.specs.Names.{IsKnown};
 ghost use Rattle.board.specs.Steps.{Commits, IsOfJob, IsTaken};
 
 use crate::board::Board;
@@ -48,13 +49,21 @@ impl Board {
     pub fn commit(&mut self, done: Done) -> Commit
         ensures { Commits self.old done result self.new }
     {
+        self.commit_known(done, false)
+    }
+
+    /// As `commit`. The caller may know that the result began with what stands in the tree at the path of its slot's job: then no bytes are compared.
+    pub(crate) fn commit_known(&mut self, done: Done, known: bool) -> Commit
+        requires { known ≡ true → IsKnown self.old done }
+        ensures { Commits self.old done result self.new }
+    {
         let Some(ticket) = ticket_in(&self.out, done.slot) else {
             return Commit::Stale { kept: None };
         };
         if ticket != done.ticket {
             return Commit::Stale { kept: Some(ticket) };
         }
-        if is_of_slot(&self.tree, &self.out, &done) {
+        if is_of_slot(&self.tree, &self.out, &done, known) {
             self.accept(done);
             return Commit::Taken;
         }

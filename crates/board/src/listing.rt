@@ -54,8 +54,20 @@ fn beginning(path: &Path, length: usize) -> Result<Path, AllocError>
     Ok(above)
 }
 
-/// Lists a path, and all that stand on the way to it.
+// Puts a path into a set, and all that stand on the way to it.
 #[tactic(auto, using(crate::proofs::Ways::none_shorter))]
+fn put_way(paths: &mut PathSet, path: &Path) -> Result<(), AllocError>
+    ensures all { HasAll paths.new paths.old }
+    ensures way { OnOk result (HasWay paths.new path.now.items) }
+{
+    for length in 0..path.len() + 1 {
+        let above = beginning(path, length)?;
+        paths.insert(above)?;
+    }
+    Ok(())
+}
+
+/// Lists a path, and all that stand on the way to it.
 pub(crate) fn list_way(
     run: &mut PathSet,
     calls: &mut PathSet,
@@ -65,11 +77,18 @@ pub(crate) fn list_way(
     ensures calls { HasAll calls.new calls.old }
     ensures way { OnOk result (HasWay run.new path.now.items × HasWay calls.new path.now.items) }
 {
-    for length in 0..path.len() + 1 {
-        let above = beginning(path, length)?;
-        list(run, calls, &above)?;
-    }
-    Ok(())
+    put_way(run, path)?;
+    put_way(calls, path)
+}
+
+// Lists a path that is news: its space may run, and so may each call on the way to it meet its children.
+fn list_one_of_news(run: &mut PathSet, calls: &mut PathSet, path: &Path) -> Result<(), AllocError>
+    ensures run { HasAll run.new run.old }
+    ensures calls { HasAll calls.new calls.old }
+    ensures there { OnOk result (Has run.new path.now.items × HasWay calls.new path.now.items) }
+{
+    run.insert(path.clone()?)?;
+    put_way(calls, path)
 }
 
 // Lists a child of the space at a path, where a space can stand there.
@@ -109,7 +128,7 @@ pub(crate) fn list_awaited(
     Ok(())
 }
 
-/// Brings the lists up to date: what stands on the way to the news is listed, and no news are left.
+/// Brings the lists up to date: the news are listed, as are the calls on the way to them, and no news are left.
 pub(crate) fn list_news(
     run: &mut PathSet,
     calls: &mut PathSet,
@@ -121,7 +140,7 @@ pub(crate) fn list_news(
     ensures capacity { vec_capacity news.new ≡ vec_capacity news.old }
 {
     while let Some(path) = news.pop() {
-        if list_way(run, calls, &path).is_err() {
+        if list_one_of_news(run, calls, &path).is_err() {
             news.push_reserved(path);
             return Err(AllocError);
         }

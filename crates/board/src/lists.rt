@@ -6,7 +6,7 @@ use space_tree::Path;
 pub(crate) struct Lists {
     /// The paths of the jobs that are out, and no others.
     pub(crate) at_work: PathSet,
-    /// All paths of spaces that have local events, but for those that are out and those on the way to the news.
+    /// All paths of spaces that have local events, but for those that are out and the news.
     pub(crate) run: PathSet,
     /// All paths of calls that may meet their children, but for those on the way to the news.
     pub(crate) calls: PathSet,

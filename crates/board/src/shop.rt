@@ -1,18 +1,17 @@
-use crate::board::Board;
-use crate::done::Done;
-use crate::job::Job;
-use crate::working;
+use crate::named::{NamedDone, NamedJob, begin_named, go_on_named};
+use crate::named_board::NamedBoard;
 use space_step::DecodeCache;
 use std::alloc::{AllocError, Global};
-use worker_pool::{Shop, Turn};
+use value_names::Naming;
+use worker_pool::{Shop, Turn, Worked};
 
 /// A board as a shop: it has accepted as many results as its history has of jobs, and is idle where no call may meet its children and no space may be taken.
-impl Shop for Board {
+impl<J: Naming + Send> Shop for NamedBoard<J> {
     ghost use Rattle.board.specs.Turns as turns;
 
-    type Job = Job;
+    type Job = NamedJob<J>;
 
-    type Done = Done;
+    type Done = NamedDone<J>;
 
     type Tools = DecodeCache;
 
@@ -22,27 +21,28 @@ impl Shop for Board {
 
     ghost idle = { turns.IsIdle };
 
-    fn turn(&mut self, worker: usize) -> Result<Turn<Job>, AllocError> {
+    fn turn(&mut self, worker: usize) -> Result<Turn<NamedJob<J>>, AllocError> {
         let _ = worker;
         self.next_turn()
     }
 
-    /// Behind a turn that handed out a job the lists have nothing before the next space that may be taken (`look_ahead`), so it is told right then.
-    fn has_more(&self) -> bool {
-        self.lists.run.first().is_some()
-            || self.lists.calls.first().is_some()
-            || !self.lists.news.is_empty()
+    fn has_more(&mut self) -> bool {
+        self.board.has_more()
     }
 
     fn tools(alloc: Global) -> Result<DecodeCache, AllocError> {
         DecodeCache::new(alloc)
     }
 
-    fn work(tools: &mut DecodeCache, job: Job) -> Result<Done, AllocError> {
-        working::work(tools, job)
+    fn work(tools: &mut DecodeCache, job: NamedJob<J>) -> Result<Worked<NamedDone<J>>, AllocError> {
+        begin_named(tools, job)
     }
 
-    fn commit(&mut self, done: Done) -> bool {
+    fn go_on(tools: &mut DecodeCache, done: NamedDone<J>) -> Result<NamedDone<J>, AllocError> {
+        go_on_named(tools, done)
+    }
+
+    fn commit(&mut self, done: NamedDone<J>) -> bool {
         self.hand_in(done)
     }
 }

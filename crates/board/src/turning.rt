@@ -1,6 +1,7 @@
 ghost use Rattle.std.specs.Prelude.{◌≡◌, ℕ, ◌<◌, ◌^◌, List, true, IfOk, IfSome, IsNone, OnErr};
 ghost use Rattle.worker_pool.specs.Turns.{is_idle};
 ghost use Rattle.board.specs.Jobs.{MayBeTaken};
+ghost use Rattle.board.specs.Names.{IsKnown};
 ghost use Rattle.board.specs.Turns.{accepted, HandsIn, HandsOut, IsFinished, IsIdle, IsTurn, is_over};
 
 use crate::board::Board;
@@ -22,15 +23,7 @@ impl Board {
             return Ok(None);
         };
         self.owed = owed;
-        self.look_ahead();
         Ok(Some(job))
-    }
-
-    // Drops what is listed before the next space that may be taken, so that a list that is not empty has one (`has_more`).
-    fn look_ahead(&mut self)
-        ensures { self.new ≡ self.old }
-    {
-        let _next = self.to_take();
     }
 
     /// A worker's turn. `Met` where a call may meet its children: the least one has met them. Else the job of the least space that may be taken. Where
@@ -54,6 +47,17 @@ impl Board {
         Ok(Turn::Rest)
     }
 
+    /// Whether another worker's turn may now be a job: a hint. What is listed before the next space that may be taken is dropped on the way, so a list that is not
+    /// empty has one. True, too, where there is no memory to tell.
+    pub(crate) fn has_more(&mut self) -> bool
+        ensures { self.new ≡ self.old }
+    {
+        match self.to_take() {
+            Ok(next) => next.is_some(),
+            Err(_) => true,
+        }
+    }
+
     // Fewer results are in the history than a number has values.
     fn are_few(&self)
         ensures { accepted self.now < 2 ^ 64 }
@@ -66,8 +70,17 @@ impl Board {
         ensures is { HandsIn self.old done result self.new }
         ensures small { accepted self.new < 2 ^ 64 }
     {
+        self.hand_in_known(done, false)
+    }
+
+    /// As `hand_in`. The caller may know that the result began with what stands in the tree at the path of its slot's job.
+    pub(crate) fn hand_in_known(&mut self, done: Done, known: bool) -> bool
+        requires { known ≡ true → IsKnown self.old done }
+        ensures is { HandsIn self.old done result self.new }
+        ensures small { accepted self.new < 2 ^ 64 }
+    {
         self.owed = self.owed.saturating_sub(1);
-        let commit = self.commit(done);
+        let commit = self.commit_known(done, known);
         self.are_few();
         commit == Commit::Taken
     }

@@ -11,19 +11,19 @@ returns-then-is_err-clause-listed c =
     λ tree out listed.
     let so_far = c.loop-path.invariant.0 tree out listed in
     let same = c.in-Some.ensures.items ∙ sym c.push_reserved.ensures.items in
-    subst (λ ns. IsListed tree c.list_way.new.run c.list_way.new.calls (paths_in ns) out) same
-    (more_listed tree c.loop-path.run c.loop-path.calls c.list_way.new.run c.list_way.new.calls (paths_in c.loop-path.news.items) out so_far c.list_way.ensures.run c.list_way.ensures.calls)
+    subst (λ ns. IsListed tree c.list_one_of_news.new.run c.list_one_of_news.new.calls (paths_in ns) out) same
+    (more_listed tree c.loop-path.run c.loop-path.calls c.list_one_of_news.new.run c.list_one_of_news.new.calls (paths_in c.loop-path.news.items) out so_far c.list_one_of_news.ensures.run c.list_one_of_news.ensures.calls)
 
 pub loop-path-preserved : goal.loop-path-preserved
 loop-path-preserved c =
-    let way = of_ok c.list_way.result _ c.if-is_err.false c.is_err.ensures.value c.list_way.ensures.way in
+    let way = of_ok c.list_one_of_news.result _ c.if-is_err.false c.is_err.ensures.value c.list_one_of_news.ensures.there in
     let shorter = c.in-Some.ensures.len in
     let before = c.loop-path.invariant.1 in (
       λ tree out listed.
           let so_far = c.loop-path.invariant.0 tree out listed in
-          news_listed tree c.loop-path.run c.loop-path.calls c.list_way.new.run c.list_way.new.calls (paths_in c.pop.new.self.items) c.in-Some.path.items out
+          news_listed tree c.loop-path.run c.loop-path.calls c.list_one_of_news.new.run c.list_one_of_news.new.calls (paths_in c.pop.new.self.items) c.in-Some.path.items out
           (subst (λ ns. IsListed tree c.loop-path.run c.loop-path.calls ns out) (ap paths_in c.in-Some.ensures.items ∙ paths-append c.pop.new.self.items c.in-Some.path) so_far)
-          c.list_way.ensures.run c.list_way.ensures.calls way.0 way.1,
+          c.list_one_of_news.ensures.run c.list_one_of_news.ensures.calls way.0 way.1,
       omega (arith, shorter, before),
       c.in-Some.ensures.capacity ∙ c.loop-path.invariant.2,
     )

@@ -3,7 +3,7 @@ use Rattle.board.specs.Jobs.{out_at}
 use Rattle.board.specs.Value.{Shown}
 use Rattle.board.specs.Steps.{IsStart}
 use Rattle.board.proofs.Stale.{ticket_of, no_job, other_ticket, other_start}
-use Rattle.board.proofs.board.Board.commit.Goals as goal
+use Rattle.board.proofs.board.Board.commit_known.Goals as goal
 
 pub returns-in_default : goal.returns-in_default
 returns-in_default c =
