@@ -1,0 +1,5 @@
+pub mod Runs
+pub mod Needs
+pub mod Parts
+pub mod Sound
+pub mod Images

@@ -1,0 +1,7 @@
+pub mod Header
+pub mod Loads
+pub mod Pages
+pub mod Needs
+pub mod Elf
+pub mod Adding
+pub mod Names

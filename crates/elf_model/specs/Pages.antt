@@ -1,0 +1,82 @@
+-- The memory that loads state: of each address its byte, of each page its permission. And its segments: the maximal runs of adjoining pages
+-- that loads touch and that have one permission.
+-- Source: System V Application Binary Interface, "Program Loading"; RISC-V Privileged ISA, the R, W and X bits of a page table entry.
+-- Our choice: that a page has the permissions of all loads that touch it.
+use Rattle.std.specs.Prelude.{◌≡◌, ◌≢◌, ℕ, zero, suc, ◌+◌, ◌-◌, ◌*◌, ◌/◌, ◌≤◌, ◌<◌, Bool, true, false, ◌&&◌, ◌==◌, nat_le, nat_lt, cond, List, [], ◌∷◌, length, map, slice_index, bit_or}
+use Rattle.std.specs.List.{list_any, range_with_len}
+use Rattle.memory_model.specs.Sizes.{page_size, pages}
+use Rattle.image_model.specs.Image.{Segment}
+use Rattle.elf_model.specs.Loads.{Load, end_of}
+
+-- ---- memory
+
+-- the byte at an address: the one that a load has there, and else 0
+abbrev pub byte_of : List Load → ℕ → ℕ
+byte_of [] a = 0
+byte_of (l ∷ ls) a = cond (nat_le l.address a && nat_lt a (l.address + length l.content)) (slice_index l.content (a - l.address)) (byte_of ls a)
+
+-- the pages of its first byte and of its last
+abbrev pub first_page : Load → ℕ
+first_page l = l.address / page_size
+
+abbrev pub last_page : Load → ℕ
+last_page l = (end_of l - 1) / page_size
+
+abbrev pub touches : ℕ → Load → Bool
+touches page l = nat_le (first_page l) page && nat_le page (last_page l)
+
+-- a load touches the page
+abbrev pub is_touched : List Load → ℕ → Bool
+is_touched ls page = list_any (touches page) ls
+
+-- what any load that touches the page lets do, it lets do
+abbrev pub permission_of : List Load → ℕ → ℕ
+permission_of [] page = 0
+permission_of (l ∷ ls) page = cond (touches page l) (bit_or l.permission (permission_of ls page)) (permission_of ls page)
+
+-- ---- runs of pages
+
+-- so many adjoining pages with one permission
+pub record Run : Type 0 where
+  pub first : ℕ
+  pub count : ℕ
+  pub permission : ℕ
+
+-- A maximal run among these pages, of which none is before this one: no page before it is touched, all of its pages are and have its
+-- permission, and the page behind it is not touched or has another one.
+pub record IsRun (touched : ℕ → Bool) (permission : ℕ → ℕ) (from : ℕ) (r : Run) : Type 0 where
+  pub order : from ≤ r.first
+  pub none_before : (page : ℕ) → from ≤ page → page < r.first → touched page ≡ false
+  pub filled : 0 < r.count
+  pub alike : (page : ℕ) → r.first ≤ page → page < r.first + r.count → (touched page ≡ true) × (permission page ≡ r.permission)
+  pub maximal : touched (r.first + r.count) ≡ true → permission (r.first + r.count) ≢ r.permission
+
+-- all maximal runs from a page on, by their addresses
+abbrev pub AreRuns : (ℕ → Bool) → (ℕ → ℕ) → ℕ → List Run → Type 0
+AreRuns touched permission from [] = (page : ℕ) → from ≤ page → touched page ≡ false
+AreRuns touched permission from (r ∷ rs) = IsRun touched permission from r × AreRuns touched permission (r.first + r.count) rs
+
+-- the runs of loads
+abbrev pub RunsOf : List Load → List Run → Type 0
+RunsOf ls rs = AreRuns (is_touched ls) (permission_of ls) 0 rs
+
+-- ---- the runs, found page by page
+
+-- pages before runs of pages above them: one run with the first of those, if it adjoins and has the same permission
+abbrev pub join : Run → List Run → List Run
+join r [] = r ∷ []
+join r (s ∷ rs) = cond ((s.first == r.first + r.count) && (s.permission == r.permission)) (record { first = r.first; count = r.count + s.count; permission = r.permission } ∷ rs) (r ∷ s ∷ rs)
+
+-- the runs of so many pages from a page on
+unfoldable pub runs_from : (ℕ → Bool) → (ℕ → ℕ) → ℕ → ℕ → List Run
+runs_from touched permission page zero = []
+runs_from touched permission page (suc n) = cond (touched page) (join (record { first = page; count = 1; permission = permission page }) (runs_from touched permission (page + 1) n)) (runs_from touched permission (page + 1) n)
+
+abbrev pub runs_of : List Load → List Run
+runs_of ls = runs_from (is_touched ls) (permission_of ls) 0 pages
+
+-- ---- segments
+
+-- a run's pages with the bytes that loads have there
+abbrev pub segment_of : List Load → Run → Segment
+segment_of ls r = record { address = page_size * r.first; permission = r.permission; content = map (byte_of ls) (range_with_len (page_size * r.first) (page_size * r.count)) }
