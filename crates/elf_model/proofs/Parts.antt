@@ -2,7 +2,7 @@
 use Rattle.std.proofs.Common.{◌≡◌, ℕ, suc, ◌+◌, ◌-◌, ◌*◌, ◌/◌, ◌^◌, ◌≤◌, ◌<◌, Bool, true, false, ◌&&◌, eqb, ltb, List, [], ◌∷◌, ◌++◌, length, refl, ap, ◌∙◌, arith, inl, inr}
 use Rattle.std.specs.Prelude.{bit_or}
 use Rattle.std.specs.Int.Bits.{or_zero_r}
-use Rattle.std.proofs.lemmas.Bool.{cond_both, cases_order, cases_eq, eqb-true, eqb-false, ltb-true, ltb-false, both_ways, and_from, and_left, and_right, or_parts, or_from, le-leb, lt-leb}
+use Rattle.std.proofs.lemmas.Bool.{cond_both, cases_order, cases_eq, eqb-true, eqb-false, ltb-true, ltb-false, both_ways, and_from, and_left, and_right, and_parts, or_parts, or_from, le-leb, lt-leb}
 use Rattle.std.proofs.lemmas.Nat.{or_lt}
 use Rattle.memory_model.specs.Sizes.{page_size, pages, greatest_permission}
 use Rattle.elf_model.specs.Loads.{Load, end_of, IsLoad, AreLoads, stack, stack_base}
@@ -83,7 +83,7 @@ module _ (l : Load) (ls : List Load) (filled : 0 < l.size) (below : (page : ℕ)
   free_before page lt = or_from _ _ (free_below page l lt) (below page (omega (arith, ordered)))
 
   -- its pages up to another one, where none of them is touched by others
-  front : (end : ℕ) → first_page l < end → end ≤ last_page l + 1 → ((page : ℕ) → page < end → is_touched ls page ≡ false) → IsPart (is_touched (l ∷ ls)) (permission_of (l ∷ ls)) 0 (run (first_page l) (end - first_page l) l.permission)
+  front : (end : ℕ) → first_page l < end → end ≤ last_page l + 1 → ((page : ℕ) → page < end → is_touched ls page ≡ false) → IsPart (is_touched (l ∷ ls)) (permission_of (l ∷ ls)) 0 (run (first_page l) end l.permission)
   front end lt le free = record {
     order = omega arith;
     none_before = λ page _ before. free_before page before;
@@ -93,40 +93,38 @@ module _ (l : Load) (ls : List Load) (filled : 0 < l.size) (below : (page : ℕ)
 
   put_before_runs : (rs : List Run) → is_touched ls (last_page l) ≡ false → AreRuns (is_touched ls) (permission_of ls) (last_page l + 1) rs → RunsOf (l ∷ ls) (put_before l rs)
   put_before_runs rs free h =
-      let end : first_page l + (last_page l + 1 - first_page l) ≡ last_page l + 1 = omega (arith, ordered) in
       let rest = alike_from (is_touched ls) (is_touched (l ∷ ls)) (permission_of ls) (permission_of (l ∷ ls)) (last_page l + 1) rs (λ page ge. beyond page (omega arith)) h in
-      join_runs (is_touched (l ∷ ls)) (permission_of (l ∷ ls)) 0 (run (first_page l) (last_page l + 1 - first_page l) l.permission) rs
+      join_runs (is_touched (l ∷ ls)) (permission_of (l ∷ ls)) 0 (run (first_page l) (last_page l + 1) l.permission) rs
       (front (last_page l + 1) (omega (arith, ordered)) (omega arith) (λ page lt. elim (cases_eq page (last_page l)) [
         | inl e ↦ rw e free
         | inr other ↦ below page (omega arith)
       ]))
-      (rw end rest)
+      rest
 
   without_page_runs : (r : Run) (rs : List Run) → r.first ≡ last_page l → RunsOf ls (r ∷ rs) → AreRuns (is_touched (l ∷ ls)) (permission_of (l ∷ ls)) (last_page l + 1) (without_page r rs)
   without_page_runs r rs meets h =
       let g = h.0 in
       let rest = alike_from (is_touched ls) (is_touched (l ∷ ls)) (permission_of ls) (permission_of (l ∷ ls)) (last_page l + 1) (without_page r rs) (λ page ge. beyond page (omega arith)) in
       let past = h.1 in
-      rest (cond_both (eqb r.count 1) rs (run (r.first + 1) (r.count - 1) r.permission ∷ rs) (AreRuns (is_touched ls) (permission_of ls) (last_page l + 1))
-      (λ e. let end : last_page l + 1 ≡ r.first + r.count = omega (arith, eqb-true _ _ e, meets) in rw end past)
+      rest (cond_both (eqb (r.first + 1) r.end) rs (run (r.first + 1) r.end r.permission ∷ rs) (AreRuns (is_touched ls) (permission_of ls) (last_page l + 1))
+      (λ e. let end : last_page l + 1 ≡ r.end = omega (arith, eqb-true _ _ e, meets) in rw end past)
       (λ e.
       let more = eqb-false _ _ e in
-      let some = g.filled in
-      let end : r.first + 1 + (r.count - 1) ≡ r.first + r.count = omega (arith, some) in (
+      let some = g.filled in (
         record {
           order = omega (arith, meets);
           none_before = λ page ge lt. absurd (omega (arith, meets));
           filled = omega (arith, more, some);
-          alike = λ page ge lt. g.alike page (omega arith) (omega (arith, end));
-          maximal = rw end g.maximal;
+          alike = λ page ge lt. g.alike page (omega arith) lt;
+          maximal = g.maximal;
         },
-        rw end past,
+        past,
       )))
 
   share_runs : (r : Run) (rs : List Run) → r.first ≡ last_page l → RunsOf ls (r ∷ rs) → RunsOf (l ∷ ls) (share l r rs)
   share_runs r rs meets h =
       let first = h.0.alike (last_page l) (omega (arith, meets)) (omega (arith, meets, h.0.filled)) in
-      let one = run (last_page l) 1 (bit_or l.permission r.permission) in
+      let one = run (last_page l) (last_page l + 1) (bit_or l.permission r.permission) in
       let tail = without_page_runs r rs meets h in
       let common : AreRuns (is_touched (l ∷ ls)) (permission_of (l ∷ ls)) (last_page l) (join one (without_page r rs)) =
       join_runs (is_touched (l ∷ ls)) (permission_of (l ∷ ls)) (last_page l) one (without_page r rs) (record {
@@ -136,11 +134,10 @@ module _ (l : Load) (ls : List Load) (filled : 0 < l.size) (below : (page : ℕ)
         alike = λ page ge lt. let e : page ≡ last_page l = omega arith in shared page r.permission (omega (arith, ordered)) (omega arith) (ap (permission_of ls) e ∙ first.1);
       }) tail in
       let rest = join one (without_page r rs) in
-      cond_both (ltb (first_page l) (last_page l)) (join (run (first_page l) (last_page l - first_page l) l.permission) rest) rest (RunsOf (l ∷ ls))
+      cond_both (ltb (first_page l) (last_page l)) (join (run (first_page l) (last_page l) l.permission) rest) rest (RunsOf (l ∷ ls))
       (λ e.
       let lt = ltb-true _ _ e in
-      let end : first_page l + (last_page l - first_page l) ≡ last_page l = omega (arith, lt) in
-      join_runs (is_touched (l ∷ ls)) (permission_of (l ∷ ls)) 0 (run (first_page l) (last_page l - first_page l) l.permission) rest (front (last_page l) lt (omega arith) below) (rw end common))
+      join_runs (is_touched (l ∷ ls)) (permission_of (l ∷ ls)) 0 (run (first_page l) (last_page l) l.permission) rest (front (last_page l) lt (omega arith) below) common)
       (λ e.
       let le = ltb-false _ _ e in
       from_below (is_touched (l ∷ ls)) (permission_of (l ∷ ls)) 0 (last_page l) rest (omega arith) (λ page _ lt. free_before page (omega (arith, le, ordered))) common)
@@ -190,22 +187,22 @@ are_parts from (l ∷ ls) le h =
 
 length_join : (r : Run) (rs : List Run) → length (join r rs) ≤ suc (length rs)
 length_join r [] = omega arith
-length_join r (s ∷ ss) = cond_both (eqb s.first (r.first + r.count) && eqb s.permission r.permission) (record { first = r.first; count = r.count + s.count; permission = r.permission } ∷ ss) (r ∷ s ∷ ss) (λ rs. length rs ≤ suc (suc (length ss))) (λ _. omega arith) (λ _. omega arith)
+length_join r (s ∷ ss) = cond_both (eqb s.first r.end && eqb s.permission r.permission) (record { first = r.first; end = s.end; permission = r.permission } ∷ ss) (r ∷ s ∷ ss) (λ rs. length rs ≤ suc (suc (length ss))) (λ _. omega arith) (λ _. omega arith)
 
 length_without : (r : Run) (rs : List Run) → length (without_page r rs) ≤ suc (length rs)
-length_without r rs = cond_both (eqb r.count 1) rs (run (r.first + 1) (r.count - 1) r.permission ∷ rs) (λ x. length x ≤ suc (length rs)) (λ _. omega arith) (λ _. omega arith)
+length_without r rs = cond_both (eqb (r.first + 1) r.end) rs (run (r.first + 1) r.end r.permission ∷ rs) (λ x. length x ≤ suc (length rs)) (λ _. omega arith) (λ _. omega arith)
 
 length_share : (l : Load) (r : Run) (rs : List Run) → length (share l r rs) ≤ suc (length rs) + 2
 length_share l r rs =
-    let one = run (last_page l) 1 (bit_or l.permission r.permission) in
+    let one = run (last_page l) (last_page l + 1) (bit_or l.permission r.permission) in
     let rest = join one (without_page r rs) in
     let some : length rest ≤ suc (length (without_page r rs)) = length_join one (without_page r rs) in
     let few = length_without r rs in
-    let more = length_join (run (first_page l) (last_page l - first_page l) l.permission) rest in
-    cond_both (ltb (first_page l) (last_page l)) (join (run (first_page l) (last_page l - first_page l) l.permission) rest) rest (λ x. length x ≤ suc (length rs) + 2) (λ _. omega (arith, some, few, more)) (λ _. omega (arith, some, few))
+    let more = length_join (run (first_page l) (last_page l) l.permission) rest in
+    cond_both (ltb (first_page l) (last_page l)) (join (run (first_page l) (last_page l) l.permission) rest) rest (λ x. length x ≤ suc (length rs) + 2) (λ _. omega (arith, some, few, more)) (λ _. omega (arith, some, few))
 
 length_put : (l : Load) (rs : List Run) → length (put_before l rs) ≤ suc (length rs)
-length_put l rs = length_join (run (first_page l) (last_page l + 1 - first_page l) l.permission) rs
+length_put l rs = length_join (run (first_page l) (last_page l + 1) l.permission) rs
 
 length_add : (l : Load) (rs : List Run) → length (add l rs) ≤ length rs + 2
 length_add l [] = let h = length_put l [] in omega (arith, h)
@@ -213,7 +210,7 @@ length_add l (r ∷ rs) =
     let put = length_put l (r ∷ rs) in
     cond_both (eqb r.first (last_page l)) (share l r rs) (put_before l (r ∷ rs)) (λ x. length x ≤ suc (length rs) + 2) (λ _. length_share l r rs) (λ _. omega (arith, put))
 
-pub stack_runs : runs_of (stack ∷ []) ≡ run 1048560 16 3 ∷ []
+pub stack_runs : runs_of (stack ∷ []) ≡ run 1048560 1048576 3 ∷ []
 stack_runs = runs_add stack_base stack [] (stack_is_load, tt) ∙ ap (add stack) no_runs
 
 -- the lowest load is one of several, or stands alone before the stack
@@ -222,9 +219,9 @@ few_more from l [] h =
     let range = h.0.range in
     let filled = h.0.filled in
     let parts : AreLoads from (2 ^ 32) (l ∷ stack ∷ []) = (record { order = h.0.order; filled = filled; sized = h.0.sized; range = omega (arith, range); permission = h.0.permission }, are_parts (end_of l) [] range tt) in
-    let added : runs_of (l ∷ stack ∷ []) ≡ add l (run 1048560 16 3 ∷ []) = runs_add from l (stack ∷ []) parts ∙ ap (add l) stack_runs in
-    let short = length_put l (run 1048560 16 3 ∷ []) in
-    rw added (cond_both (eqb 1048560 (last_page l)) (share l (run 1048560 16 3) []) (put_before l (run 1048560 16 3 ∷ [])) (λ x. length x ≤ 2 * 1) (λ e. absurd (omega (arith, eqb-true _ _ e, range, filled))) (λ _. omega (arith, short)))
+    let added : runs_of (l ∷ stack ∷ []) ≡ add l (run 1048560 1048576 3 ∷ []) = runs_add from l (stack ∷ []) parts ∙ ap (add l) stack_runs in
+    let short = length_put l (run 1048560 1048576 3 ∷ []) in
+    rw added (cond_both (eqb 1048560 (last_page l)) (share l (run 1048560 1048576 3) []) (put_before l (run 1048560 1048576 3 ∷ [])) (λ x. length x ≤ 2 * 1) (λ e. absurd (omega (arith, eqb-true _ _ e, range, filled))) (λ _. omega (arith, short)))
 few_more from l (m ∷ ls) h =
     let range = h.0.range in
     let parts : AreLoads from (2 ^ 32) (l ∷ m ∷ (ls ++ stack ∷ [])) = (record { order = h.0.order; filled = h.0.filled; sized = h.0.sized; range = omega (arith, range); permission = h.0.permission }, are_parts (end_of l) (m ∷ ls) range h.1) in
@@ -239,27 +236,27 @@ few (l ∷ ls) h le = let more = few_more 0 l ls h in omega (arith, more)
 
 abbrev pub pages_in : List Run → ℕ
 pages_in [] = 0
-pages_in (r ∷ rs) = r.count + pages_in rs
+pages_in (r ∷ rs) = (r.end - r.first) + pages_in rs
 
-pages_join : (r : Run) (rs : List Run) → pages_in (join r rs) ≡ r.count + pages_in rs
-pages_join r [] = refl
-pages_join r (s ∷ ss) = cond_both (eqb s.first (r.first + r.count) && eqb s.permission r.permission) (record { first = r.first; count = r.count + s.count; permission = r.permission } ∷ ss) (r ∷ s ∷ ss) (λ rs. pages_in rs ≡ r.count + (s.count + pages_in ss)) (λ _. omega arith) (λ _. refl)
+pages_join : (r : Run) (rs : List Run) → pages_in (join r rs) ≤ (r.end - r.first) + pages_in rs
+pages_join r [] = omega arith
+pages_join r (s ∷ ss) = cond_both (eqb s.first r.end && eqb s.permission r.permission) (record { first = r.first; end = s.end; permission = r.permission } ∷ ss) (r ∷ s ∷ ss) (λ rs. pages_in rs ≤ (r.end - r.first) + ((s.end - s.first) + pages_in ss)) (λ e. omega (arith, eqb-true s.first r.end (and_parts (eqb s.first r.end) (eqb s.permission r.permission) e).0)) (λ _. omega arith)
 
-pages_without : (r : Run) (rs : List Run) → 0 < r.count → pages_in (without_page r rs) + 1 ≡ r.count + pages_in rs
-pages_without r rs some = cond_both (eqb r.count 1) rs (run (r.first + 1) (r.count - 1) r.permission ∷ rs) (λ x. pages_in x + 1 ≡ r.count + pages_in rs) (λ e. omega (arith, eqb-true _ _ e)) (λ _. omega arith)
+pages_without : (r : Run) (rs : List Run) → r.first < r.end → pages_in (without_page r rs) + 1 ≤ (r.end - r.first) + pages_in rs
+pages_without r rs some = cond_both (eqb (r.first + 1) r.end) rs (run (r.first + 1) r.end r.permission ∷ rs) (λ x. pages_in x + 1 ≤ (r.end - r.first) + pages_in rs) (λ e. omega (arith, eqb-true _ _ e)) (λ _. omega arith)
 
 pub pages_add : (t : ℕ → Bool) (p : ℕ → ℕ) (l : Load) (rs : List Run) → 0 < l.size → AreRuns t p 0 rs → pages_in (add l rs) ≤ pages_in rs + (last_page l + 1 - first_page l)
 pages_add t p l [] filled h = omega arith
 pages_add t p l (r ∷ rs) filled h =
     let some = h.0.filled in
-    let one = run (last_page l) 1 (bit_or l.permission r.permission) in
+    let one = run (last_page l) (last_page l + 1) (bit_or l.permission r.permission) in
     let rest = join one (without_page r rs) in
     let ordered : first_page l ≤ last_page l = omega (arith, filled) in
     let joined = pages_join one (without_page r rs) in
     let left = pages_without r rs some in
-    let fronted = pages_join (run (first_page l) (last_page l - first_page l) l.permission) rest in
-    let put = pages_join (run (first_page l) (last_page l + 1 - first_page l) l.permission) (r ∷ rs) in
-    let all = (r.count + pages_in rs) + (last_page l + 1 - first_page l) in
+    let fronted = pages_join (run (first_page l) (last_page l) l.permission) rest in
+    let put = pages_join (run (first_page l) (last_page l + 1) l.permission) (r ∷ rs) in
+    let all = ((r.end - r.first) + pages_in rs) + (last_page l + 1 - first_page l) in
     cond_both (eqb r.first (last_page l)) (share l r rs) (put_before l (r ∷ rs)) (λ x. pages_in x ≤ all)
-    (λ _. cond_both (ltb (first_page l) (last_page l)) (join (run (first_page l) (last_page l - first_page l) l.permission) rest) rest (λ x. pages_in x ≤ all) (λ _. omega (arith, joined, left, fronted, ordered)) (λ _. omega (arith, joined, left, ordered)))
+    (λ _. cond_both (ltb (first_page l) (last_page l)) (join (run (first_page l) (last_page l) l.permission) rest) rest (λ x. pages_in x ≤ all) (λ _. omega (arith, joined, left, fronted, ordered)) (λ _. omega (arith, joined, left, ordered)))
     (λ _. omega (arith, put))

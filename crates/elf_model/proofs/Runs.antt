@@ -3,37 +3,36 @@ use Rattle.std.proofs.Common.{◌≡◌, ℕ, zero, suc, ◌+◌, ◌≤◌, ◌
 use Rattle.std.proofs.lemmas.Bool.{cond_both, cases_order, cases_lt, eqb-true, eqb-false, and_parts, and_cases, both_ways}
 use Rattle.elf_model.specs.Pages.{Run, IsRun, AreRuns, join, runs_from}
 
-pub same_run : (r s : Run) → r.first ≡ s.first → r.count ≡ s.count → r.permission ≡ s.permission → r ≡ s
-same_run r s e f g = λ i. record { first = e i; count = f i; permission = g i }
+pub same_run : (r s : Run) → r.first ≡ s.first → r.end ≡ s.end → r.permission ≡ s.permission → r ≡ s
+same_run r s e f g = λ i. record { first = e i; end = f i; permission = g i }
 
 -- a run that may go on
 pub record IsPart (t : ℕ → Bool) (p : ℕ → ℕ) (from : ℕ) (r : Run) : Type 0 where
   pub order : from ≤ r.first
   pub none_before : (page : ℕ) → from ≤ page → page < r.first → t page ≡ false
-  pub filled : 0 < r.count
-  pub alike : (page : ℕ) → r.first ≤ page → page < r.first + r.count → (t page ≡ true) × (p page ≡ r.permission)
+  pub filled : r.first < r.end
+  pub alike : (page : ℕ) → r.first ≤ page → page < r.end → (t page ≡ true) × (p page ≡ r.permission)
 
 module _ (t : ℕ → Bool) (p : ℕ → ℕ) where
   -- ---- pages before runs
 
-  merged : (from : ℕ) (r s : Run) (ss : List Run) → IsPart t p from r → IsRun t p (r.first + r.count) s → AreRuns t p (s.first + s.count) ss → s.first ≡ r.first + r.count → s.permission ≡ r.permission
-      → AreRuns t p from (record { first = r.first; count = r.count + s.count; permission = r.permission } ∷ ss)
-  merged from r s ss h g rest meets same =
-      let end : r.first + (r.count + s.count) ≡ s.first + s.count = omega arith in (
-        record {
-          order = h.order;
-          none_before = h.none_before;
-          filled = omega (arith, h.filled);
-          alike = λ page low high. elim (cases_lt page (r.first + r.count)) [
-            | inl before ↦ h.alike page low before
-            | inr after ↦ let a = g.alike page (omega (arith, meets)) (omega (arith, end)) in (a.0, a.1 ∙ same)
-          ];
-          maximal = rw (end, ← same) g.maximal;
-        },
-        rw end rest,
-      )
+  merged : (from : ℕ) (r s : Run) (ss : List Run) → IsPart t p from r → IsRun t p r.end s → AreRuns t p s.end ss → s.first ≡ r.end → s.permission ≡ r.permission
+      → AreRuns t p from (record { first = r.first; end = s.end; permission = r.permission } ∷ ss)
+  merged from r s ss h g rest meets same = (
+    record {
+      order = h.order;
+      none_before = h.none_before;
+      filled = omega (arith, h.filled, g.filled, meets);
+      alike = λ page low high. elim (cases_lt page r.end) [
+        | inl before ↦ h.alike page low before
+        | inr after ↦ let a = g.alike page (omega (arith, meets)) high in (a.0, a.1 ∙ same)
+      ];
+      maximal = rw (← same) g.maximal;
+    },
+    rest,
+  )
 
-  parted : (from : ℕ) (r s : Run) (ss : List Run) → IsPart t p from r → IsRun t p (r.first + r.count) s → AreRuns t p (s.first + s.count) ss → (s.first ≡ r.first + r.count → s.permission ≡ r.permission → ⊥)
+  parted : (from : ℕ) (r s : Run) (ss : List Run) → IsPart t p from r → IsRun t p r.end s → AreRuns t p s.end ss → (s.first ≡ r.end → s.permission ≡ r.permission → ⊥)
       → AreRuns t p from (r ∷ s ∷ ss)
   parted from r s ss h g rest apart = (
     record {
@@ -41,21 +40,21 @@ module _ (t : ℕ → Bool) (p : ℕ → ℕ) where
       none_before = h.none_before;
       filled = h.filled;
       alike = h.alike;
-      maximal = λ touched alike. elim (cases_lt (r.first + r.count) s.first) [
-        | inl below ↦ both_ways _ (g.none_before (r.first + r.count) (omega arith) below) touched
+      maximal = λ touched alike. elim (cases_lt r.end s.first) [
+        | inl below ↦ both_ways _ (g.none_before r.end (omega arith) below) touched
         | inr meets ↦
-            let e : s.first ≡ r.first + r.count = omega (arith, meets, g.order) in
-            let here = g.alike (r.first + r.count) (omega (arith, e)) (omega (arith, e, g.filled)) in
+            let e : s.first ≡ r.end = omega (arith, meets, g.order) in
+            let here = g.alike r.end (omega (arith, e)) (omega (arith, e, g.filled)) in
             apart e (sym here.1 ∙ alike)
       ];
     },
     (g, rest),
   )
 
-  pub join_runs : (from : ℕ) (r : Run) (rs : List Run) → IsPart t p from r → AreRuns t p (r.first + r.count) rs → AreRuns t p from (join r rs)
-  join_runs from r [] h none = (record { order = h.order; none_before = h.none_before; filled = h.filled; alike = h.alike; maximal = λ touched _. both_ways _ (none (r.first + r.count) (omega arith)) touched }, none)
+  pub join_runs : (from : ℕ) (r : Run) (rs : List Run) → IsPart t p from r → AreRuns t p r.end rs → AreRuns t p from (join r rs)
+  join_runs from r [] h none = (record { order = h.order; none_before = h.none_before; filled = h.filled; alike = h.alike; maximal = λ touched _. both_ways _ (none r.end (omega arith)) touched }, none)
   join_runs from r (s ∷ ss) h g =
-      cond_both (eqb s.first (r.first + r.count) && eqb s.permission r.permission) (record { first = r.first; count = r.count + s.count; permission = r.permission } ∷ ss) (r ∷ s ∷ ss) (AreRuns t p from)
+      cond_both (eqb s.first r.end && eqb s.permission r.permission) (record { first = r.first; end = s.end; permission = r.permission } ∷ ss) (r ∷ s ∷ ss) (AreRuns t p from)
       (λ e. let b = and_parts _ _ e in merged from r s ss h g.0 g.1 (eqb-true _ _ b.0) (eqb-true _ _ b.1))
       (λ e. parted from r s ss h g.0 g.1 (λ x y. elim (and_cases _ _ e) [
         | inl m ↦ eqb-false _ _ m x
@@ -95,7 +94,7 @@ module _ (t : ℕ → Bool) (p : ℕ → ℕ) where
   are_found zero page none = λ q ge. none q (omega arith)
   are_found (suc n) page none =
       let rest = are_found n (page + 1) (λ q ge. none q (omega arith)) in
-      let one : Run = record { first = page; count = 1; permission = p page } in
+      let one : Run = record { first = page; end = page + 1; permission = p page } in
       cond_both (t page) (join one (runs_from t p (page + 1) n)) (runs_from t p (page + 1) n) (AreRuns t p page)
       (λ touched. join_runs page one (runs_from t p (page + 1) n) (record {
         order = omega arith;
@@ -124,17 +123,17 @@ module _ (t : ℕ → Bool) (p : ℕ → ℕ) where
       let b = g.alike r.first (omega (arith, e)) (omega (arith, e, g.filled)) in
       sym a.1 ∙ b.1
 
-  count_le : (from : ℕ) (r s : Run) → IsRun t p from r → IsRun t p from s → r.count < s.count → ⊥
-  count_le from r s h g lt =
+  end_le : (from : ℕ) (r s : Run) → IsRun t p from r → IsRun t p from s → r.end < s.end → ⊥
+  end_le from r s h g lt =
       let e = same_first from r s h g in
-      let b = g.alike (r.first + r.count) (omega (arith, e)) (omega (arith, e, lt)) in
+      let b = g.alike r.end (omega (arith, e)) (omega (arith, e, lt)) in
       h.maximal b.0 (b.1 ∙ sym (same_permission from r s h g))
 
-  same_count : (from : ℕ) (r s : Run) → IsRun t p from r → IsRun t p from s → r.count ≡ s.count
-  same_count from r s h g = elim (cases_order r.count s.count) [
+  same_end : (from : ℕ) (r s : Run) → IsRun t p from r → IsRun t p from s → r.end ≡ s.end
+  same_end from r s h g = elim (cases_order r.end s.end) [
     | inl e ↦ e
-    | inr (inl lt) ↦ absurd (count_le from r s h g lt)
-    | inr (inr gt) ↦ absurd (count_le from s r g h gt)
+    | inr (inl lt) ↦ absurd (end_le from r s h g lt)
+    | inr (inr gt) ↦ absurd (end_le from s r g h gt)
   ]
 
   pub one_list : (from : ℕ) (rs ss : List Run) → AreRuns t p from rs → AreRuns t p from ss → rs ≡ ss
@@ -142,9 +141,9 @@ module _ (t : ℕ → Bool) (p : ℕ → ℕ) where
   one_list from [] (s ∷ ss) h g = absurd (both_ways _ (h s.first g.0.order) (g.0.alike s.first (omega arith) (omega (arith, g.0.filled))).0)
   one_list from (r ∷ rs) [] h g = absurd (both_ways _ (g r.first h.0.order) (h.0.alike r.first (omega arith) (omega (arith, h.0.filled))).0)
   one_list from (r ∷ rs) (s ∷ ss) h g =
-      let e = same_run r s (same_first from r s h.0 g.0) (same_count from r s h.0 g.0) (same_permission from r s h.0 g.0) in
-      let rest : AreRuns t p (r.first + r.count) ss = rw e g.1 in
-      let tails = one_list (r.first + r.count) rs ss h.1 rest in
+      let e = same_run r s (same_first from r s h.0 g.0) (same_end from r s h.0 g.0) (same_permission from r s h.0 g.0) in
+      let rest : AreRuns t p r.end ss = rw e g.1 in
+      let tails = one_list r.end rs ss h.1 rest in
       cc
 
 -- ---- other pages, that are alike from a page on
@@ -153,7 +152,7 @@ pub alike_from : (t u : ℕ → Bool) (p q : ℕ → ℕ) (from : ℕ) (rs : Lis
 alike_from t u p q from [] same h = λ page ge. (same page ge).0 ∙ h page ge
 alike_from t u p q from (r ∷ rs) same h =
     let g = h.0 in
-    let beyond = same (r.first + r.count) (omega (arith, g.order)) in (
+    let beyond = same r.end (omega (arith, g.order)) in (
       record {
         order = g.order;
         none_before = λ page ge lt. (same page ge).0 ∙ g.none_before page ge lt;
@@ -161,5 +160,5 @@ alike_from t u p q from (r ∷ rs) same h =
         alike = λ page ge lt. let s = same page (omega (arith, g.order)) in let a = g.alike page ge lt in (s.0 ∙ a.0, s.1 ∙ a.1);
         maximal = λ touched alike. g.maximal (sym beyond.0 ∙ touched) (sym beyond.1 ∙ alike);
       },
-      alike_from t u p q (r.first + r.count) rs (λ page ge. same page (omega (arith, g.order, ge))) h.1,
+      alike_from t u p q r.end rs (λ page ge. same page (omega (arith, g.order, ge))) h.1,
     )

@@ -92,17 +92,17 @@ pages_of_parts from (l ∷ ls) le h =
 
 -- ---- runs make segments
 
-segment_is : (ls : List Load) (from : ℕ) (r : Run) → IsRun (is_touched ls) (permission_of ls) from r → page_size * r.count < 2 ^ 32 → ((page : ℕ) → pages ≤ page → is_touched ls page ≡ false) → ((page : ℕ) → permission_of ls page ≤ greatest_permission)
+segment_is : (ls : List Load) (from : ℕ) (r : Run) → IsRun (is_touched ls) (permission_of ls) from r → page_size * (r.end - r.first) < 2 ^ 32 → ((page : ℕ) → pages ≤ page → is_touched ls page ≡ false) → ((page : ℕ) → permission_of ls page ≤ greatest_permission)
     → IsSegment from (segment_of ls r)
 segment_is ls from r h short none_past allowed =
     let some = h.filled in
-    let last = h.alike (r.first + r.count - 1) (omega (arith, some)) (omega (arith, some)) in
+    let last = h.alike (r.end - 1) (omega (arith, some)) (omega (arith, some)) in
     let first = h.alike r.first (omega arith) (omega (arith, some)) in
-    let low : r.first + r.count - 1 < pages = elim (cases_lt (r.first + r.count - 1) pages) [
+    let low : r.end - 1 < pages = elim (cases_lt (r.end - 1) pages) [
       | inl lt ↦ lt
-      | inr past ↦ absurd (both_ways _ (none_past (r.first + r.count - 1) past) last.0)
+      | inr past ↦ absurd (both_ways _ (none_past (r.end - 1) past) last.0)
     ] in
-    let len = length-map-range_with_len (byte_of ls) (page_size * r.first) (page_size * r.count) in
+    let len = length-map-range_with_len (byte_of ls) (page_size * r.first) (page_size * (r.end - r.first)) in
     let order = h.order in
     let most = allowed r.first in
     record {
@@ -118,9 +118,9 @@ are_segments : (ls : List Load) (from : ℕ) (rs : List Run) → AreRuns (is_tou
 are_segments ls from [] h short none_past allowed = tt
 are_segments ls from (r ∷ rs) h short none_past allowed =
     let some = h.0.filled in
-    let len = length-map-range_with_len (byte_of ls) (page_size * r.first) (page_size * r.count) in
-    let end : model.last_page (segment_of ls r) + 1 ≡ r.first + r.count = omega (arith, len, some) in
-    (segment_is ls from r h.0 (omega (arith, short)) none_past allowed, rw end (are_segments ls (r.first + r.count) rs h.1 (omega (arith, short)) none_past allowed))
+    let len = length-map-range_with_len (byte_of ls) (page_size * r.first) (page_size * (r.end - r.first)) in
+    let end : model.last_page (segment_of ls r) + 1 ≡ r.end = omega (arith, len, some) in
+    (segment_is ls from r h.0 (omega (arith, short)) none_past allowed, rw end (are_segments ls (r.end) rs h.1 (omega (arith, short)) none_past allowed))
 
 -- loads as a file may have them
 pub record IsSound (ls : List Load) : Type 0 where

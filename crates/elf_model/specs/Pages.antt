@@ -36,25 +36,25 @@ permission_of (l ∷ ls) page = cond (touches page l) (bit_or l.permission (perm
 
 -- ---- runs of pages
 
--- so many adjoining pages with one permission
+-- adjoining pages with one permission: from the first one on, and before the end
 pub record Run : Type 0 where
   pub first : ℕ
-  pub count : ℕ
+  pub end : ℕ
   pub permission : ℕ
 
--- A maximal run among these pages, of which none is before this one: no page before it is touched, all of its pages are and have its
--- permission, and the page behind it is not touched or has another one.
+-- A maximal run among the pages from one on: no page before it is touched, all of its pages are and have its permission, and the page behind
+-- it is not touched or has another one.
 pub record IsRun (touched : ℕ → Bool) (permission : ℕ → ℕ) (from : ℕ) (r : Run) : Type 0 where
   pub order : from ≤ r.first
   pub none_before : (page : ℕ) → from ≤ page → page < r.first → touched page ≡ false
-  pub filled : 0 < r.count
-  pub alike : (page : ℕ) → r.first ≤ page → page < r.first + r.count → (touched page ≡ true) × (permission page ≡ r.permission)
-  pub maximal : touched (r.first + r.count) ≡ true → permission (r.first + r.count) ≢ r.permission
+  pub filled : r.first < r.end
+  pub alike : (page : ℕ) → r.first ≤ page → page < r.end → (touched page ≡ true) × (permission page ≡ r.permission)
+  pub maximal : touched r.end ≡ true → permission r.end ≢ r.permission
 
 -- all maximal runs from a page on, by their addresses
 abbrev pub AreRuns : (ℕ → Bool) → (ℕ → ℕ) → ℕ → List Run → Type 0
 AreRuns touched permission from [] = (page : ℕ) → from ≤ page → touched page ≡ false
-AreRuns touched permission from (r ∷ rs) = IsRun touched permission from r × AreRuns touched permission (r.first + r.count) rs
+AreRuns touched permission from (r ∷ rs) = IsRun touched permission from r × AreRuns touched permission r.end rs
 
 -- the runs of loads
 abbrev pub RunsOf : List Load → List Run → Type 0
@@ -65,12 +65,12 @@ RunsOf ls rs = AreRuns (is_touched ls) (permission_of ls) 0 rs
 -- pages before runs of pages above them: one run with the first of those, if it adjoins and has the same permission
 abbrev pub join : Run → List Run → List Run
 join r [] = r ∷ []
-join r (s ∷ rs) = cond ((s.first == r.first + r.count) && (s.permission == r.permission)) (record { first = r.first; count = r.count + s.count; permission = r.permission } ∷ rs) (r ∷ s ∷ rs)
+join r (s ∷ rs) = cond ((s.first == r.end) && (s.permission == r.permission)) (record { first = r.first; end = s.end; permission = r.permission } ∷ rs) (r ∷ s ∷ rs)
 
 -- the runs of so many pages from a page on
 unfoldable pub runs_from : (ℕ → Bool) → (ℕ → ℕ) → ℕ → ℕ → List Run
 runs_from touched permission page zero = []
-runs_from touched permission page (suc n) = cond (touched page) (join (record { first = page; count = 1; permission = permission page }) (runs_from touched permission (page + 1) n)) (runs_from touched permission (page + 1) n)
+runs_from touched permission page (suc n) = cond (touched page) (join (record { first = page; end = page + 1; permission = permission page }) (runs_from touched permission (page + 1) n)) (runs_from touched permission (page + 1) n)
 
 abbrev pub runs_of : List Load → List Run
 runs_of ls = runs_from (is_touched ls) (permission_of ls) 0 pages
@@ -79,4 +79,4 @@ runs_of ls = runs_from (is_touched ls) (permission_of ls) 0 pages
 
 -- a run's pages with the bytes that loads have there
 abbrev pub segment_of : List Load → Run → Segment
-segment_of ls r = record { address = page_size * r.first; permission = r.permission; content = map (byte_of ls) (range_with_len (page_size * r.first) (page_size * r.count)) }
+segment_of ls r = record { address = page_size * r.first; permission = r.permission; content = map (byte_of ls) (range_with_len (page_size * r.first) (page_size * (r.end - r.first))) }
