@@ -1,1 +1,4 @@
 pub mod Taking
+pub mod Below
+pub mod Bytes
+pub mod Whole

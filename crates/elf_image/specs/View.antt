@@ -1,11 +1,12 @@
 -- Loads and runs as contracts see them, and what the trial of needs answers.
 -- Our choice: a restatement for proofs.
-use Rattle.std.specs.Prelude.{◌≡◌, ◌<◌, ◌≤◌, ◌+◌, ◌^◌, ℕ, List, length, map, Option, None, Some, Result, Ok, Err}
+use Rattle.std.specs.Prelude.{◌≡◌, ◌<◌, ◌≤◌, List, map, Option, None, Some, Result, Ok, Err}
 use Rattle.fault_model.specs.declared.fault.Fault.{Fault}
 use Rattle.fault_model.specs.declared.fault.Fault.TheVariants as faults
 use Rattle.elf_model.specs.declared.error.ElfError.{ElfError}
 use Rattle.elf_model.specs.Loads as model
 use Rattle.elf_model.specs.Pages as pages
+use Rattle.memory_model.specs.Sizes as sizes
 use Rattle.elf_image.specs.declared.load.Load.{Load}
 use Rattle.elf_image.specs.declared.runs.Run.{Run}
 use Rattle.elf_image.specs.declared.loads.Loads.{Loads}
@@ -38,3 +39,8 @@ pub record AddUp (l : Loads) : Type 0 where
   pub end : l.end ≡ end_after 0 (load_views l.parts.items)
   pub memory : l.memory ≡ memory_of (load_views l.parts.items)
   pub most : memory_of (load_views l.parts.items) ≤ greatest_memory
+
+-- pages of a memory
+pub record IsWithin (r : pages.Run) : Type 0 where
+  pub filled : r.first < r.end
+  pub below : r.end ≤ sizes.pages

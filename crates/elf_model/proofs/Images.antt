@@ -90,7 +90,7 @@ refused bytes e h =
       | Some f ↦ λ some k. subst (λ (d : ElfError). IsFirstFault (needs bytes) d) (error_is f e k) (is_first (needs bytes) f some)
     ] refl h
 
-refuses : (bytes : List ℕ) (e : ElfError) → IsFirstFault (needs bytes) e → elf_of bytes ≡ Err e
+pub refuses : (bytes : List ℕ) (e : ElfError) → IsFirstFault (needs bytes) e → elf_of bytes ≡ Err e
 unfolding elf_of
 refuses bytes e h = rw (is_found (needs bytes) e h) refl
 

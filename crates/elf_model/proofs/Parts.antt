@@ -168,7 +168,7 @@ runs_add from l ls h =
     one_list (is_touched (l ∷ ls)) (permission_of (l ∷ ls)) 0 (runs_of (l ∷ ls)) (add l (runs_of ls)) (runs_are_found from (l ∷ ls) h)
     (add_runs l ls filled (λ page lt. none_below (end_of l) (2 ^ 32) ls h.1 page (omega (arith, filled))) (runs_of ls) (runs_are_found (end_of l) ls h.1))
 
-no_runs : runs_of [] ≡ []
+pub no_runs : runs_of [] ≡ []
 no_runs = one_list (is_touched []) (permission_of []) 0 (runs_of []) [] (runs_are_found 0 [] tt) (λ page _. refl)
 
 -- ---- loads and the stack

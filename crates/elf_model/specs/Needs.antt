@@ -37,29 +37,29 @@ greatest_memory = 16777216
 -- that it is a file of this format
 abbrev pub identity_needs : List ℕ → List Need
 identity_needs bytes =
-  need (nat_le file_header_size (length bytes)) 0 Truncated
-  ∷ need (mark_of bytes == from_le_bytes w32 mark) 0 Magic
-  ∷ need (class_of bytes == 1) 4 Class
-  ∷ need (encoding_of bytes == 1) 5 Encoding
-  ∷ need (ident_version_of bytes == 1) 6 Version
-  ∷ []
+    need (nat_le file_header_size (length bytes)) 0 Truncated
+    ∷ need (mark_of bytes == from_le_bytes w32 mark) 0 Magic
+    ∷ need (class_of bytes == 1) 4 Class
+    ∷ need (encoding_of bytes == 1) 5 Encoding
+    ∷ need (ident_version_of bytes == 1) 6 Version
+    ∷ []
 
 -- that it is a program for this machine
 abbrev pub machine_needs : List ℕ → List Need
 machine_needs bytes =
-  need (file_type_of bytes == 2) 16 Filetype
-  ∷ need (machine_of bytes == 243) 18 Machine
-  ∷ need (version_of bytes == 1) 20 Version
-  ∷ need (compressed_of bytes + float_interface_of bytes == 0) 36 Flags
-  ∷ []
+    need (file_type_of bytes == 2) 16 Filetype
+    ∷ need (machine_of bytes == 243) 18 Machine
+    ∷ need (version_of bytes == 1) 20 Version
+    ∷ need (compressed_of bytes + float_interface_of bytes == 0) 36 Flags
+    ∷ []
 
 -- that its program headers are there
 abbrev pub table_needs : List ℕ → List Need
 table_needs bytes =
-  need ((header_count_of bytes == 0) || (entry_size_of bytes == program_header_size)) 42 Entries
-  ∷ need (nat_le (header_count_of bytes) greatest_headers) 44 Count
-  ∷ need ((header_count_of bytes == 0) || nat_le (headers_of bytes + program_header_size * header_count_of bytes) (length bytes)) 28 Truncated
-  ∷ []
+    need ((header_count_of bytes == 0) || (entry_size_of bytes == program_header_size)) 42 Entries
+    ∷ need (nat_le (header_count_of bytes) greatest_headers) 44 Count
+    ∷ need ((header_count_of bytes == 0) || nat_le (headers_of bytes + program_header_size * header_count_of bytes) (length bytes)) 28 Truncated
+    ∷ []
 
 abbrev pub file_needs : List ℕ → List Need
 file_needs bytes = identity_needs bytes ++ (machine_needs bytes ++ table_needs bytes)
