@@ -3,3 +3,4 @@ pub mod Needs
 pub mod Parts
 pub mod Sound
 pub mod Images
+pub mod Booted

@@ -4,6 +4,7 @@
 -- Our choice: that a page has the permissions of all loads that touch it.
 use Rattle.std.specs.Prelude.{◌≡◌, ◌≢◌, ℕ, zero, suc, ◌+◌, ◌-◌, ◌*◌, ◌/◌, ◌≤◌, ◌<◌, Bool, true, false, ◌&&◌, ◌==◌, nat_le, nat_lt, cond, List, [], ◌∷◌, length, map, slice_index, bit_or}
 use Rattle.std.specs.List.{list_any, range_with_len}
+use Rattle.memory_model.specs.Memory.{Memory, byte_at, permission_at}
 use Rattle.memory_model.specs.Sizes.{page_size, pages}
 use Rattle.image_model.specs.Image.{Segment}
 use Rattle.elf_model.specs.Loads.{Load, end_of}
@@ -33,6 +34,11 @@ is_touched ls page = list_any (touches page) ls
 abbrev pub permission_of : List Load → ℕ → ℕ
 permission_of [] page = 0
 permission_of (l ∷ ls) page = cond (touches page l) (bit_or l.permission (permission_of ls page)) (permission_of ls page)
+
+-- a memory that has at each address the byte, and of each page the permission, that loads state
+pub record HasMemory (ls : List Load) (m : Memory) : Type 0 where
+  pub byte : (a : ℕ) → byte_at m a ≡ byte_of ls a
+  pub permission : (page : ℕ) → permission_at m page ≡ permission_of ls page
 
 -- ---- runs of pages
 

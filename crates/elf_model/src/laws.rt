@@ -3,9 +3,12 @@
 ghost use Rattle.std.specs.Prelude.{◌≡◌, ◌≤◌, ◌⊎◌, ◌↔◌, ℕ, List, ◌++◌, ◌∷◌, [], length, Ok, Err};
 ghost use Rattle.image_model.specs.Image.{Image, IsImage};
 ghost use Rattle.image_model.specs.Reading.{IsBytes};
+ghost use Rattle.device_model.specs.Devices.{Devices};
+ghost use Rattle.space_model.specs.Space.{top_of};
+ghost use Rattle.run_model.specs.Boot.{boot};
 ghost use Rattle.elf_model.specs.declared.error.ElfError.{ElfError};
-ghost use Rattle.elf_model.specs.Loads.{Load, AreLoads, stack, stack_base};
-ghost use Rattle.elf_model.specs.Pages.{Run, RunsOf};
+ghost use Rattle.elf_model.specs.Loads.{Load, AreLoads, parts_of, stack, stack_base};
+ghost use Rattle.elf_model.specs.Pages.{Run, RunsOf, HasMemory};
 ghost use Rattle.elf_model.specs.Needs.{IsFirstFault, needs, greatest_loads};
 ghost use Rattle.elf_model.specs.Elf.{ElfOf, elf_of};
 
@@ -40,4 +43,9 @@ pub fn few_segments()
 /// bytes, that end at 2^32 or below it, and a permission.
 pub fn is_image()
     ensures { (bytes : List ℕ) (i : Image) → IsBytes bytes → ElfOf bytes i → IsImage i }
+{}
+
+/// A root that boots from the image of a file has the memory that the file's loads and the stack state, whatever its devices and its fuel.
+pub fn boots_to_its_memory()
+    ensures { (bytes : List ℕ) (i : Image) (devices : Devices) (fuel : ℕ) → ElfOf bytes i → HasMemory (parts_of bytes) (top_of (boot i devices fuel)).memory }
 {}

@@ -7,6 +7,6 @@ mod laws;
 
 pub use error::{ElfError, ElfKind};
 pub use laws::{
-    few_segments, is_image, one_fault, one_image, reads_exactly_executables,
+    boots_to_its_memory, few_segments, is_image, one_fault, one_image, reads_exactly_executables,
     refuses_exactly_the_rest,
 };
