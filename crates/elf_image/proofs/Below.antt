@@ -3,7 +3,8 @@ use Rattle.std.proofs.Common.{◌≡◌, ℕ, zero, suc, ◌-◌, ◌+◌, ◌^�
 use Rattle.std.proofs.lemmas.List.{drop_more, drop_all, get_or-map, length-map}
 use Rattle.elf_model.specs.Loads as model
 use Rattle.elf_model.specs.Loads.{IsLoad, AreLoads, end_of}
-use Rattle.elf_model.specs.Pages.{Run, runs_of}
+use Rattle.elf_model.specs.Pages.{Run}
+use Rattle.elf_model.specs.Reading.{runs_of}
 use Rattle.elf_model.specs.Adding.{add}
 use Rattle.elf_model.proofs.Parts.{runs_add, no_runs}
 use Rattle.elf_image.specs.declared.load.Load.{Load}

@@ -7,7 +7,8 @@ use Rattle.fault_model.specs.declared.fault.Fault.TheVariants as faults
 use Rattle.elf_model.specs.declared.error.ElfError.{ElfError}
 use Rattle.elf_model.specs.Header.{program_header_size}
 use Rattle.elf_model.specs.Loads.{Load, end_of, loads_at, loads_from}
-use Rattle.elf_model.specs.Needs.{end_after, memory_of, header_needs, headers_need, first_fault}
+use Rattle.elf_model.specs.Needs.{end_after, memory_of, header_needs, headers_need}
+use Rattle.elf_model.specs.Reading.{first_fault}
 use Rattle.elf_image.specs.View.{Missed}
 use Rattle.elf_model.proofs.Needs.{none_yet, first_append, first_stops}
 use Rattle.elf_model.proofs.Sound.{end_push}

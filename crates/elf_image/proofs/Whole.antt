@@ -14,9 +14,12 @@ use Rattle.elf_model.specs.Header.{headers_of, header_count_of, entry_of}
 use Rattle.elf_model.specs.Loads as model
 use Rattle.elf_model.specs.Loads.{AreLoads, loads_from, loads_of, parts_of}
 use Rattle.elf_model.specs.Pages as pages
-use Rattle.elf_model.specs.Pages.{AreRuns, is_touched, permission_of, runs_of, segment_of}
-use Rattle.elf_model.specs.Needs.{needs, file_needs, headers_need, first_fault}
-use Rattle.elf_model.specs.Elf.{ElfOf, image_stated, elf_of}
+use Rattle.elf_model.specs.Pages.{AreRuns, is_touched, permission_of, segment_of}
+use Rattle.elf_model.specs.Reading.{runs_of}
+use Rattle.elf_model.specs.Needs.{needs, file_needs, headers_need}
+use Rattle.elf_model.specs.Reading.{first_fault}
+use Rattle.elf_model.specs.Elf.{ElfOf}
+use Rattle.elf_model.specs.Reading.{image_stated, elf_of}
 use Rattle.elf_model.proofs.Needs.{none_yet, first_append, first_stops}
 use Rattle.elf_model.proofs.Parts.{are_parts, none_past, runs_are_found, few}
 use Rattle.elf_model.proofs.Sound.{sound_segments}

@@ -1,7 +1,8 @@
 ghost use Rattle.std.specs.Prelude.{◌≡◌, ◌≤◌, ◌*◌, ◌+◌, length, IfOk, ◌<◌};
 ghost use Rattle.std.specs.Int.{w32, from_le_bytes};
 ghost use Rattle.elf_model.specs.Header.{file_header_size, program_header_size, mark, headers_of, header_count_of};
-ghost use Rattle.elf_model.specs.Needs.{identity_needs, machine_needs, table_needs, file_needs, first_fault};
+ghost use Rattle.elf_model.specs.Needs.{identity_needs, machine_needs, table_needs, file_needs};
+ghost use Rattle.elf_model.specs.Reading.{first_fault};
 ghost use Rattle.elf_image.specs.View.{Tried};
 
 use crate::fault::{ElfFault, bad};

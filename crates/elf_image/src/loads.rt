@@ -3,7 +3,8 @@ ghost use Rattle.std.specs.Option.{option_to_list};
 ghost use Rattle.elf_model.specs.Header.{program_header_size, file_size_at, offset_at, memory_size_at, address_at};
 ghost use Rattle.elf_model.specs.Loads as model;
 ghost use Rattle.elf_model.specs.Loads.{loads_at, loads_from, stack, stack_base};
-ghost use Rattle.elf_model.specs.Needs.{load_needs, header_needs, headers_need, first_fault, memory_of, greatest_memory};
+ghost use Rattle.elf_model.specs.Needs.{load_needs, header_needs, headers_need, memory_of, greatest_memory};
+ghost use Rattle.elf_model.specs.Reading.{first_fault};
 ghost use Rattle.elf_image.specs.View.{load_view, load_views, Tried, AddUp};
 
 use crate::fault::{ElfFault, bad};

@@ -5,9 +5,11 @@ ghost use Rattle.elf_model.specs.declared.error.ElfError as error;
 ghost use Rattle.elf_model.specs.Header as header;
 ghost use Rattle.elf_model.specs.Header.{file_header_size};
 ghost use Rattle.elf_model.specs.Loads.{parts_of};
-ghost use Rattle.elf_model.specs.Needs.{IsFirstFault, needs, first_fault};
+ghost use Rattle.elf_model.specs.Needs.{IsFirstFault, needs};
+ghost use Rattle.elf_model.specs.Reading.{first_fault};
 ghost use Rattle.elf_image.specs.View.{load_views, Tried};
-ghost use Rattle.elf_model.specs.Elf.{ElfOf, elf_of, is_elf};
+ghost use Rattle.elf_model.specs.Elf.{ElfOf, is_elf};
+ghost use Rattle.elf_model.specs.Reading.{elf_of};
 
 use crate::fault::ElfFault;
 use crate::fields::u32_at;

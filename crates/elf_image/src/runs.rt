@@ -2,6 +2,7 @@ ghost use Rattle.std.specs.Prelude.{◌≡◌, ◌≤◌, ◌<◌, ◌^◌, ◌+
 ghost use Rattle.elf_model.specs.Loads as model;
 ghost use Rattle.elf_model.specs.Loads.{AreLoads};
 ghost use Rattle.elf_model.specs.Pages as pages;
+ghost use Rattle.elf_model.specs.Reading as reading;
 ghost use Rattle.elf_model.specs.Adding as adding;
 ghost use Rattle.elf_image.specs.View.{load_view, load_views, run_view, run_views};
 
@@ -21,7 +22,7 @@ pub(crate) struct Run {
 
 // Pages before runs of pages above them: one run with the first of those, if it adjoins and has the same permission.
 fn join(runs: &mut VecDeque<Run>, run: Run) -> Result<(), AllocError>
-    ensures { OnOk result (run_views runs.new.items ≡ pages.join (run_view run) (run_views runs.old.items)) }
+    ensures { OnOk result (run_views runs.new.items ≡ reading.join (run_view run) (run_views runs.old.items)) }
 {
     let Some(next) = runs.pop_front() else {
         return Ok(runs.push_front(run)?);
@@ -110,7 +111,7 @@ fn add(runs: &mut VecDeque<Run>, load: &Load<'_>) -> Result<(), AllocError>
 /// The maximal runs of the pages that loads touch, by their addresses.
 pub(crate) fn runs_of(alloc: Global, loads: &[Load<'_>]) -> Result<VecDeque<Run>, AllocError>
     requires { AreLoads 0 (2 ^ 32) (load_views loads.now) }
-    ensures { IfOk result (λ runs. run_views runs.items ≡ pages.runs_of (load_views loads.now)) }
+    ensures { IfOk result (λ runs. run_views runs.items ≡ reading.runs_of (load_views loads.now)) }
 {
     let mut runs = VecDeque::new(alloc);
     let count = loads.len();

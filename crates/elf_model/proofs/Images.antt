@@ -7,9 +7,12 @@ use Rattle.image_model.specs.Reading.{IsBytes}
 use Rattle.elf_model.specs.declared.error.ElfError.{ElfError}
 use Rattle.elf_model.specs.Header.{headers_of, header_count_of, entry_of}
 use Rattle.elf_model.specs.Loads.{Load, AreLoads, loads_of, parts_of, stack, stack_base}
-use Rattle.elf_model.specs.Pages.{Run, RunsOf, runs_of, is_touched, permission_of, segment_of}
-use Rattle.elf_model.specs.Needs.{IsFirstFault, needs, file_needs, headers_need, first_fault}
-use Rattle.elf_model.specs.Elf.{ElfOf, image_stated, unless_fault, elf_of}
+use Rattle.elf_model.specs.Pages.{Run, RunsOf, is_touched, permission_of, segment_of}
+use Rattle.elf_model.specs.Reading.{runs_of}
+use Rattle.elf_model.specs.Needs.{IsFirstFault, needs, file_needs, headers_need}
+use Rattle.elf_model.specs.Reading.{first_fault}
+use Rattle.elf_model.specs.Elf.{ElfOf}
+use Rattle.elf_model.specs.Reading.{image_stated, unless_fault, elf_of}
 use Rattle.elf_model.proofs.Runs.{one_list}
 use Rattle.elf_model.proofs.Needs.{none_yet, both_none, are_met, none_missed, is_found, is_first}
 use Rattle.elf_model.proofs.Parts.{are_parts, runs_are_found, few}

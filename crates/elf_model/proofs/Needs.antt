@@ -2,7 +2,8 @@
 use Rattle.std.proofs.Common.{◌≡◌, true, false, cond, List, [], ◌∷◌, ◌++◌, Option, Some, None, refl, sym, ap, ◌∙◌}
 use Rattle.std.proofs.lemmas.List.Elements.{All-nil, All-cons, All-head, All-tail}
 use Rattle.elf_model.specs.declared.error.ElfError.{ElfError}
-use Rattle.elf_model.specs.Needs.{Need, AreMet, IsFirstFault, first_fault, fault_of}
+use Rattle.elf_model.specs.Needs.{Need, AreMet, IsFirstFault, fault_of}
+use Rattle.elf_model.specs.Reading.{first_fault}
 
 abbrev pub none_yet : Option ElfError
 none_yet = None

@@ -6,7 +6,8 @@ use Rattle.std.proofs.lemmas.Bool.{cond_both, cases_order, cases_eq, eqb-true, e
 use Rattle.std.proofs.lemmas.Nat.{or_lt}
 use Rattle.memory_model.specs.Sizes.{page_size, pages, greatest_permission}
 use Rattle.elf_model.specs.Loads.{Load, end_of, IsLoad, AreLoads, stack, stack_base}
-use Rattle.elf_model.specs.Pages.{Run, AreRuns, RunsOf, join, runs_of, touches, is_touched, permission_of, first_page, last_page}
+use Rattle.elf_model.specs.Pages.{Run, AreRuns, RunsOf, touches, is_touched, permission_of, first_page, last_page}
+use Rattle.elf_model.specs.Reading.{join, runs_of}
 use Rattle.elf_model.specs.Adding.{run, without_page, share, put_before, add}
 use Rattle.elf_model.proofs.Runs.{IsPart, join_runs, from_below, from_above, are_found, one_list, alike_from}
 

@@ -1,7 +1,8 @@
 -- The maximal runs of some pages: there is one list of them, it is found page by page, and with pages before it.
 use Rattle.std.proofs.Common.{◌≡◌, ℕ, zero, suc, ◌+◌, ◌≤◌, ◌<◌, Bool, true, false, ◌&&◌, eqb, List, [], ◌∷◌, refl, sym, ◌∙◌, arith, inl, inr}
 use Rattle.std.proofs.lemmas.Bool.{cond_both, cases_order, cases_lt, eqb-true, eqb-false, and_parts, and_cases, both_ways}
-use Rattle.elf_model.specs.Pages.{Run, IsRun, AreRuns, join, runs_from}
+use Rattle.elf_model.specs.Pages.{Run, IsRun, AreRuns}
+use Rattle.elf_model.specs.Reading.{join, runs_from}
 
 pub same_run : (r s : Run) → r.first ≡ s.first → r.end ≡ s.end → r.permission ≡ s.permission → r ≡ s
 same_run r s e f g = λ i. record { first = e i; end = f i; permission = g i }

@@ -10,8 +10,10 @@ use Rattle.image_model.specs.Image.{IsSegment, AreSegments}
 use Rattle.elf_model.specs.declared.error.ElfKind.TheVariants.{Count, Dynamic}
 use Rattle.elf_model.specs.Header.{program_header_size, type_at, offset_at, address_at, file_size_at, memory_size_at}
 use Rattle.elf_model.specs.Loads.{Load, end_of, IsLoad, AreLoads, is_load, load_at, loads_at, loads_from, stack, stack_base}
-use Rattle.elf_model.specs.Pages.{Run, IsRun, AreRuns, runs_of, is_touched, permission_of, first_page, last_page, byte_of, segment_of}
-use Rattle.elf_model.specs.Needs.{need, first_fault, greatest_loads, greatest_memory, end_after, memory_of, load_needs, header_needs, headers_need}
+use Rattle.elf_model.specs.Pages.{Run, IsRun, AreRuns, is_touched, permission_of, first_page, last_page, byte_of, segment_of}
+use Rattle.elf_model.specs.Reading.{runs_of}
+use Rattle.elf_model.specs.Needs.{need, greatest_loads, greatest_memory, end_after, memory_of, load_needs, header_needs, headers_need}
+use Rattle.elf_model.specs.Reading.{first_fault}
 use Rattle.elf_model.proofs.Needs.{none_yet, both_none, met_first, are_met}
 use Rattle.elf_model.proofs.Parts.{are_parts, none_past, permission_le, runs_are_found, runs_add, stack_runs, pages_in, pages_add}
 

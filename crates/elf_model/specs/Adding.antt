@@ -2,7 +2,8 @@
 -- Our choice: a restatement for proofs.
 use Rattle.std.specs.Prelude.{ℕ, ◌+◌, ◌==◌, nat_lt, cond, List, [], ◌∷◌, bit_or}
 use Rattle.elf_model.specs.Loads.{Load}
-use Rattle.elf_model.specs.Pages.{Run, first_page, last_page, join}
+use Rattle.elf_model.specs.Pages.{Run, first_page, last_page}
+use Rattle.elf_model.specs.Reading.{join}
 
 abbrev pub run : ℕ → ℕ → ℕ → Run
 run first end permission = record { first = first; end = end; permission = permission }

@@ -1,15 +1,13 @@
 -- The image of an executable file: where its header says that it begins, a stack below 2 ^ 32, and what its loads state.
 -- Source: System V Application Binary Interface, "Program Loading".
 -- Our choice: the stack, and segments of whole pages.
--- Laws: crates/elf_model/src/laws.rt
-use Rattle.std.specs.Prelude.{◌≡◌, ℕ, Bool, ◌&&◌, ◌==◌, nat_le, List, length, map, Option, Some, None, Result, Ok, Err}
+use Rattle.std.specs.Prelude.{◌≡◌, ℕ, Bool, ◌&&◌, ◌==◌, nat_le, List, length, map}
 use Rattle.std.specs.Int.{w32, from_le_bytes}
 use Rattle.image_model.specs.Image.{Image}
-use Rattle.elf_model.specs.declared.error.ElfError.{ElfError}
 use Rattle.elf_model.specs.Header.{mark, mark_of, entry_of}
 use Rattle.elf_model.specs.Loads.{stack_pointer, parts_of}
-use Rattle.elf_model.specs.Pages.{Run, RunsOf, runs_of, segment_of}
-use Rattle.elf_model.specs.Needs.{AreMet, needs, first_fault}
+use Rattle.elf_model.specs.Pages.{Run, RunsOf, segment_of}
+use Rattle.elf_model.specs.Needs.{AreMet, needs}
 
 -- the grammar: the file has all that it needs, and the image's segments are the maximal runs of pages, with the bytes that stand there
 pub record ElfOf (bytes : List ℕ) (i : Image) : Type 0 where
@@ -19,17 +17,6 @@ pub record ElfOf (bytes : List ℕ) (i : Image) : Type 0 where
   pub runs : List Run
   pub are_runs : RunsOf (parts_of bytes) runs
   pub segments : i.segments ≡ map (segment_of (parts_of bytes)) runs
-
-abbrev pub image_stated : List ℕ → Image
-image_stated bytes = record { entry = entry_of bytes; stack = stack_pointer; segments = map (segment_of (parts_of bytes)) (runs_of (parts_of bytes)) }
-
-abbrev pub unless_fault : Option ElfError → Image → Result Image ElfError
-unless_fault None i = Ok i
-unless_fault (Some e) i = Err e
-
--- the image of an executable file, or its first fault
-unfoldable pub elf_of : List ℕ → Result Image ElfError
-elf_of bytes = unless_fault (first_fault (needs bytes)) (image_stated bytes)
 
 -- the file is to be read as an executable file
 abbrev pub is_elf : List ℕ → Bool

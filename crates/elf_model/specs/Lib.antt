@@ -3,5 +3,6 @@ pub mod Loads
 pub mod Pages
 pub mod Needs
 pub mod Elf
+pub mod Reading
 pub mod Adding
 pub mod Names

@@ -2,7 +2,7 @@
 -- file that has it not.
 -- Source: System V Application Binary Interface, "ELF Header" and "Program Header"; RISC-V ELF psABI, "File Header".
 -- Our choice: the needs, their order, and where each fault is said to be.
-use Rattle.std.specs.Prelude.{◌≡◌, ℕ, zero, suc, ◌+◌, ◌*◌, Bool, true, false, not, ◌||◌, ◌==◌, nat_le, nat_lt, cond, List, [], ◌∷◌, ◌++◌, length, Option, Some, None}
+use Rattle.std.specs.Prelude.{◌≡◌, ℕ, zero, suc, ◌+◌, ◌*◌, Bool, true, false, not, ◌||◌, ◌==◌, nat_le, nat_lt, cond, List, [], ◌∷◌, ◌++◌, length}
 use Rattle.std.specs.Int.{w32, from_le_bytes}
 use Rattle.std.specs.List.{All, sum_by}
 use Rattle.elf_model.specs.declared.error.ElfError.{ElfError}
@@ -115,8 +115,3 @@ pub record IsFirstFault (ns : List Need) (e : ElfError) : Type 0 where
   pub met_before : AreMet before
   pub not_met : missed.met ≡ false
   pub fault : e ≡ fault_of missed
-
--- the same, found
-abbrev pub first_fault : List Need → Option ElfError
-first_fault [] = None
-first_fault (n ∷ ns) = cond n.met (first_fault ns) (Some (fault_of n))

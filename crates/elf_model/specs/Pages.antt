@@ -2,10 +2,10 @@
 -- that loads touch and that have one permission.
 -- Source: System V Application Binary Interface, "Program Loading"; RISC-V Privileged ISA, the R, W and X bits of a page table entry.
 -- Our choice: that a page has the permissions of all loads that touch it.
-use Rattle.std.specs.Prelude.{◌≡◌, ◌≢◌, ℕ, zero, suc, ◌+◌, ◌-◌, ◌*◌, ◌/◌, ◌≤◌, ◌<◌, Bool, true, false, ◌&&◌, ◌==◌, nat_le, nat_lt, cond, List, [], ◌∷◌, length, map, slice_index, bit_or}
+use Rattle.std.specs.Prelude.{◌≡◌, ◌≢◌, ℕ, ◌+◌, ◌-◌, ◌*◌, ◌/◌, ◌≤◌, ◌<◌, Bool, true, false, ◌&&◌, nat_le, nat_lt, cond, List, [], ◌∷◌, length, map, slice_index, bit_or}
 use Rattle.std.specs.List.{list_any, range_with_len}
 use Rattle.memory_model.specs.Memory.{Memory, byte_at, permission_at}
-use Rattle.memory_model.specs.Sizes.{page_size, pages}
+use Rattle.memory_model.specs.Sizes.{page_size}
 use Rattle.image_model.specs.Image.{Segment}
 use Rattle.elf_model.specs.Loads.{Load, end_of}
 
@@ -65,21 +65,6 @@ AreRuns touched permission from (r ∷ rs) = IsRun touched permission from r × 
 -- the runs of loads
 abbrev pub RunsOf : List Load → List Run → Type 0
 RunsOf ls rs = AreRuns (is_touched ls) (permission_of ls) 0 rs
-
--- ---- the runs, found page by page
-
--- pages before runs of pages above them: one run with the first of those, if it adjoins and has the same permission
-abbrev pub join : Run → List Run → List Run
-join r [] = r ∷ []
-join r (s ∷ rs) = cond ((s.first == r.end) && (s.permission == r.permission)) (record { first = r.first; end = s.end; permission = r.permission } ∷ rs) (r ∷ s ∷ rs)
-
--- the runs of so many pages from a page on
-unfoldable pub runs_from : (ℕ → Bool) → (ℕ → ℕ) → ℕ → ℕ → List Run
-runs_from touched permission page zero = []
-runs_from touched permission page (suc n) = cond (touched page) (join (record { first = page; end = page + 1; permission = permission page }) (runs_from touched permission (page + 1) n)) (runs_from touched permission (page + 1) n)
-
-abbrev pub runs_of : List Load → List Run
-runs_of ls = runs_from (is_touched ls) (permission_of ls) 0 pages
 
 -- ---- segments
 

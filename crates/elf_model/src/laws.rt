@@ -10,7 +10,8 @@ ghost use Rattle.elf_model.specs.declared.error.ElfError.{ElfError};
 ghost use Rattle.elf_model.specs.Loads.{Load, AreLoads, parts_of, stack, stack_base};
 ghost use Rattle.elf_model.specs.Pages.{Run, RunsOf, HasMemory};
 ghost use Rattle.elf_model.specs.Needs.{IsFirstFault, needs, greatest_loads};
-ghost use Rattle.elf_model.specs.Elf.{ElfOf, elf_of};
+ghost use Rattle.elf_model.specs.Elf.{ElfOf};
+ghost use Rattle.elf_model.specs.Reading.{elf_of};
 
 /// What is read of a file is the image that it states.
 pub fn reads_exactly_executables()

@@ -3,7 +3,8 @@ use Rattle.std.proofs.lemmas.Result.{err_from_is_err_and}
 use Rattle.std.proofs.lemmas.List.{map_push}
 use Rattle.elf_model.specs.Loads as model
 use Rattle.elf_model.specs.Loads.{loads_at, loads_from, stack}
-use Rattle.elf_model.specs.Needs.{headers_need, first_fault}
+use Rattle.elf_model.specs.Needs.{headers_need}
+use Rattle.elf_model.specs.Reading.{first_fault}
 use Rattle.elf_image.specs.View.{load_views}
 use Rattle.elf_image.proofs.Taking.{goes_on, takes_on, ends, all_met, all_taken}
 use Rattle.elf_image.proofs.loads.read_parts.Goals as goal

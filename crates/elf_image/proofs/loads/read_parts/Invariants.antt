@@ -1,7 +1,8 @@
 use Rattle.std.proofs.Common.{◌≡◌, ◌+◌, ◌*◌, ◌-◌, ◌++◌, []}
 use Rattle.elf_model.specs.Header.{program_header_size}
 use Rattle.elf_model.specs.Loads.{loads_from}
-use Rattle.elf_model.specs.Needs.{headers_need, first_fault}
+use Rattle.elf_model.specs.Needs.{headers_need}
+use Rattle.elf_model.specs.Reading.{first_fault}
 use Rattle.elf_image.specs.View.{load_views, AddUp}
 use Rattle.elf_image.proofs.loads.read_parts.Given as goal
 
