@@ -168,6 +168,8 @@ union header {
 static union header base;
 static union header *free_list;
 
+void det_heap_turn(void);       /* runtime.c */
+
 static void
 give_back(union header *piece)
 {
@@ -192,8 +194,10 @@ give_back(union header *piece)
 void
 free(void *old)
 {
-  if (old != NULL)
-    give_back((union header *)old - 1);
+  if (old == NULL)
+    return;
+  det_heap_turn();
+  give_back((union header *)old - 1);
 }
 
 void *
@@ -205,6 +209,7 @@ malloc(size_t count)
   if (count > PTRDIFF_MAX - DET_PAGE)
     return NULL;
   units = (count + sizeof(union header) - 1) / sizeof(union header) + 1;
+  det_heap_turn();
   if (free_list == NULL) {
     base.piece.next = free_list = &base;
     base.piece.units = 0;

@@ -274,9 +274,19 @@ memcmp(const void *a, const void *b, size_t count)
 #define OWN_END 0xFFF00000u
 
 static uint32_t heap = HEAP_START;               /* where its next memory begins */
-static uint32_t allocations;                     /* changes with each one, so that two threads that both allocate are in conflict */
+static uint32_t heap_turn;                       /* see det_heap_turn */
 static _Thread_local uint32_t usable = HEAP_START;
 static _Thread_local uint32_t own = OWN_START;
+
+/*
+ * Whatever changes the heap calls this, malloc and free too. All bytes of the number change, so that two threads that do so side by side
+ * are in conflict when they are joined, and their lists are never mixed.
+ */
+void
+det_heap_turn(void)
+{
+  heap_turn += (heap_turn << 13) + 0x01010101;
+}
 
 /* Makes memory readable and writable: Get with Perm of a child that is not there. */
 static void
@@ -302,7 +312,7 @@ det_allocate(uint32_t count)
   if (count > DET_SHARED_END - at)
     return NULL;
   heap = at + ((count + DET_PAGE - 1) & -(uint32_t)DET_PAGE);
-  allocations = allocations + (allocations << 4) + 1;
+  det_heap_turn();
   permit_heap();
   return (void *)(uintptr_t)at;
 }
