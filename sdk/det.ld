@@ -49,7 +49,7 @@ SECTIONS
   ASSERT(. <= 0xC0800000, "there is room for 4 MB of _Thread_local variables")
 
   /* Nothing runs them, so that a program that has some does not seem to work. */
-  .init_array : { *(.preinit_array .init_array .init_array.* .ctors .ctors.*) } :data
+  .init_array : { KEEP(*(.preinit_array .init_array .init_array.* .ctors .ctors.*)) } :data
   ASSERT(SIZEOF(.init_array) == 0, "constructors are not run: call them from main")
 
   /DISCARD/ : { *(.comment) *(.note .note.*) *(.fini_array .fini_array.* .dtors .dtors.*) }

@@ -469,8 +469,13 @@ fopen(const char *restrict name, const char *restrict mode)
   if (file == opened + 16 || length > DET_FILE_NAME)
     return NULL;
   error = *mode == 'r' ? det_file_length(name, length, &count) : det_file_new(name, length, *mode == 'a');
-  if (error == DET_EXISTS)
-    error = *mode == 'a' ? DET_OK : det_file_put(name, length, name, 0, 0);
+  if (error == DET_EXISTS && *mode == 'a')
+    error = det_file_length(name, length, &count);
+  else if (error == DET_EXISTS && (error = det_file_put(name, length, name, 0, 0)) != DET_OK) {
+    /* it may only be added to, or is conflicted: it is made anew */
+    det_file_delete(name, length);
+    error = det_file_new(name, length, 0);
+  }
   if (error != DET_OK)
     return NULL;
   *file = (struct file){ .length = length, .write = *mode != 'r' };
