@@ -12,6 +12,6 @@ main(void)
   while (fgets(line, sizeof line, stdin) != NULL)
     printf("%3d  %s", ++lines, line);
   if (det_clock(&now) == 0)
-    printf("at %u\n", (unsigned)now);
+    printf("at %u\n", now);
   return lines;
 }

@@ -27,15 +27,15 @@ devices(void)
   uint32_t n, got;
 
   got = det_read(text, 5);
-  printf("read %u: %.*s\n", (unsigned)got, (int)got, text);
+  printf("read %u: %.*s\n", got, (int)got, text);
   got = det_read(text, sizeof text);
-  printf("read %u: %.*s", (unsigned)got, (int)got, text);
-  printf("read %u\n", (unsigned)det_read(text, sizeof text));
+  printf("read %u: %.*s", got, (int)got, text);
+  printf("read %u\n", det_read(text, sizeof text));
   printf("clock %d", det_clock(&n));
-  printf(" %u\n", (unsigned)n);
+  printf(" %u\n", n);
   printf("clock %d\n", det_clock(&n));
   printf("random %d", det_random(&n));
-  printf(" %u\n", (unsigned)n);
+  printf(" %u\n", n);
   printf("random %d\n", det_random(&n));
 }
 
@@ -68,7 +68,7 @@ threads(void)
 
   det_thread_create(3, add_to_all, &step);
   end = det_thread_join(3);
-  printf("thread: %s %u, shared %d %d, own %d\n", cause(end.cause), (unsigned)end.value, shared[0], shared[3], own);
+  printf("thread: %s %u, shared %d %d, own %d\n", cause(end.cause), end.value, shared[0], shared[3], own);
 
   if (det_thread_fork(3)) {
     made = det_allocate(sizeof *made);
@@ -84,12 +84,12 @@ threads(void)
     det_return((uint32_t)(shared[1] = 99));
   shared[1] = 99;
   end = det_thread_join_agree(3);
-  printf("agreed: %s %u\n", cause(end.cause), (unsigned)end.value);
+  printf("agreed: %s %u\n", cause(end.cause), end.value);
 
   if (det_thread_fork(4))
     det_clock(&end.value);
   end = det_thread_join(4);
-  printf("a device in a thread: %s %u\n", cause(end.cause), (unsigned)end.value);
+  printf("a device in a thread: %s %u\n", cause(end.cause), end.value);
 }
 
 static void
@@ -106,9 +106,9 @@ files(void)
   printf(" %d", det_file_put("notes", 5, "ef", 2, 1));
   printf(" %d\n", det_file_put("none", 4, "", 0, 0));
   printf("length %d", det_file_length("notes", 5, &n));
-  printf(" %u\n", (unsigned)n);
+  printf(" %u\n", n);
   printf("get %d", det_file_get("notes", 5, text, sizeof text, 2, &n));
-  printf(" %u: %.*s\n", (unsigned)n, (int)n, text);
+  printf(" %u: %.*s\n", n, (int)n, text);
   det_file_new("log", 3, 1);
   printf("append %d\n", det_file_put("log", 3, "", 0, 0));
 
@@ -119,7 +119,7 @@ files(void)
   }
   end = det_wait(8);
   det_file_get("notes", 5, text, sizeof text, 0, &n);
-  printf("process: %s %u, left %u, %.*s, shared %d\n", cause(end.cause), (unsigned)end.value, (unsigned)end.files_left, (int)n, text, shared[0]);
+  printf("process: %s %u, left %u, %.*s, shared %d\n", cause(end.cause), end.value, end.files_left, (int)n, text, shared[0]);
   printf("delete %d", det_file_delete("notes", 5));
   printf(" %d\n", det_file_delete("notes", 5));
   end = det_wait(8);
@@ -139,7 +139,7 @@ put_and_get(void)
   det_put(DET_REGS | DET_COPY | DET_SNAP, 9, &block, SPARE, SPARE, DET_PAGE, 0);
   det_put(DET_PERM | DET_READABLE | DET_EXECUTABLE, 9, NULL, 0, SPARE, DET_PAGE, 0);
   det_get(DET_REGS, 9, &block, 0, 0, 0);
-  printf("put: pc %08x, %s\n", (unsigned)block.pc, cause(block.cause));
+  printf("put: pc %08x, %s\n", block.pc, cause(block.cause));
 
   /* the same with an instruction in it: jal x0, 0, which goes on for ever, so its limit stops it */
   *(volatile uint32_t *)page = 0x0000006F;
@@ -147,13 +147,13 @@ put_and_get(void)
   det_put(DET_PERM | DET_READABLE | DET_EXECUTABLE, 9, NULL, 0, SPARE, DET_PAGE, 0);
   det_put(DET_START | DET_LIMIT, 9, NULL, 0, 0, 0, 1000);
   det_get(DET_REGS | DET_MERGE, 9, &block, 0, SPARE, DET_PAGE);
-  printf("limit: pc %08x, %s, still %08x\n", (unsigned)block.pc, cause(block.cause), (unsigned)*(volatile uint32_t *)page);
+  printf("limit: pc %08x, %s, still %08x\n", block.pc, cause(block.cause), *(volatile uint32_t *)page);
 
   /* a copy of the child, as its own child and as ours */
   det_put(DET_TREE, 9, NULL, 9, 1, 0, 0);
   det_get(DET_TREE, 9, NULL, 1, 10, 0);
   det_get(DET_REGS, 10, &block, 0, 0, 0);
-  printf("tree: pc %08x, %s\n", (unsigned)block.pc, cause(block.cause));
+  printf("tree: pc %08x, %s\n", block.pc, cause(block.cause));
 }
 
 int

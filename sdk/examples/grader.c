@@ -61,7 +61,7 @@ grade(const char *name, void (*answer)(int), uint32_t child)
   else if (end.cause == DET_LIMITED)
     printf("%s: not done after %d instructions\n", name, LIMIT);
   else
-    printf("%s: stopped by cause %u, value %08x\n", name, (unsigned)end.cause, (unsigned)end.value);
+    printf("%s: stopped by cause %u, value %08x\n", name, end.cause, end.value);
 }
 
 int

@@ -42,7 +42,7 @@ arithmetic(void)
         add((uint32_t)a % (uint32_t)b);
       }
     }
-  printf("words %08x\n", (unsigned)sum);
+  printf("words %08x\n", sum);
   for (i = 0; i < LONGS; i++) {
     int64_t a = longs[i];
     for (j = 0; j < LONGS; j++) {
@@ -67,19 +67,20 @@ arithmetic(void)
       add((uint64_t)__builtin_ctzll((uint64_t)a) * 64 + (uint64_t)__builtin_clzll((uint64_t)a));
     add(__builtin_bswap64((uint64_t)a));
   }
-  printf("longs %08x\n", (unsigned)sum);
+  printf("longs %08x\n", sum);
 }
 
 static void
 formats(void)
 {
+  const char *volatile word = "truncated";
   char text[12];
 
   printf("[%d] [%5d] [%-5d] [%05d] [%+d] [% d] [%.3d] [%8.3d]\n", 42, 42, 42, 42, 42, 42, 42, -42);
   printf("[%d] [%u] [%x] [%X] [%#x] [%o] [%#o]\n", INT_MIN, UINT_MAX, 0xBEEF, 0xBEEF, 0xBEEF, 8, 8);
-  printf("[%lld] [%llu] [%llx] [%hhd] [%hd] [%zu]\n", LLONG_MIN, ULLONG_MAX, 0x123456789ABCDEFull, 511, 65537, sizeof(int));
+  printf("[%lld] [%llu] [%llx] [%hhd] [%hd] [%zu]\n", LLONG_MIN, ULLONG_MAX, 0x123456789ABCDEFull, (signed char)-1, (short)1, sizeof(int));
   printf("[%c] [%3c] [%-3c] [%s] [%8s] [%-8s] [%.2s] [%*s] [%%]\n", 'a', 'b', 'c', "word", "word", "word", "word", 6, "far");
-  printf("%d %s\n", snprintf(text, sizeof text, "%s and %d", "truncated", 1), text);
+  printf("%d %s\n", snprintf(text, sizeof text, "%s and %d", word, 1), text);
 }
 
 static int
@@ -93,13 +94,14 @@ by_value(const void *a, const void *b)
 static void
 strings(void)
 {
-  char text[64] = "one two", *end, *copy;
+  char text[64] = "one two", other[32], *end, *copy;
   unsigned char bytes[40];
+  volatile size_t most = 5;
   int i;
 
-  strcat(strcpy(text + 16, "three"), " four");
-  strncat(text, text + 16, 5);
-  printf("%s, %s, %d %d\n", text, text + 16, (int)strlen(text), (int)strspn(text, "eno"));
+  strcat(strcpy(other, "three"), " four");
+  strncat(text, other, most);
+  printf("%s, %s, %d %d\n", text, other, (int)strlen(text), (int)strspn(text, "eno"));
   printf("%s %s %s %d\n", strchr(text, 't'), strrchr(text, 't'), strstr(text, "wo"), (int)strcspn(text, " "));
   printf("%d %d %d %d\n", strcmp("a", "b") < 0, strcmp("b", "a") > 0, strcmp("a", "a"), strncmp("abc", "abd", 2));
   for (i = 0; i < 40; i++)
@@ -110,7 +112,7 @@ strings(void)
   for (i = 0; i < 40; i++)
     add(bytes[i]);
   copy = strdup("copied");
-  printf("%08x %d %s %d\n", (unsigned)sum, memcmp(bytes, bytes + 1, 9) != 0, copy, memchr(copy, 'p', 6) == copy + 2);
+  printf("%08x %d %s %d\n", sum, memcmp(bytes, bytes + 1, 9) != 0, copy, memchr(copy, 'p', 6) == copy + 2);
   free(copy);
   i = (int)strtol(" -0x1fz", &end, 0);
   printf("%d %s %d %d %u\n", i, end, atoi("  123 "), (int)strtol("-777", NULL, 8), (unsigned)strtoul("4294967295", NULL, 10));

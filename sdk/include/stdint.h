@@ -1,14 +1,14 @@
-/* Integer types, by the compiler's own names for them. */
+/* Integer types: those of 32 bits are int and unsigned by every compiler, so that %d and %u fit; the others by the compiler's own names. */
 #ifndef STDINT_H
 #define STDINT_H
 
 typedef __INT8_TYPE__ int8_t;
 typedef __INT16_TYPE__ int16_t;
-typedef __INT32_TYPE__ int32_t;
+typedef int int32_t;
 typedef __INT64_TYPE__ int64_t;
 typedef __UINT8_TYPE__ uint8_t;
 typedef __UINT16_TYPE__ uint16_t;
-typedef __UINT32_TYPE__ uint32_t;
+typedef unsigned uint32_t;
 typedef __UINT64_TYPE__ uint64_t;
 
 typedef __INT_LEAST8_TYPE__ int_least8_t;
@@ -36,7 +36,7 @@ typedef __UINTMAX_TYPE__ uintmax_t;
 
 #define INT8_MAX 127
 #define INT16_MAX 32767
-#define INT32_MAX __INT32_MAX__
+#define INT32_MAX __INT_MAX__
 #define INT64_MAX __INT64_MAX__
 #define INT8_MIN (-INT8_MAX - 1)
 #define INT16_MIN (-INT16_MAX - 1)
@@ -44,7 +44,7 @@ typedef __UINTMAX_TYPE__ uintmax_t;
 #define INT64_MIN (-INT64_MAX - 1)
 #define UINT8_MAX 255
 #define UINT16_MAX 65535
-#define UINT32_MAX __UINT32_MAX__
+#define UINT32_MAX (INT32_MAX * 2u + 1)
 #define UINT64_MAX __UINT64_MAX__
 #define INTPTR_MAX __INTPTR_MAX__
 #define INTPTR_MIN (-INTPTR_MAX - 1)
