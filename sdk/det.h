@@ -213,7 +213,7 @@ det_get(uint32_t options, uint32_t child, struct det_registers *registers, uint3
   det_call(DET_CALL_GET, options, child, det_address(registers), from, to, size, 0);
 }
 
-/* ---- Files. Each returns an enum det_error; a name has 1 to 32 bytes, none of them 0 ---- */
+/* ---- Files. Each returns an enum det_error. A name has 1 to 32 bytes other than 0; count is at most DET_CALL_BYTES ---- */
 
 static inline int
 det_file_new(const char *name, uint32_t length, int append)
