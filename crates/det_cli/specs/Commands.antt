@@ -1,9 +1,11 @@
 -- What the files of a command make: a settled root that is shown or summed up, or the image of a source.
 -- Our choice: the commands, the room of their files, and what they write.
-use Rattle.std.specs.Prelude.{ℕ, Bool, List, [], ◌∷◌, map, Option, Some, None, Result, Ok, Err, cond}
+use Rattle.std.specs.Prelude.{ℕ, Bool, List, [], ◌∷◌, map, Option, Some, None, Result, Ok, Err, cond, if◌then◌else◌}
 use Rattle.command_line.specs.Line.{Engine, Line, run, asm, bench, files_of_engine}
 use Rattle.image_model.specs.Image.{Image, image_bytes}
 use Rattle.image_model.specs.Reading.{image_of}
+use Rattle.elf_model.specs.Elf.{is_elf}
+use Rattle.elf_model.specs.Reading.{elf_of}
 use Rattle.source_model.specs.Reading.{source_of}
 use Rattle.script_model.specs.declared.error.ScriptError.{ScriptError}
 use Rattle.device_model.specs.Devices.{Devices}
@@ -20,7 +22,7 @@ use Rattle.report_model.specs.Report.{console_of, report}
 use Rattle.report_model.specs.Summary.{summary}
 use Rattle.det_cli.specs.declared.limits.TheConstants.{BENCH_FUEL, IMAGE_ROOM, SCHEDULE_ROOM, SCRIPT_ROOM, SOURCE_ROOM}
 use Rattle.det_cli.specs.declared.end.End.{End}
-use Rattle.det_cli.specs.declared.end.End.TheVariants.{Ret, Trapped, BadImage, BadScript, BadSchedule, BadSource}
+use Rattle.det_cli.specs.declared.end.End.TheVariants.{Ret, Trapped, BadImage, BadElf, BadScript, BadSchedule, BadSource}
 use Rattle.det_cli.specs.Files.{Expectation, Step, judge, told_files}
 
 -- what a file was read as, or the end that its first fault is
@@ -28,9 +30,10 @@ abbrev pub read_or : {A E : Type 0} → (E → End) → Result A E → Result A 
 read_or end (Ok value) = Ok value
 read_or end (Err fault) = Err (end fault)
 
--- The image of a file's bytes, or the end that refuses them. The first bytes say the format, DTI1 or DTI2.
+-- The image of a file's bytes, or the end that refuses them. The first four bytes say whether the file is an executable one or an image in the
+-- format DTI1 or DTI2.
 abbrev pub image_of_file : List ℕ → Result Image End
-image_of_file bytes = read_or (λ e. BadImage e) (image_of bytes)
+image_of_file bytes = if is_elf bytes then read_or (λ e. BadElf e) (elf_of bytes) else read_or (λ e. BadImage e) (image_of bytes)
 
 abbrev pub devices_of_file : List ℕ → Result Devices End
 devices_of_file bytes = read_or (λ (e : ScriptError). BadScript e) (script_of bytes)

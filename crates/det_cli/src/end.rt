@@ -3,6 +3,7 @@ ghost use Rattle.det_cli.specs.Status.{status_of};
 
 use det_core::ScheduleError;
 use dev_script::ScriptError;
+use elf_image::ElfError;
 use image_file::ImageError;
 use rv_asm::AsmError;
 
@@ -17,6 +18,8 @@ pub enum End {
     Usage,
     /// There is room for the bytes of the image, and they are no image; with its first fault.
     BadImage(ImageError),
+    /// There is room for the bytes of the image, they begin as an executable file does, and they are none; with its first fault.
+    BadElf(ElfError),
     /// There is room for the bytes of the script, and they are no script; with its first line that is refused.
     BadScript(ScriptError),
     /// There is room for the bytes of the schedule, and they are no schedule; with its first line that is refused.
@@ -42,6 +45,7 @@ pub fn status(end: &End) -> u8
         End::Trapped => 1,
         End::Usage => 2,
         End::BadImage(_)
+        | End::BadElf(_)
         | End::BadScript(_)
         | End::BadSchedule(_)
         | End::BadSource(_)

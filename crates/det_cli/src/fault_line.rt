@@ -16,6 +16,7 @@ fn line_text(alloc: Global, end: &End) -> Result<String, AllocError>
         End::Ret | End::Trapped => Ok(String::new(alloc)),
         End::Usage => format!(in alloc; "det: usage: run|walk|asm|bench\n"),
         End::BadImage(e) => format!(in alloc; "det: image: {e}\n"),
+        End::BadElf(e) => format!(in alloc; "det: elf: {e}\n"),
         End::BadScript(e) => format!(in alloc; "det: script: {e}\n"),
         End::BadSchedule(e) => format!(in alloc; "det: schedule: {e}\n"),
         End::BadSource(e) => {

@@ -1,15 +1,17 @@
-ghost use Rattle.std.specs.Prelude.{◌≡◌, ◌<◌, ◌^◌, ℕ, List, Option, Ok, IfOk};
+ghost use Rattle.std.specs.Prelude.{◌≡◌, ◌<◌, ◌^◌, ℕ, List, Option, Ok, IfOk, true};
 ghost use Rattle.std.proofs.Common.{lit<};
 ghost use Rattle.det_core.specs.View.{path_views};
 ghost use Rattle.det_cli.specs.declared.end.End as end;
 ghost use Rattle.det_cli.specs.declared.limits.TheConstants.{IMAGE_ROOM, SCHEDULE_ROOM, SCRIPT_ROOM, SOURCE_ROOM};
 ghost use Rattle.det_cli.specs.Commands.{devices_of_file, image_of_file, image_of_source, paths_of_file, refusal_of};
 ghost use Rattle.det_cli.specs.Stages.{GivesRefusal};
+ghost use Rattle.elf_model.specs.Elf.{is_elf};
 
 use crate::end::End;
 use crate::limits::{IMAGE_ROOM, SCHEDULE_ROOM, SCRIPT_ROOM, SOURCE_ROOM};
 use det_core::{ScheduleFault, read_schedule};
 use dev_script::{Devices, ScriptFault, read_script};
+use elf_image::{ElfFault, begins_as_elf, read_elf};
 use image_file::{Image, ImageFault, read_image};
 use rv_asm::{AsmFault, assemble};
 use space_tree::Path;
@@ -36,6 +38,19 @@ pub(crate) trait FileFormat: Drop + Sized {
     ghost small: { ROOM < 2 ^ 32 };
 }
 
+// An executable file.
+fn read_executable(alloc: Global, bytes: &[u8]) -> Result<Image, End>
+    requires { is_elf bytes.now ≡ true }
+    ensures ok { IfOk result (λ image. image_of_file bytes.now ≡ Ok image) }
+    ensures judged { GivesRefusal (refusal_of (image_of_file bytes.now)) result }
+{
+    match read_elf(alloc, bytes) {
+        Ok(image) => Ok(image),
+        Err(ElfFault::Bad(e)) => Err(End::BadElf(e)),
+        Err(ElfFault::Memory) => Err(End::NoMemory),
+    }
+}
+
 // The first bytes say the format.
 impl FileFormat for Image {
     const ROOM: u64 = IMAGE_ROOM;
@@ -49,6 +64,9 @@ impl FileFormat for Image {
     ghost small = { lit< tt };
 
     fn read(alloc: Global, bytes: &[u8]) -> Result<Image, End> {
+        if begins_as_elf(bytes) {
+            return read_executable(alloc, bytes);
+        }
         match read_image(alloc, bytes) {
             Ok(image) => Ok(image),
             Err(ImageFault::Bad(e)) => Err(End::BadImage(e)),
