@@ -1,6 +1,7 @@
-ghost use Rattle.std.specs.Prelude.{◌≡◌, ◌≤◌, ◌<◌, ◌^◌, ◌+◌, ◌-◌, ◌/◌, OnOk, IfOk, length, List, map};
+ghost use Rattle.std.specs.Prelude.{◌≡◌, ◌≤◌, ◌<◌, ◌^◌, ◌+◌, ◌-◌, ◌/◌, OnOk, IfOk, length, slice_index, ℕ, true, List, map};
 ghost use Rattle.run_model.specs.Boot.{with_segment, with_segments, boot};
-ghost use Rattle.memory_model.specs.Memory.{no_memory};
+ghost use Rattle.memory_model.specs.Memory.{no_memory, with_bytes};
+ghost use Rattle.det_core.specs.Empty.{IsEmptyFrom};
 ghost use Rattle.image_model.specs.Image.{IsSegment, last_page};
 ghost use Rattle.image_file.specs.View.{segment_view};
 ghost use Rattle.space_model.specs.Sound.{IsSound};
@@ -10,9 +11,49 @@ use memory_model::PAGE_SIZE;
 use space_tree::{Devices, Mem, Pages, Space, Top};
 use std::alloc::{AllocError, Global};
 
-// A segment's bytes, and its permission on each page that it touches.
+// Whether all of these bytes are 0. It looks at all of them, which takes many at a time.
+fn are_zero(bytes: &[u8]) -> bool
+    ensures { result ≡ true → (k : ℕ) → k < length bytes.now → slice_index bytes.now k ≡ 0 }
+{
+    let mut greatest: u8 = 0;
+    for byte in bytes {
+        greatest = greatest.max(*byte);
+    }
+    greatest == 0
+}
+
+// Writes bytes where a memory has none but zeros; zeros alone are not written.
+fn write_part(memory: &mut Mem, at: u32, part: &[u8]) -> Result<(), AllocError>
+    requires within { at + length part.now ≤ 2 ^ 32 }
+    requires empty { IsEmptyFrom memory.old.memory at (length part.now) }
+    ensures { OnOk result (memory.new.memory ≡ with_bytes memory.old.memory at part.now) }
+{
+    if are_zero(part) {
+        return Ok(());
+    }
+    memory.write_bytes(at, part)
+}
+
+// Writes bytes where a memory has none but zeros. A page in which all of them are 0 is not kept.
+fn write_content(memory: &mut Mem, at: u32, bytes: &[u8]) -> Result<(), AllocError>
+    requires within { at + length bytes.now ≤ 2 ^ 32 }
+    requires empty { IsEmptyFrom memory.old.memory at (length bytes.now) }
+    ensures { OnOk result (memory.new.memory ≡ with_bytes memory.old.memory at bytes.now) }
+{
+    let mut done: usize = 0;
+    while done < bytes.len() {
+        let from = (at as usize + done) as u32;
+        let count = ((PAGE_SIZE - from % PAGE_SIZE) as usize).min(bytes.len() - done);
+        write_part(memory, from, &bytes[done..done + count])?;
+        done += count;
+    }
+    Ok(())
+}
+
+// A segment's bytes, and its permission on each page that it touches, where a memory has none but zeros.
 fn write_segment(memory: &mut Mem, segment: &Segment) -> Result<(), AllocError>
-    requires { IsSegment 0 (segment_view segment.now) }
+    requires sound { IsSegment 0 (segment_view segment.now) }
+    requires empty { IsEmptyFrom memory.old.memory segment.now.addr (length segment.now.bytes.items) }
     ensures { OnOk result (memory.new.memory ≡ with_segment memory.old.memory (segment_view segment.now)) }
 {
     let length = segment.bytes.len() as u64;
@@ -22,7 +63,7 @@ fn write_segment(memory: &mut Mem, segment: &Segment) -> Result<(), AllocError>
         first,
         count: last + 1 - first,
     };
-    memory.write_bytes(segment.addr, &segment.bytes)?;
+    write_content(memory, segment.addr, &segment.bytes)?;
     memory.set_perm(pages, segment.perm)
 }
 

@@ -1,0 +1,32 @@
+-- Zeros written where there are none but zeros change nothing.
+use Rattle.std.proofs.Common.{◌≡◌, ℕ, suc, ◌+◌, ◌≤◌, ◌<◌, List, [], ◌∷◌, length, get_or, take, refl, sym, ap, ◌∙◌, inl, inr, arith}
+use Rattle.std.proofs.lemmas.Bool.{cases_eq}
+use Rattle.std.proofs.lemmas.List.{length-take-le}
+use Rattle.memory_model.specs.Memory.{Memory, byte_at, with_byte, with_bytes, same_memory}
+use Rattle.memory_model.proofs.Runs.{byte_at-with_byte, byte_at-with_byte_other, byte_at-with_bytes_out}
+use Rattle.det_core.specs.Empty.{IsEmptyFrom}
+
+zero_byte : (m : Memory) (at v : ℕ) → byte_at m at ≡ 0 → v ≡ 0 → with_byte m at v ≡ m
+zero_byte m at v none is = same_memory (with_byte m at v) m
+    (λ a. elim (cases_eq a at) [
+      | inl e ↦ ap (byte_at (with_byte m at v)) e ∙ byte_at-with_byte m at v ∙ is ∙ sym none ∙ ap (byte_at m) (sym e)
+      | inr other ↦ byte_at-with_byte_other m at v a other
+    ])
+    (λ page. refl)
+
+pub zeros_are_there : (m : Memory) (at : ℕ) (bytes : List ℕ) → IsEmptyFrom m at (length bytes) → ((k : ℕ) → k < length bytes → get_or bytes k 0 ≡ 0) → m ≡ with_bytes m at bytes
+zeros_are_there m at [] empty zeros = refl
+zeros_are_there m at (b ∷ bs) empty zeros =
+    let first : byte_at m at ≡ 0 = ap (byte_at m) {x = at} {y = at + 0} (omega arith) ∙ empty 0 (omega arith) in
+    let same = zero_byte m at b first (zeros 0 (omega arith)) in
+    let rest : IsEmptyFrom m (at + 1) (length bs) = λ k lt. ap (byte_at m) {x = at + 1 + k} {y = at + suc k} (omega arith) ∙ empty (suc k) (omega arith) in
+    rw same (zeros_are_there m (at + 1) bs rest (λ k lt. zeros (suc k) (omega arith)))
+
+-- after the first bytes, the others' places are as they were
+pub still_empty : (m now : Memory) (at done count from : ℕ) (bytes : List ℕ) → IsEmptyFrom m at (length bytes) → now ≡ with_bytes m at (take done bytes) → done + count ≤ length bytes → from ≡ at + done → IsEmptyFrom now from count
+still_empty m now at done count from bytes empty written within is = λ k lt.
+    let len : length (take done bytes) ≡ done = length-take-le done bytes (omega arith) in
+    ap (λ x. byte_at x (from + k)) written
+    ∙ byte_at-with_bytes_out m at (take done bytes) (from + k) (λ _. omega (arith, len, is))
+    ∙ ap (byte_at m) {x = from + k} {y = at + (done + k)} (omega (arith, is))
+    ∙ empty (done + k) (omega arith)
