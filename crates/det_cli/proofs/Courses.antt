@@ -101,7 +101,7 @@ prefix_of_none None new bytes h = tt
 prefix_of_none (Some before) new bytes h = (0, h ∙ ap (λ (u : List ℕ). Some u) (sym (append-nil before)))
 
 -- some first bytes of what was written whole, of what was stopped, and of what was not begun
-whole_prefix : (o : Output) (bytes : List ℕ) → Wrote o bytes → WrotePrefix o bytes
+pub whole_prefix : (o : Output) (bytes : List ℕ) → Wrote o bytes → WrotePrefix o bytes
 whole_prefix o bytes h = prefix_of_whole o.taken_before o.taken_after bytes h
 
 stopped_prefix : (o : Output) (bytes : List ℕ) → StopsWithin o bytes → WrotePrefix o bytes

@@ -5,3 +5,4 @@ pub mod Commands
 pub mod Answers
 pub mod Stages
 pub mod Ending
+pub mod Shown

@@ -10,8 +10,7 @@ use crate::end::End;
 use crate::formats::Assembled;
 use crate::reading::load_as;
 use crate::running::write_end;
-use det_host::write_all;
-use det_host::{Loader, Sink};
+use det_host::{Loader, Sink, write_all};
 use image_file::{Image, write_image};
 use std::alloc::Global;
 

@@ -4,8 +4,7 @@ ghost use Rattle.det_cli.specs.Lines.{fault_line};
 ghost use Rattle.det_host.specs.Writing.{TakesPrefix, StopsWithin, output_of};
 
 use crate::end::End;
-use det_host::write_all;
-use det_host::{Sink, SinkError};
+use det_host::{Sink, SinkError, write_all};
 use std::alloc::{AllocError, Global};
 
 // The line of an end, empty where all went well.

@@ -13,6 +13,7 @@ mod pooling;
 mod program;
 mod reading;
 mod running;
+mod showing;
 mod staff;
 
 pub use end::{End, status};

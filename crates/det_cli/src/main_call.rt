@@ -22,6 +22,7 @@ use std::thread::Threads;
 
 // Does what a command asks for.
 fn carry_out<F: Fn(Booted) -> Result<Space, AllocError>, L: Loader, O: Sink, E: Sink>(
+    rt: &(impl Threads + Sync),
     settle: &F,
     alloc: Global,
     command: Command<'_>,
@@ -40,7 +41,7 @@ fn carry_out<F: Fn(Booted) -> Result<Space, AllocError>, L: Loader, O: Sink, E: 
     ensures err_later { E.faults err.old ≤ E.faults err.new }
 {
     match command {
-        Command::Run(run) => run_image(settle, alloc, &run, files, out, err),
+        Command::Run(run) => run_image(rt, settle, alloc, &run, files, out, err),
         Command::Asm { source } => assemble_source(alloc, source, files, out, err),
         Command::Bench { engine, seed } => bench(settle, alloc, engine, seed, files, out),
     }
@@ -75,7 +76,7 @@ pub fn det_still<R: AllocGlobal + Threads + Sync, L: Loader, O: Sink, E: Sink>(
                 requires { IsSync R.row × IsSound booted.root }
                 ensures { Ends booted.root result }
             { settle_still(rt, alloc, booted) };
-            carry_out(&settle, alloc, command, files, out, err)
+            carry_out(rt, &settle, alloc, command, files, out, err)
         }
         None => End::Usage,
     }
@@ -115,13 +116,13 @@ fn carry_out_pooled<R: Threads + Wait + Sync, L: Loader, O: Sink, E: Sink, G: Ga
             requires { IsSync R.row × IsSync G.row × IsSound booted.root }
             ensures { Ends booted.root result }
         { settle_pooled(rt, alloc, booted, gate) };
-        carry_out(&settle, alloc, command, files, out, err)
+        carry_out(rt, &settle, alloc, command, files, out, err)
     } else {
         let settle = |booted: Booted| -> Result<Space, AllocError>
             requires { IsSync R.row × IsSound booted.root }
             ensures { Ends booted.root result }
         { settle_still(rt, alloc, booted) };
-        carry_out(&settle, alloc, command, files, out, err)
+        carry_out(rt, &settle, alloc, command, files, out, err)
     }
 }
 

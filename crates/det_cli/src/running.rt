@@ -2,24 +2,26 @@ ghost use Rattle.std.specs.Prelude.{◌≡◌, ◌≤◌, true, IfOk};
 ghost use Rattle.space_model.specs.Space.{is_settled};
 ghost use Rattle.command_line.specs.Line as line;
 ghost use Rattle.command_line.specs.Line.{engine_of, run_of, IsStaffed};
-ghost use Rattle.det_cli.specs.Commands.{end_of, expectation_of_root, run_shows, settled_root};
+ghost use Rattle.det_cli.specs.Commands.{end_of, run_shows, settled_root};
 ghost use Rattle.det_cli.specs.Files.{input_of};
 ghost use Rattle.det_host.specs.Writing.{output_of};
 ghost use Rattle.det_cli.specs.Answers.{Course, Writes};
 ghost use Rattle.det_cli.specs.Ending.{BringsToEnds};
+ghost use Rattle.det_cli.specs.Shown.{ShowsReport};
 
 use crate::end::End;
 use crate::evaluating::{Booted, Plan};
 use crate::reading::read_run;
-use det_host::write_all;
+use crate::showing::show_console;
 use command_line::Run;
 use det_core::boot;
-use det_host::{Loader, Sink, SinkError};
+use det_host::{Loader, Sink, SinkError, write_all};
 use det_report::report;
 use dev_script::Devices;
 use image_file::Image;
 use space_tree::{Cause, Space, Status};
 use std::alloc::{AllocError, Global};
+use std::thread::Threads;
 
 /// The settled root of an image with these devices, where each space has so much fuel, by a plan.
 pub(crate) fn settled_root<F: Fn(Booted) -> Result<Space, AllocError>>(
@@ -62,38 +64,26 @@ pub(crate) fn write_end(error: SinkError) -> End
     }
 }
 
-// Writes the console and then the report of a settled root, with digests or without.
-fn write_root<O: Sink, E: Sink>(
-    alloc: Global,
-    space: &Space,
-    digest: bool,
-    out: &mut O,
-    err: &mut E,
-) -> End
+// Writes the report of a settled root, with digests or without.
+#[tactic(auto, using(crate::proofs::Shown::cut_short))]
+fn write_report<E: Sink>(alloc: Global, space: &Space, digest: bool, err: &mut E) -> End
     requires { is_settled space.now ≡ true }
-    ensures writes { Writes (expectation_of_root digest space.now)
-        (output_of O.taken O.faults out.old out.new)
-        (output_of E.taken E.faults err.old err.new) result }
-    ensures out_later { O.faults out.old ≤ O.faults out.new }
-    ensures err_later { E.faults err.old ≤ E.faults err.new }
+    ensures shows { ShowsReport (output_of E.taken E.faults err.old err.new) digest space.now result }
+    ensures later { E.faults err.old ≤ E.faults err.new }
 {
     let Ok(text) = report(alloc, space, digest) else {
         return End::NoMemory;
     };
-    let Ok(console) = space.top.console(alloc) else {
-        return End::NoMemory;
-    };
-    if let Err(error) = write_all(out, &console) {
-        return write_end(error);
+    match write_all(err, &text) {
+        Ok(()) => end_of(space),
+        Err(error) => write_end(error),
     }
-    if let Err(error) = write_all(err, &text) {
-        return write_end(error);
-    }
-    end_of(space)
 }
 
-// Boots and settles the image of a run by a plan, and writes what its root shows.
+// Boots and settles the image of a run by a plan, and writes what its root shows: its console, and its report behind that.
+#[tactic(auto, using(crate::proofs::Shown::shown, crate::proofs::Shown::not_shown, crate::proofs::Courses::nothing_begun))]
 fn settle_and_write<F: Fn(Booted) -> Result<Space, AllocError>, O: Sink, E: Sink>(
+    rt: &(impl Threads + Sync),
     settle: &F,
     alloc: Global,
     run: &Run<'_>,
@@ -111,14 +101,18 @@ fn settle_and_write<F: Fn(Booted) -> Result<Space, AllocError>, O: Sink, E: Sink
     ensures out_later { O.faults out.old ≤ O.faults out.new }
     ensures err_later { E.faults err.old ≤ E.faults err.new }
 {
-    let Ok(root) = settled_root(settle, alloc, image, devices, plan, run.fuel) else {
+    let Ok(root) = boot(alloc, image, devices, run.fuel) else {
         return End::NoMemory;
     };
-    write_root(alloc, &root, run.digest, out, err)
+    match show_console(rt, settle, alloc, Booted { root, plan }, out) {
+        Ok(space) => write_report(alloc, &space, run.digest, err),
+        Err(end) => end,
+    }
 }
 
 /// Runs an image on a script by an engine, where each space has so much fuel, and shows it with digests or without.
 pub(crate) fn run_image<F: Fn(Booted) -> Result<Space, AllocError>, L: Loader, O: Sink, E: Sink>(
+    rt: &(impl Threads + Sync),
     settle: &F,
     alloc: Global,
     run: &Run<'_>,
@@ -139,7 +133,7 @@ pub(crate) fn run_image<F: Fn(Booted) -> Result<Space, AllocError>, L: Loader, O
 {
     match read_run(alloc, files, run) {
         Ok((image, devices, plan)) => {
-            settle_and_write(settle, alloc, run, &image, devices, plan, out, err)
+            settle_and_write(rt, settle, alloc, run, &image, devices, plan, out, err)
         }
         Err(end) => end,
     }
