@@ -7,6 +7,8 @@ use Rattle.memory_model.specs.Sparse.{value_at}
 use Rattle.memory_model.specs.Memory.{byte_at, permission_at}
 use Rattle.memory_model.specs.Ranges.{with_copies, with_row}
 use Rattle.memory_model.proofs.Rows.{value_at-row_key, value_at-row_before, value_at-row_after}
+use Rattle.page_marks.specs.declared.marks.PageMarks.{PageMarks}
+use Rattle.page_marks.specs.Marks.{AreBare, SameMarks, SetsMarks, mark_of}
 use Rattle.page_tree.specs.declared.tree_ref.TreeRef.{TreeRef}
 use Rattle.page_tree.specs.declared.block_ref.BlockRef.{BlockRef}
 use Rattle.page_tree.specs.declared.branch_ref.BranchRef.{BranchRef}
@@ -15,12 +17,12 @@ use Rattle.page_tree.specs.BlockRefs.{ref_permission, ref_page}
 use Rattle.page_tree.specs.BranchRefs.{limb_permission, limb_page}
 use Rattle.page_tree.specs.Blockwise.{IsBlockOf, IsBlockPutRow}
 use Rattle.page_tree.specs.Branchwise.{IsBranchOf, IsBranchPutRow}
-use Rattle.page_tree.specs.Rows.{SameRow, SameOwners, IsTakenRow, IsPermittedRow}
+use Rattle.page_tree.specs.Rows.{SameRow, SameOwners, IsTakenRow}
 use Rattle.page_tree.specs.TreeRefs.{root_permission, root_page, root_own, root_row, AreWholeRoot, SameRoot}
 use Rattle.space_mem.specs.declared.table.PageTable.{PageTable}
 use Rattle.space_mem.specs.Held.{IsOutside, KeepsMarksOutside, Marks}
 use Rattle.space_mem.specs.Moves.{HasMoved}
-use Rattle.space_mem.specs.Tables.{IsBare, IsTable, held_of, memory_of}
+use Rattle.space_mem.specs.Tables.{IsTable, held_of, memory_of}
 use Rattle.space_mem.proofs.Tables.{byte_at-of, byte_at-high, byte_at-page, permission_at-of, permission_at-high, memory_is, memory_same, owned_same, marked_at, marked_same, same_held}
 use Rattle.space_mem.proofs.Kept.{table_keeps}
 
@@ -62,9 +64,9 @@ pub record IsCopied (from first end : ℕ) (source t s : TreeRef) : Type 0 where
   pub own : (p : ℕ) → p < 1048576 → IsOutside first end p → root_own s p ≡ root_own t p
 
 -- the pages of a range are marked; the others are as they were
-pub record IsMarked (first end : ℕ) (t s : TreeRef) : Type 0 where
-  pub here : (p : ℕ) → first ≤ p → p < end → root_permission s p ≡ 1
-  pub other : (p : ℕ) → p < 1048576 → IsOutside first end p → root_permission s p ≡ root_permission t p
+pub record IsMarked (first end : ℕ) (t s : PageMarks) : Type 0 where
+  pub here : (p : ℕ) → first ≤ p → p < end → mark_of s p ≡ 1
+  pub other : (p : ℕ) → p < 1048576 → IsOutside first end p → mark_of s p ≡ mark_of t p
 
 nowhere : (p : ℕ) → p < 1048576 → IsOutside 0 1048576 p → ⊥
 nowhere p below out = elim out [
@@ -81,7 +83,7 @@ copied_all source t s same = record {
   own = λ p below out. absurd (nowhere p below out);
 }
 
-pub marked_all : (t s : TreeRef) → ((p : ℕ) → root_permission s p ≡ 1) → IsMarked 0 1048576 t s
+pub marked_all : (t s : PageMarks) → ((p : ℕ) → mark_of s p ≡ 1) → IsMarked 0 1048576 t s
 marked_all t s all = record { here = λ p low high. all p; other = λ p below out. absurd (nowhere p below out) }
 
 pub copied_part : (from first end : ℕ) (source made ready t u s : TreeRef) → end ≤ 1048576 → HasMoved (root_row source) from first (end - first) (root_row made) → SameRow 1048576 (root_row made) (root_row ready) → SameRow 1048576 (root_row t) (root_row u) → SameOwners 1048576 (root_row t) (root_row u)
@@ -100,18 +102,14 @@ copied_part from first end source made ready t u s le moved prepared same owners
   own = λ p below out. taken.own p below ∙ ap (λ b. cond b (root_own ready p) (root_own u p)) (out_of_range first end p out) ∙ owners p below;
 }
 
-pub marked_part : (first end : ℕ) (t u s : TreeRef) → end ≤ 1048576 → SameRow 1048576 (root_row t) (root_row u) → IsPermittedRow 1048576 first end 1 (root_row u) (root_row s) → IsMarked first end t s
-marked_part first end t u s le same permitted = record {
-  here = λ p low high. permitted.permission p (omega arith) ∙ ap (λ b. cond b 1 (root_permission u p)) (in_range first end p low high);
-  other = λ p below out. permitted.permission p below ∙ ap (λ b. cond b 1 (root_permission u p)) (out_of_range first end p out) ∙ same.permission p below;
+pub marked_part : (first end : ℕ) (t u s : PageMarks) → end ≤ 1048576 → SameMarks t u → SetsMarks first end 1 u s → IsMarked first end t s
+marked_part first end t u s le same sets = record {
+  here = λ p low high. sets p (omega arith) ∙ ap (λ b. cond b 1 (mark_of u p)) (in_range first end p low high);
+  other = λ p below out. sets p below ∙ ap (λ b. cond b 1 (mark_of u p)) (out_of_range first end p out) ∙ same p below;
 }
 
--- marks that were made ready and set have no bytes
-pub marked_bare : (first end : ℕ) (t u s : TreeRef) → SameRow 1048576 (root_row t) (root_row u) → IsPermittedRow 1048576 first end 1 (root_row u) (root_row s) → IsBare t → IsBare s
-marked_bare first end t u s same permitted bare p k below = ap (λ o. byte_in o k) (permitted.page p below) ∙ same.byte p k below ∙ bare p k below
-
 -- what a table with such pages keeps
-pub copied_table : (from first end : ℕ) (source t s : PageTable) → end ≤ 1048576 → from + (end - first) ≤ 1048576 → IsTable source → IsTable t → IsCopied from first end source.pages t.pages s.pages → IsMarked first end t.dirty s.dirty → AreWholeRoot s.pages → IsBare s.dirty → IsTable s
+pub copied_table : (from first end : ℕ) (source t s : PageTable) → end ≤ 1048576 → from + (end - first) ≤ 1048576 → IsTable source → IsTable t → IsCopied from first end source.pages t.pages s.pages → IsMarked first end t.dirty s.dirty → AreWholeRoot s.pages → AreBare s.dirty → IsTable s
 copied_table from first end source t s le reach origin table copied marked whole bare = record {
   whole = whole;
   permission = λ p below. elim (side first end p) [
@@ -194,8 +192,8 @@ copied_marks from first end source t s copied marked p below clean =
 pub same_row : (t : TreeRef) → SameRow 1048576 (root_row t) (root_row t)
 same_row t = record { permission = λ p below. refl; byte = λ p k below. refl }
 
-pub prepared_held : (t s : PageTable) → SameRow 1048576 (root_row t.pages) (root_row s.pages) → SameOwners 1048576 (root_row t.pages) (root_row s.pages) → SameRow 1048576 (root_row t.dirty) (root_row s.dirty) → held_of s ≡ held_of t
-prepared_held t s same owners dirty = same_held (held_of s) (held_of t) (memory_same t.pages s.pages same.permission same.byte) (owned_same t.pages s.pages owners) (marked_same t.dirty s.dirty dirty.permission)
+pub prepared_held : (t s : PageTable) → SameRow 1048576 (root_row t.pages) (root_row s.pages) → SameOwners 1048576 (root_row t.pages) (root_row s.pages) → SameMarks t.dirty s.dirty → held_of s ≡ held_of t
+prepared_held t s same owners dirty = same_held (held_of s) (held_of t) (memory_same t.pages s.pages same.permission same.byte) (owned_same t.pages s.pages owners) (marked_same t.dirty s.dirty dirty)
 
 pub same_marks : (t s : PageTable) → held_of s ≡ held_of t → Marks (held_of t) (held_of s)
 same_marks t s e p below clean = (ap (λ h. value_at h.dirty p) (sym e) ∙ clean, λ k less. ap (λ h. byte_at h.memory (4096 * p + k)) e)

@@ -5,7 +5,8 @@ use Rattle.std.proofs.lemmas.Bool.{cases_lt}
 use Rattle.memory_model.specs.Sparse.{value_at}
 use Rattle.memory_model.specs.Memory.{Memory}
 use Rattle.memory_model.proofs.Rows.{value_at-put_other}
-use Rattle.page_tree.specs.TreeRefs.{root_own, root_permission}
+use Rattle.page_marks.specs.Marks.{mark_of}
+use Rattle.page_tree.specs.TreeRefs.{root_own}
 use Rattle.space_mem.specs.declared.table.PageTable.{PageTable}
 use Rattle.space_mem.specs.Held.{Held, IsOutside, KeepsMarks, KeepsMarksOutside, Owns, owning}
 use Rattle.space_mem.specs.Tables.{IsTable, held_of}
@@ -33,7 +34,7 @@ keeps_beside g h at m page is other = record {
 }
 
 -- what trees own and mark outside of a range
-pub table_keeps : (t s : PageTable) (first end : ℕ) → ((p : ℕ) → p < 1048576 → IsOutside first end p → root_own s.pages p ≡ root_own t.pages p) → ((p : ℕ) → p < 1048576 → IsOutside first end p → root_permission s.dirty p ≡ root_permission t.dirty p)
+pub table_keeps : (t s : PageTable) (first end : ℕ) → ((p : ℕ) → p < 1048576 → IsOutside first end p → root_own s.pages p ≡ root_own t.pages p) → ((p : ℕ) → p < 1048576 → IsOutside first end p → mark_of s.dirty p ≡ mark_of t.dirty p)
     → KeepsMarksOutside first end (held_of t) (held_of s)
 table_keeps t s first end own marked p out = elim (cases_lt p 1048576) [
   | inl below ↦ record {

@@ -7,6 +7,8 @@ use Rattle.memory_model.specs.Memory.{Memory, byte_at, with_permissions}
 use Rattle.memory_model.specs.Ranges.{with_zeros, with_row}
 use Rattle.memory_model.proofs.Rows.{value_at-row_key, value_at-row_before, value_at-row_after}
 use Rattle.memory_model.proofs.Runs.{byte_at-with_permissions, permission_at-with_permissions, permission_at-with_permissions_out}
+use Rattle.page_marks.specs.declared.marks.PageMarks.{PageMarks}
+use Rattle.page_marks.specs.Marks.{SameMarks, SetsMarks, mark_of}
 use Rattle.page_tree.specs.declared.tree_ref.TreeRef.{TreeRef}
 use Rattle.page_tree.specs.Blocks.{byte_in, within}
 use Rattle.page_tree.specs.Rows.{IsPermittedRow, IsClearedRow}
@@ -56,14 +58,14 @@ cleared_memory t s first end rise within_all cleared =
     outside a (inr after) = value_at-row_after (memory_of t).bytes (4096 * first) (λ _. 0) (4096 * (end - first)) a (omega arith)
 
 -- a range is marked, and the bytes of pages beside it have not changed
-pub marks_range : (t s : PageTable) (d : TreeRef) (first end : ℕ) → IsPermittedRow 1048576 first end 1 (root_row d) (root_row s.dirty) → ((p : ℕ) → p < 1048576 → root_permission d p ≡ root_permission t.dirty p)
+pub marks_range : (t s : PageTable) (d : PageMarks) (first end : ℕ) → SetsMarks first end 1 d s.dirty → SameMarks t.dirty d
     → ((p k : ℕ) → p < 1048576 → ((p < first) ⊎ (end ≤ p)) → byte_in (root_page s.pages p) k ≡ byte_in (root_page t.pages p) k) → Marks (held_of t) (held_of s)
-marks_range t s d first end permitted before byte p below clean = elim (cases_within first end p) [
+marks_range t s d first end sets before byte p below clean = elim (cases_within first end p) [
   | inl here ↦
-      let one : root_permission s.dirty p ≡ 1 = permitted.permission p below ∙ ap (λ b. cond b 1 (root_permission d p)) here.1.1 in
+      let one : mark_of s.dirty p ≡ 1 = sets p below ∙ ap (λ b. cond b 1 (mark_of d p)) here.1.1 in
       absurd (omega (arith, one, clean, marked_at s.dirty p below))
   | inr out ↦ (
-    marked_at t.dirty p below ∙ sym (before p below) ∙ sym (permitted.permission p below ∙ ap (λ b. cond b 1 (root_permission d p)) out.1) ∙ sym (marked_at s.dirty p below) ∙ clean,
+    marked_at t.dirty p below ∙ sym (before p below) ∙ sym (sets p below ∙ ap (λ b. cond b 1 (mark_of d p)) out.1) ∙ sym (marked_at s.dirty p below) ∙ clean,
     λ k low. byte_at-page s.pages p k below low ∙ byte p k below out.0 ∙ sym (byte_at-page t.pages p k below low),
   )
 ]

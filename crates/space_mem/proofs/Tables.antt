@@ -10,6 +10,8 @@ use Rattle.memory_model.specs.Ranges.{with_row}
 use Rattle.memory_model.proofs.Rows.{value_at-row_key, value_at-row_after}
 use Rattle.page_store.specs.declared.PageRef.{PageRef}
 use Rattle.page_store.specs.Bytes.{bytes_of, IsPage}
+use Rattle.page_marks.specs.declared.marks.PageMarks.{PageMarks}
+use Rattle.page_marks.specs.Marks.{mark_of}
 use Rattle.page_tree.specs.Blocks.{byte_in, bytes_in, IsWhole}
 use Rattle.page_tree.specs.declared.tree_ref.TreeRef.{TreeRef}
 use Rattle.page_tree.specs.TreeRefs.{root_permission, root_page, root_own}
@@ -95,14 +97,14 @@ owned_none t none = row_is (λ q. cond (root_own t q) 1 0) 1048576 no_values (λ
 pub owned_same : (t s : TreeRef) → ((p : ℕ) → p < 1048576 → root_own s p ≡ root_own t p) → owned_of s ≡ owned_of t
 owned_same t s same = same_rows (λ q. cond (root_own s q) 1 0) (λ q. cond (root_own t q) 1 0) 1048576 (λ k below. ap (λ b. cond b 1 0) (same k below))
 
-pub marked_same : (t s : TreeRef) → ((p : ℕ) → p < 1048576 → root_permission s p ≡ root_permission t p) → marked_of s ≡ marked_of t
-marked_same t s same = same_rows (root_permission s) (root_permission t) 1048576 same
+pub marked_same : (t s : PageMarks) → ((p : ℕ) → p < 1048576 → mark_of s p ≡ mark_of t p) → marked_of s ≡ marked_of t
+marked_same t s same = same_rows (mark_of s) (mark_of t) 1048576 same
 
-pub marked_high : (t : TreeRef) (p : ℕ) → 1048576 ≤ p → value_at (marked_of t) p ≡ 0
-marked_high t p high = row_high (root_permission t) 1048576 p high
+pub marked_high : (t : PageMarks) (p : ℕ) → 1048576 ≤ p → value_at (marked_of t) p ≡ 0
+marked_high t p high = row_high (mark_of t) 1048576 p high
 
-pub marked_at : (t : TreeRef) (p : ℕ) → p < 1048576 → value_at (marked_of t) p ≡ root_permission t p
-marked_at t p below = row_at (root_permission t) 1048576 p below
+pub marked_at : (t : PageMarks) (p : ℕ) → p < 1048576 → value_at (marked_of t) p ≡ mark_of t p
+marked_at t p below = row_at (mark_of t) 1048576 p below
 
 -- equal in memory, in what is owned and in what is dirty
 pub same_held : (g h : Held) → g.memory ≡ h.memory → g.owned ≡ h.owned → g.dirty ≡ h.dirty → g ≡ h

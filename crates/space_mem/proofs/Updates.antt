@@ -10,6 +10,8 @@ use Rattle.memory_model.specs.Ranges.{IsBounded, IsPageOf, IsNextPage, NoneUsed}
 use Rattle.memory_model.proofs.Rows.{value_at-put_same, value_at-put_other}
 use Rattle.page_store.specs.declared.PageRef.{PageRef}
 use Rattle.page_store.specs.Bytes.{bytes_of}
+use Rattle.page_marks.specs.declared.marks.PageMarks.{PageMarks}
+use Rattle.page_marks.specs.Marks.{SameMarks, SetsMarks, mark_of}
 use Rattle.page_tree.specs.declared.block_ref.BlockRef.{BlockRef}
 use Rattle.page_tree.specs.declared.branch_ref.BranchRef.{BranchRef}
 use Rattle.page_tree.specs.declared.tree_ref.TreeRef.{TreeRef}
@@ -118,8 +120,8 @@ bounded t table = record {
 pub memory_of-none : memory_of (tree_ref.TheVariants.Uniform 0) ≡ no_memory
 memory_of-none = memory_is (tree_ref.TheVariants.Uniform 0) no_memory (λ a below. value_at-no_values a) (λ a high. value_at-no_values a) (λ p below. value_at-no_values p) (λ p high. value_at-no_values p)
 
-pub marked_of-none : marked_of (tree_ref.TheVariants.Uniform 0) ≡ no_values
-marked_of-none = row_is (λ p. 0) 1048576 no_values (λ k below. value_at-no_values k) (λ k high. value_at-no_values k)
+pub marked_of-none : (m : PageMarks) → ((p : ℕ) → p < 1048576 → mark_of m p ≡ 0) → marked_of m ≡ no_values
+marked_of-none m none = row_is (mark_of m) 1048576 no_values (λ k below. value_at-no_values k ∙ sym (none k below)) (λ k high. value_at-no_values k)
 
 -- the same in memory, owners and marks
 pub row_memory : (t s : TreeRef) → SameRow 1048576 (root_row t) (root_row s) → memory_of s ≡ memory_of t
@@ -128,14 +130,11 @@ row_memory t s same = memory_same t s same.permission same.byte
 pub root_memory : (t s : TreeRef) → SameRoot t s → memory_of s ≡ memory_of t
 root_memory t s same = memory_same t s same.permission same.byte
 
-pub marked_row : (d e : TreeRef) → SameRow 1048576 (root_row d) (root_row e) → marked_of e ≡ marked_of d
-marked_row d e same = same_rows (root_permission e) (root_permission d) 1048576 same.permission
+pub marked_row : (d e : PageMarks) → SameMarks d e → marked_of e ≡ marked_of d
+marked_row d e same = same_rows (mark_of e) (mark_of d) 1048576 same
 
 pub owned_row : (t s : TreeRef) → SameOwners 1048576 (root_row t) (root_row s) → owned_of s ≡ owned_of t
 owned_row t s same = same_rows (λ q. cond (root_own s q) 1 0) (λ q. cond (root_own t q) 1 0) 1048576 (λ k below. ap (λ b. cond b 1 0) (same k below))
-
-pub marked_root : (d e : TreeRef) → SameRoot d e → marked_of e ≡ marked_of d
-marked_root d e same = same_rows (root_permission e) (root_permission d) 1048576 same.permission
 
 -- a set with one member more
 pub put_again : (s : Sparse) (k v : ℕ) → value_at s k ≡ v → put s k v ≡ s
@@ -144,20 +143,20 @@ put_again s k v was = same_sparse (put s k v) s (λ q. elim (cases_eq q k) [
   | inr other ↦ value_at-put_other s k v q other
 ])
 
-pub marked_as : (d e : TreeRef) (page mark : ℕ) → page < 1048576 → IsPermittedRow 1048576 page (page + 1) mark (root_row d) (root_row e) → marked_of e ≡ put (marked_of d) page mark
-marked_as d e page mark below permitted = row_is (root_permission e) 1048576 (put (marked_of d) page mark)
+pub marked_as : (d e : PageMarks) (page mark : ℕ) → page < 1048576 → SetsMarks page (page + 1) mark d e → marked_of e ≡ put (marked_of d) page mark
+marked_as d e page mark below sets = row_is (mark_of e) 1048576 (put (marked_of d) page mark)
     (λ k low. elim (cases_eq k page) [
       | inl same ↦
-          let here : root_permission e k ≡ mark = permitted.permission k low ∙ ap (λ b. cond b mark (root_permission d k)) (in_range page (page + 1) k (omega arith) (omega arith)) in
+          let here : mark_of e k ≡ mark = sets k low ∙ ap (λ b. cond b mark (mark_of d k)) (in_range page (page + 1) k (omega arith) (omega arith)) in
           ap (value_at (put (marked_of d) page mark)) same ∙ value_at-put_same (marked_of d) page mark ∙ sym here
       | inr other ↦
           let out : within page (page + 1) k ≡ false = elim (cases_lt k page) [ inl before ↦ before_range page (page + 1) k before | inr from ↦ after_range page (page + 1) k (omega arith) ] in
-          value_at-put_other (marked_of d) page mark k other ∙ marked_at d k low ∙ sym (permitted.permission k low ∙ ap (λ b. cond b mark (root_permission d k)) out)
+          value_at-put_other (marked_of d) page mark k other ∙ marked_at d k low ∙ sym (sets k low ∙ ap (λ b. cond b mark (mark_of d k)) out)
     ])
     (λ k high. value_at-put_other (marked_of d) page mark k (λ same. omega arith) ∙ marked_high d k high)
 
-pub marked_one : (d e : TreeRef) (page : ℕ) → page < 1048576 → IsPermittedRow 1048576 page (page + 1) 1 (root_row d) (root_row e) → marked_of e ≡ put (marked_of d) page 1
-marked_one d e page below permitted = marked_as d e page 1 below permitted
+pub marked_one : (d e : PageMarks) (page : ℕ) → page < 1048576 → SetsMarks page (page + 1) 1 d e → marked_of e ≡ put (marked_of d) page 1
+marked_one d e page below sets = marked_as d e page 1 below sets
 
 pub owned_one : (t s : TreeRef) (page : ℕ) → page < 1048576 → IsOwnedRoot page t s → owned_of s ≡ put (owned_of t) page 1
 owned_one t s page below owned = row_is (λ q. cond (root_own s q) 1 0) 1048576 (put (owned_of t) page 1)
@@ -170,15 +169,18 @@ owned_one t s page below owned = row_is (λ q. cond (root_own s q) 1 0) 1048576 
     (λ k high. value_at-put_other (owned_of t) page 1 k (λ same. omega arith) ∙ owned_high t k high)
 
 -- every table's marks and owners, in words of its trees
-pub marks_owned : (t s d : TreeRef) (page : ℕ) → page < 1048576 → IsOwnedRoot page t s → root_permission d page ≡ 1 → ((p : ℕ) → p < 1048576 → root_own t p ≡ true → root_permission d p ≡ 1) → (p : ℕ) → p < 1048576 → root_own s p ≡ true → root_permission d p ≡ 1
+pub marks_owned : (t s : TreeRef) (d : PageMarks) (page : ℕ) → page < 1048576 → IsOwnedRoot page t s → mark_of d page ≡ 1 → ((p : ℕ) → p < 1048576 → root_own t p ≡ true → mark_of d p ≡ 1) → (p : ℕ) → p < 1048576 → root_own s p ≡ true → mark_of d p ≡ 1
 marks_owned t s d page below owned here marked p low own = elim (cases_eq p page) [
-  | inl same ↦ ap (root_permission d) same ∙ here
+  | inl same ↦ ap (mark_of d) same ∙ here
   | inr other ↦ marked p low (sym (owned.other p low other) ∙ own)
 ]
 
 -- an empty table
-pub held_of-new : ◌≡◌ {A = Held} (record { memory = memory_of (tree_ref.TheVariants.Uniform 0); owned = owned_of (tree_ref.TheVariants.Uniform 0); dirty = marked_of (tree_ref.TheVariants.Uniform 0) }) nothing_held
-held_of-new = let owned = owned_none (tree_ref.TheVariants.Uniform 0) (λ p below. refl) in λ i. record { memory = memory_of-none i; owned = owned i; dirty = marked_of-none i }
+pub held_of-new : (m : PageMarks) → ((p : ℕ) → p < 1048576 → mark_of m p ≡ 0) → ◌≡◌ {A = Held} (record { memory = memory_of (tree_ref.TheVariants.Uniform 0); owned = owned_of (tree_ref.TheVariants.Uniform 0); dirty = marked_of m }) nothing_held
+held_of-new m none =
+    let owned = owned_none (tree_ref.TheVariants.Uniform 0) (λ p below. refl) in
+    let dirty = marked_of-none m none in
+    λ i. record { memory = memory_of-none i; owned = owned i; dirty = dirty i }
 
 -- the bytes of a page that is kept
 pub page_of : (t : PageTable) (n : ℕ) (page : PageRef) → IsTable t → n < 1048576 → root_page t.pages n ≡ Some page → IsPageOf (memory_of t.pages) n (bytes_of page)
@@ -211,8 +213,8 @@ next_page_is t n page table low high used least = record {
   least = none_used t n page (omega arith) least;
 }
 
-pub marked_all : marked_of (tree_ref.TheVariants.Uniform 1) ≡ all_pages
-marked_all = refl
+pub marked_all : (m : PageMarks) → ((p : ℕ) → mark_of m p ≡ 1) → marked_of m ≡ all_pages
+marked_all m all = same_rows (mark_of m) (λ _. 1) 1048576 (λ p below. all p)
 
 -- one page is owned too
 pub owns_too : (h g : Held) (page q : ℕ) → g ≡ owning h page h.memory → (q ≡ page) ⊎ Owns h q → Owns g q

@@ -5,6 +5,8 @@ use Rattle.memory_model.specs.Sparse.{Sparse, no_values}
 use Rattle.memory_model.specs.Memory.{Memory}
 use Rattle.memory_model.specs.Ranges.{with_row}
 use Rattle.memory_model.specs.Sizes.{greatest_permission, page_size, pages}
+use Rattle.page_marks.specs.declared.marks.PageMarks.{PageMarks}
+use Rattle.page_marks.specs.Marks.{AreBare, mark_of}
 use Rattle.page_tree.specs.declared.tree_ref.TreeRef.{TreeRef}
 use Rattle.page_tree.specs.Blocks.{byte_in}
 use Rattle.page_tree.specs.TreeRefs.{root_permission, root_page, root_own, AreWholeRoot}
@@ -26,25 +28,21 @@ memory_of t = memory_by (root_permission t) (λ p k. byte_in (root_page t p) k)
 abbrev pub owned_of : TreeRef → Sparse
 owned_of t = with_row no_values 0 (λ p. cond (root_own t p) 1 0) pages
 
--- the pages that a tree marks
-abbrev pub marked_of : TreeRef → Sparse
-marked_of t = with_row no_values 0 (root_permission t) pages
+-- the pages that are marked
+abbrev pub marked_of : PageMarks → Sparse
+marked_of m = with_row no_values 0 (mark_of m) pages
 
 -- what contracts see of a page table
 abbrev pub held_of : PageTable → Held
 held_of t = record { memory = memory_of t.pages; owned = owned_of t.pages; dirty = marked_of t.dirty }
-
--- a tree that keeps no byte other than 0
-abbrev pub IsBare : TreeRef → Type 0
-IsBare t = (p k : ℕ) → p < pages → byte_in (root_page t p) k ≡ 0
 
 -- what every page table keeps: each page that is kept has the bytes of a page, permissions are up to the greatest, each page that is owned is
 -- marked as dirty, and marks have no bytes
 pub record IsTable (t : PageTable) : Type 0 where
   pub whole : AreWholeRoot t.pages
   pub permission : (p : ℕ) → p < pages → root_permission t.pages p ≤ greatest_permission
-  pub marked : (p : ℕ) → p < pages → root_own t.pages p ≡ true → root_permission t.dirty p ≡ 1
-  pub bare : IsBare t.dirty
+  pub marked : (p : ℕ) → p < pages → root_own t.pages p ≡ true → mark_of t.dirty p ≡ 1
+  pub bare : AreBare t.dirty
 
 -- one page has these bytes; all else is the same
 pub record SetsPage (page : ℕ) (bytes : List ℕ) (t s : TreeRef) : Type 0 where

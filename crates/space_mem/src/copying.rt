@@ -13,6 +13,7 @@ use crate::layout::Pages;
 use crate::memory::Mem;
 use crate::table::PageTable;
 use memory_model::PAGES;
+use page_marks::PageMarks;
 use page_store::PageRef;
 use page_tree::{BLOCK_PAGES, BRANCH_PAGES, TreeRef};
 use std::alloc::{AllocError, Global};
@@ -74,7 +75,7 @@ impl PageTable {
     {
         let copied = source.pages.share(self.alloc)?;
         self.pages = copied;
-        self.dirty = TreeRef::Uniform(1);
+        self.dirty = PageMarks::all();
         Ok(())
     }
 
@@ -103,7 +104,7 @@ impl PageTable {
         self.dirty.prepare(first, end, self.alloc)?;
         self.pages.cut(first, end, self.alloc)?;
         self.pages.take(&mut made, first, end);
-        self.dirty.permit(first, end, 1);
+        self.dirty.mark(first, end);
         Ok(())
     }
 }

@@ -11,6 +11,7 @@ use crate::layout::Pages;
 use crate::memory::Mem;
 use crate::table::PageTable;
 use memory_model::PAGES;
+use page_marks::PageMarks;
 use page_tree::TreeRef;
 use std::alloc::AllocError;
 
@@ -152,7 +153,7 @@ impl PageTable {
         self.dirty.prepare(first, end, self.alloc)?;
         self.pages.prepare(first, end, self.alloc)?;
         self.pages.take(&mut made, first, end);
-        self.dirty.permit(first, end, 1);
+        self.dirty.mark(first, end);
         Ok(())
     }
 
@@ -170,7 +171,7 @@ impl PageTable {
         let mut copied = source.pages.share(self.alloc)?;
         copied.prepare(0, PAGES as usize, self.alloc)?;
         self.pages = copied;
-        self.dirty = TreeRef::Uniform(1);
+        self.dirty = PageMarks::all();
         Ok(())
     }
 }

@@ -10,6 +10,7 @@ ghost use Rattle.space_mem.specs.Held.{Owns, KeepsMarksOutside, IsClean, Marks, 
 use crate::layout::Pages;
 use crate::table::PageTable;
 use memory_model::Width;
+use page_marks::PageMarks;
 use page_store::{PageRef, may_write};
 use page_tree::TreeRef;
 use std::alloc::{AllocError, Global};
@@ -47,7 +48,7 @@ impl Mem {
         Mem {
             table: PageTable {
                 pages: TreeRef::Uniform(0),
-                dirty: TreeRef::Uniform(0),
+                dirty: PageMarks::none(),
                 alloc,
             },
         }

@@ -1,12 +1,13 @@
 ghost use Rattle.std.specs.Prelude.{◌≡◌, ℕ, ◌+◌, ◌<◌, ◌≤◌, OnOk, OnErr, IsOk, false, true};
 ghost use Rattle.memory_model.specs.Sparse.{no_values, put};
-ghost use Rattle.page_tree.specs.TreeRefs.{root_permission, root_own};
+ghost use Rattle.page_tree.specs.TreeRefs.{root_own};
 ghost use Rattle.memory_model.specs.Sizes.{pages};
+ghost use Rattle.page_marks.specs.Marks.{mark_of};
 ghost use Rattle.space_mem.specs.Held.{Marks, Owns, owning, all_pages};
 ghost use Rattle.space_mem.specs.Tables.{IsTable, held_of, memory_of};
 
 use crate::table::PageTable;
-use page_tree::TreeRef;
+use page_marks::PageMarks;
 use std::alloc::AllocError;
 
 impl PageTable {
@@ -21,7 +22,7 @@ impl PageTable {
         ensures again { Owns (held_of self.old) page → held_of self.new ≡ held_of self.old }
         ensures marks { Marks (held_of self.old) (held_of self.new) }
     {
-        if self.dirty.permission(page as usize) == 1 {
+        if self.dirty.has(page) {
             self.own_dirty_page(page)
         } else {
             self.own_clean_page(page)
@@ -32,7 +33,7 @@ impl PageTable {
     fn own_dirty_page(&mut self, page: u32) -> Result<(), AllocError>
         requires table { IsTable self.old }
         requires page { page < pages }
-        requires dirty { root_permission self.old.dirty page ≡ 1 }
+        requires dirty { mark_of self.old.dirty page ≡ 1 }
         ensures table { IsTable self.new }
         ensures ok { OnOk result (held_of self.new ≡ owning (held_of self.old) page (memory_of self.old.pages)) }
         ensures err { OnErr result (held_of self.new ≡ held_of self.old) }
@@ -55,7 +56,7 @@ impl PageTable {
         let at = page as usize;
         self.dirty.prepare(at, at + 1, self.alloc)?;
         self.pages.own_page(at, self.alloc)?;
-        self.dirty.permit(at, at + 1, 1);
+        self.dirty.mark(at, at + 1);
         Ok(())
     }
 
@@ -69,7 +70,7 @@ impl PageTable {
     {
         let at = page as usize;
         self.dirty.prepare(at, at + 1, self.alloc)?;
-        self.dirty.permit(at, at + 1, 1);
+        self.dirty.mark(at, at + 1);
         Ok(())
     }
 
@@ -83,9 +84,7 @@ impl PageTable {
         ensures owned { (held_of self.new).owned ≡ (held_of self.old).owned }
         ensures err { OnErr result (held_of self.new ≡ held_of self.old) }
     {
-        let at = page as usize;
-        self.dirty.prepare(at, at + 1, self.alloc)?;
-        self.dirty.permit(at, at + 1, 0);
+        self.dirty.unmark(page, self.alloc)?;
         Ok(())
     }
 
@@ -95,7 +94,7 @@ impl PageTable {
         ensures table { IsTable self.new }
         ensures held { held_of self.new ≡ record (held_of self.old) { dirty = all_pages } }
     {
-        self.dirty = TreeRef::Uniform(1);
+        self.dirty = PageMarks::all();
     }
 
     // No page is dirty any more. None is owned.
@@ -105,6 +104,6 @@ impl PageTable {
         ensures table { IsTable self.new }
         ensures held { held_of self.new ≡ record (held_of self.old) { dirty = no_values } }
     {
-        self.dirty = TreeRef::Uniform(0);
+        self.dirty = PageMarks::none();
     }
 }

@@ -77,7 +77,7 @@ impl PageTable {
         self.dirty.prepare(from, to, self.alloc)?;
         self.pages.prepare(from, to, self.alloc)?;
         self.pages.clear(from, to);
-        self.dirty.permit(from, to, 1);
+        self.dirty.mark(from, to);
         Ok(())
     }
 }

@@ -118,10 +118,7 @@ impl PageTable {
         if n >= PAGES {
             return None;
         }
-        match self.dirty.next_used(n as usize) {
-            Some(dirty) => Some(dirty as u32),
-            None => None,
-        }
+        self.dirty.next(n)
     }
 
     // What every page table keeps.

@@ -5,7 +5,7 @@ ghost use Rattle.space_mem.specs.Held.{Owns};
 ghost use Rattle.space_mem.specs.Tables.{IsTable, held_of, memory_of};
 
 use crate::table::PageTable;
-use page_tree::TreeRef;
+use page_marks::PageMarks;
 use std::alloc::AllocError;
 
 impl PageTable {
@@ -31,7 +31,7 @@ impl PageTable {
     {
         Ok(PageTable {
             pages: self.pages.share(self.alloc)?,
-            dirty: TreeRef::Uniform(0),
+            dirty: PageMarks::none(),
             alloc: self.alloc,
         })
     }
@@ -45,10 +45,10 @@ impl PageTable {
         ensures copy { IfOk result (λ copy. IsTable copy) }
         ensures held { IfOk result (λ copy. held_of copy ≡ held_of self.old) }
     {
-        self.dirty.freeze(self.alloc)?;
+        let dirty = self.dirty.share(self.alloc)?;
         Ok(PageTable {
             pages: self.pages.share(self.alloc)?,
-            dirty: self.dirty.share(self.alloc)?,
+            dirty,
             alloc: self.alloc,
         })
     }

@@ -1,3 +1,4 @@
+use page_marks::PageMarks;
 use page_tree::TreeRef;
 use std::alloc::Global;
 
@@ -6,7 +7,7 @@ use std::alloc::Global;
 pub struct PageTable {
     // The permission of each page, and its bytes where any are kept; the bytes of other pages are 0.
     pub pages: TreeRef,
-    // The dirty pages have permission 1 here, and the others 0.
-    pub dirty: TreeRef,
+    // The dirty pages are marked.
+    pub dirty: PageMarks,
     pub alloc: Global,
 }

@@ -9,8 +9,8 @@ returns-clause-table c = let table = c.requires.table in record {
   whole = table.whole;
   permission = table.permission;
   marked = λ p low own. absurd (false≢true (sym (none_owned c.args.self.now c.requires.none p low) ∙ own));
-  bare = λ p k low. refl;
+  bare = c.none.ensures.bare;
 }
 
 pub returns-clause-held : goal.returns-clause-held
-returns-clause-held c = same_held _ _ refl refl marked_of-none
+returns-clause-held c = same_held _ _ refl refl (marked_of-none c.none.result c.none.ensures.none)

@@ -1,5 +1,4 @@
 use Rattle.std.proofs.Common.{arith, refl}
-use Rattle.page_tree.specs.declared.tree_ref.TreeRef.TheVariants.{Uniform}
 use Rattle.space_mem.proofs.Copies.{copied_all, marked_all, copied_memory, copied_outside, copied_marks}
 use Rattle.space_mem.proofs.Kept.{table_kept}
 use Rattle.space_mem.proofs.table.PageTable.copy_all.Goals as goal
@@ -13,10 +12,10 @@ returns-in_err-copied-clause-outside c = table_kept c.args.self.now c.args.self.
 
 pub returns-clause-outside : goal.returns-clause-outside
 returns-clause-outside c =
-    copied_outside 0 0 1048576 c.args.source.now.pages c.args.self.now (record c.args.self.now { pages = c.in_ok-copied.copied; dirty = Uniform 1 }) (copied_all c.args.source.now.pages c.args.self.now.pages c.in_ok-copied.copied c.in_ok-copied.ensures.same)
-    (marked_all c.args.self.now.dirty (Uniform 1) (λ p. refl))
+    copied_outside 0 0 1048576 c.args.source.now.pages c.args.self.now (record c.args.self.now { pages = c.in_ok-copied.copied; dirty = c.all.result }) (copied_all c.args.source.now.pages c.args.self.now.pages c.in_ok-copied.copied c.in_ok-copied.ensures.same)
+    (marked_all c.args.self.now.dirty c.all.result c.all.ensures.all)
 
 pub returns-clause-marks : goal.returns-clause-marks
 returns-clause-marks c =
-    copied_marks 0 0 1048576 c.args.source.now.pages c.args.self.now (record c.args.self.now { pages = c.in_ok-copied.copied; dirty = Uniform 1 }) (copied_all c.args.source.now.pages c.args.self.now.pages c.in_ok-copied.copied c.in_ok-copied.ensures.same)
-    (marked_all c.args.self.now.dirty (Uniform 1) (λ p. refl))
+    copied_marks 0 0 1048576 c.args.source.now.pages c.args.self.now (record c.args.self.now { pages = c.in_ok-copied.copied; dirty = c.all.result }) (copied_all c.args.source.now.pages c.args.self.now.pages c.in_ok-copied.copied c.in_ok-copied.ensures.same)
+    (marked_all c.args.self.now.dirty c.all.result c.all.ensures.all)

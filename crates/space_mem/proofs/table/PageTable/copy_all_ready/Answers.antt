@@ -1,6 +1,5 @@
 use Rattle.std.proofs.Common.{arith, refl}
 use Rattle.page_tree.specs.declared.tree_ref.TreeRef.{TreeRef}
-use Rattle.page_tree.specs.declared.tree_ref.TreeRef.TheVariants.{Uniform}
 use Rattle.space_mem.specs.declared.table.PageTable.{PageTable}
 use Rattle.space_mem.proofs.Copies.{copied_all, marked_all, copied_memory, copied_outside, copied_marks, ready_all}
 use Rattle.space_mem.proofs.Kept.{table_kept}
@@ -25,7 +24,7 @@ returns-clause-outside c =
     let t : PageTable = c.args.self.now in
     let s : TreeRef = c.prepare.new.self in
     let same = ready_all source c.in_ok-copied.copied s c.in_ok-copied.ensures.same c.in_ok-prepare.ensures.same in
-    copied_outside 0 0 1048576 source t (record t { pages = s; dirty = Uniform 1 }) (copied_all source t.pages s same) (marked_all t.dirty (Uniform 1) (λ p. refl))
+    copied_outside 0 0 1048576 source t (record t { pages = s; dirty = c.all.result }) (copied_all source t.pages s same) (marked_all t.dirty c.all.result c.all.ensures.all)
 
 pub returns-clause-marks : goal.returns-clause-marks
 returns-clause-marks c =
@@ -33,4 +32,4 @@ returns-clause-marks c =
     let t : PageTable = c.args.self.now in
     let s : TreeRef = c.prepare.new.self in
     let same = ready_all source c.in_ok-copied.copied s c.in_ok-copied.ensures.same c.in_ok-prepare.ensures.same in
-    copied_marks 0 0 1048576 source t (record t { pages = s; dirty = Uniform 1 }) (copied_all source t.pages s same) (marked_all t.dirty (Uniform 1) (λ p. refl))
+    copied_marks 0 0 1048576 source t (record t { pages = s; dirty = c.all.result }) (copied_all source t.pages s same) (marked_all t.dirty c.all.result c.all.ensures.all)

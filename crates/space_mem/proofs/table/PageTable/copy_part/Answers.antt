@@ -1,7 +1,7 @@
 use Rattle.std.proofs.Common.{◌≡◌, arith, refl}
 use Rattle.space_mem.specs.declared.table.PageTable.{PageTable}
 use Rattle.space_mem.specs.Tables.{held_of}
-use Rattle.space_mem.proofs.Copies.{IsCopied, IsMarked, at_error, copied_part, marked_part, marked_bare, copied_table, copied_memory, copied_outside, copied_marks, prepared_held, same_marks, same_row}
+use Rattle.space_mem.proofs.Copies.{IsCopied, IsMarked, at_error, copied_part, marked_part, copied_table, copied_memory, copied_outside, copied_marks, prepared_held, same_marks, same_row}
 use Rattle.space_mem.proofs.Kept.{table_kept}
 use Rattle.space_mem.proofs.table.PageTable.copy_part.Goals as goal
 
@@ -50,18 +50,18 @@ returns-in_err-cut-2-clause-marks c =
 pub returns : goal.returns
 returns c =
     let t : PageTable = c.args.self.now in
-    let s : PageTable = record t { pages = c.take.new.self; dirty = c.permit.new.self } in
+    let s : PageTable = record t { pages = c.take.new.self; dirty = c.mark.new.self } in
     let source : PageTable = c.args.source.now in
     let from = c.args.from in
     let first = c.args.first in
     let end = c.args.end in
     let copied : IsCopied from first end source.pages t.pages s.pages =
     copied_part from first end source.pages c.in_ok-made.made c.cut.new.self t.pages c.cut-2.new.self s.pages c.requires.within c.in_ok-made.ensures.moved c.in_ok-cut.ensures.same c.in_ok-cut-2.ensures.same c.in_ok-cut-2.ensures.own c.take.ensures.taken in
-    let marked : IsMarked first end t.dirty s.dirty = marked_part first end t.dirty c.prepare.new.self s.dirty c.requires.within c.in_ok-prepare.ensures.same c.permit.ensures.permitted in
+    let marked : IsMarked first end t.dirty s.dirty = marked_part first end t.dirty c.prepare.new.self s.dirty c.requires.within c.in_ok-prepare.ensures.same c.mark.ensures.marked in
     record {
       table = copied_table from first end source t s c.requires.within c.requires.in_range c.requires.source c.requires.table copied marked
           (c.take.ensures.whole (c.in_ok-cut-2.ensures.whole c.requires.table.whole) (c.in_ok-cut.ensures.whole c.in_ok-made.ensures.whole))
-          (marked_bare first end t.dirty c.prepare.new.self s.dirty c.in_ok-prepare.ensures.same c.permit.ensures.permitted c.requires.table.bare);
+          (c.mark.ensures.bare (c.in_ok-prepare.ensures.bare c.requires.table.bare));
       ok = copied_memory from first end source.pages t.pages s.pages (omega arith) c.requires.within c.requires.in_range copied;
       err = tt;
       outside = copied_outside from first end source.pages t s copied marked;

@@ -8,4 +8,4 @@ pub returns-in_err-prepare-clause-err : goal.returns-in_err-prepare-clause-err
 returns-in_err-prepare-clause-err c = at_error c.from_residual.result _ (same_held _ _ refl refl (marked_row c.args.self.now.dirty c.prepare.new.self c.in_err-prepare.ensures.same))
 
 pub returns-clause-ok : goal.returns-clause-ok
-returns-clause-ok c = same_held _ _ refl refl (marked_one c.prepare.new.self c.permit.new.self c.args.page c.requires.page c.permit.ensures.permitted ∙ ap (λ s. put s c.args.page 1) (marked_row c.args.self.now.dirty c.prepare.new.self c.in_ok-prepare.ensures.same))
+returns-clause-ok c = same_held _ _ refl refl (marked_one c.prepare.new.self c.mark.new.self c.args.page c.requires.page c.mark.ensures.marked ∙ ap (λ s. put s c.args.page 1) (marked_row c.args.self.now.dirty c.prepare.new.self c.in_ok-prepare.ensures.same))

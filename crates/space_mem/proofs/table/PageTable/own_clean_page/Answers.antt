@@ -16,7 +16,7 @@ returns-in_err-own_page-clause-err c = let h = c.in_err-own_page.ensures in
 pub returns-clause-ok : goal.returns-clause-ok
 returns-clause-ok c = let h = c.in_ok-own_page.ensures in
     same_held _ _ (root_memory c.args.self.now.pages c.own_page.new.self h.same) (owned_one c.args.self.now.pages c.own_page.new.self c.args.page c.requires.page h.owned)
-    (marked_one c.prepare.new.self c.permit.new.self c.args.page c.requires.page c.permit.ensures.permitted ∙ ap (λ s. put s c.args.page 1) (marked_row c.args.self.now.dirty c.prepare.new.self c.in_ok-prepare.ensures.same))
+    (marked_one c.prepare.new.self c.mark.new.self c.args.page c.requires.page c.mark.ensures.marked ∙ ap (λ s. put s c.args.page 1) (marked_row c.args.self.now.dirty c.prepare.new.self c.in_ok-prepare.ensures.same))
 
 pub returns-in_err-prepare-clause-marks : goal.returns-in_err-prepare-clause-marks
 returns-in_err-prepare-clause-marks c = marks_same (held_of c.args.self.now) _ (same_held _ _ refl refl (marked_row c.args.self.now.dirty c.prepare.new.self c.in_err-prepare.ensures.same))

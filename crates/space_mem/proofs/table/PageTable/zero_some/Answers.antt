@@ -1,6 +1,7 @@
 use Rattle.std.proofs.Common.{◌∙◌, ◌-◌, ap, arith, refl, cond, false, None}
 use Rattle.memory_model.specs.Ranges.{with_zeros}
-use Rattle.page_tree.specs.TreeRefs.{root_page, root_own, root_permission}
+use Rattle.page_marks.specs.Marks.{mark_of}
+use Rattle.page_tree.specs.TreeRefs.{root_page, root_own}
 use Rattle.page_tree.specs.Blocks.{byte_in}
 use Rattle.space_mem.specs.Tables.{held_of}
 use Rattle.space_mem.proofs.Tables.{same_held}
@@ -30,9 +31,9 @@ returns-clause-ok c =
     ∙ ap (λ m. with_zeros m c.args.first (c.args.end - c.args.first)) (row_memory c.args.self.now.pages c.prepare-2.new.self c.in_ok-prepare-2.ensures.same)
 
 pub returns-clause-outside : goal.returns-clause-outside
-returns-clause-outside c = table_keeps c.args.self.now (record { pages = c.clear.new.self; dirty = c.permit.new.self; alloc = c.args.self.now.alloc }) c.args.first c.args.end
+returns-clause-outside c = table_keeps c.args.self.now (record { pages = c.clear.new.self; dirty = c.mark.new.self; alloc = c.args.self.now.alloc }) c.args.first c.args.end
     (λ p below out. c.clear.ensures.cleared.own p below ∙ ap (λ b. cond b false (root_own c.prepare-2.new.self p)) (out_of_range c.args.first c.args.end p out) ∙ c.in_ok-prepare-2.ensures.own p below)
-    (λ p below out. c.permit.ensures.permitted.permission p below ∙ ap (λ b. cond b 1 (root_permission c.prepare.new.self p)) (out_of_range c.args.first c.args.end p out) ∙ c.in_ok-prepare.ensures.same.permission p below)
+    (λ p below out. c.mark.ensures.marked p below ∙ ap (λ b. cond b 1 (mark_of c.prepare.new.self p)) (out_of_range c.args.first c.args.end p out) ∙ c.in_ok-prepare.ensures.same p below)
 
 pub returns-in_err-prepare-clause-outside : goal.returns-in_err-prepare-clause-outside
 returns-in_err-prepare-clause-outside c = table_kept c.args.self.now (record c.args.self.now { dirty = c.prepare.new.self }) c.args.first c.args.end (same_held _ _ refl refl (marked_row c.args.self.now.dirty c.prepare.new.self c.in_err-prepare.ensures.same))
@@ -42,5 +43,5 @@ returns-in_err-prepare-2-clause-outside c = let h = c.in_err-prepare-2.ensures i
     table_kept c.args.self.now (record c.args.self.now { pages = c.prepare-2.new.self; dirty = c.prepare.new.self }) c.args.first c.args.end (same_held _ _ (row_memory c.args.self.now.pages c.prepare-2.new.self h.same) (owned_row c.args.self.now.pages c.prepare-2.new.self h.own) (marked_row c.args.self.now.dirty c.prepare.new.self c.in_ok-prepare.ensures.same))
 
 pub returns-clause-marks : goal.returns-clause-marks
-returns-clause-marks c = marks_range c.args.self.now _ c.prepare.new.self c.args.first c.args.end c.permit.ensures.permitted c.in_ok-prepare.ensures.same.permission (λ p k below out.
+returns-clause-marks c = marks_range c.args.self.now (record { pages = c.clear.new.self; dirty = c.mark.new.self; alloc = c.args.self.now.alloc }) c.prepare.new.self c.args.first c.args.end c.mark.ensures.marked c.in_ok-prepare.ensures.same (λ p k below out.
     ap (λ o. byte_in o k) (c.clear.ensures.cleared.page p below ∙ ap (λ b. cond b None (root_page c.prepare-2.new.self p)) (out_of_range c.args.first c.args.end p out)) ∙ c.in_ok-prepare-2.ensures.same.byte p k below)
