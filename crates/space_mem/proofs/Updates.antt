@@ -23,8 +23,8 @@ use Rattle.page_tree.specs.BlockRefs.{ref_own, ref_page, IsOwnBlock}
 use Rattle.page_tree.specs.Branches.{block_at}
 use Rattle.page_tree.specs.BranchRefs.{limb_own, limb_page, AreWholeLimb}
 use Rattle.page_tree.specs.Trees.{branch_at}
-use Rattle.page_tree.specs.TreeRefs.{root_row, root_permission, root_page, root_own, AreWholeRoot, IsOwnedRoot, SameRoot}
-use Rattle.page_tree.specs.Rows.{SameRow, SameOwners, IsPermittedRow, IsBlankPage}
+use Rattle.page_tree.specs.TreeRefs.{root_row, root_page, root_own, AreWholeRoot, IsOwnedRoot, SameRoot}
+use Rattle.page_tree.specs.Rows.{SameRow, SameOwners, IsBlankPage}
 use Rattle.page_tree.specs.Replaceable.{ReplaceableLimb, ReplaceableRoot}
 use Rattle.space_mem.specs.declared.table.PageTable.{PageTable}
 use Rattle.space_mem.specs.Held.{Held, Owns, owning, nothing_held, all_pages}

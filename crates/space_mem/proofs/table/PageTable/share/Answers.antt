@@ -1,4 +1,4 @@
-use Rattle.std.proofs.Common.{◌∙◌, sym, arith, refl}
+use Rattle.std.proofs.Common.{◌∙◌, sym, arith}
 use Rattle.std.proofs.lemmas.Bool.{false≢true}
 use Rattle.space_mem.proofs.Tables.{same_held, none_owned, owned_same}
 use Rattle.space_mem.proofs.Updates.{root_memory, marked_of-none}
