@@ -123,8 +123,14 @@ fn first_conflict_from(
     None
 }
 
-// Writes the merged byte at each offset.
-fn merge_bytes(snapshot: &[u8; SIZE], child: &[u8; SIZE], parent: &[u8; SIZE], out: &mut [u8; SIZE])
+/// Merges a page whatever is in conflict: `out` has at each offset the child's byte where it differs from the snapshot's, else the parent's.
+/// It takes no memory.
+pub fn merge_bytes(
+    snapshot: &[u8; SIZE],
+    child: &[u8; SIZE],
+    parent: &[u8; SIZE],
+    out: &mut [u8; SIZE],
+)
     ensures { IsMergeBelow snapshot.now child.now parent.now out.new page_size }
 {
     for group in 0..GROUPS {

@@ -3,3 +3,4 @@ mod Conflicts
 mod Merged
 mod Permitted
 mod Unmarked
+mod Overlaid

@@ -5,7 +5,7 @@ use Rattle.memory_model.specs.Memory.{Memory, byte_at}
 use Rattle.memory_model.specs.Ranges.{IsZeroPage}
 use Rattle.memory_model.specs.Sizes.{page_size, pages}
 use Rattle.merge_model.specs.Merge.{is_conflict, merged_byte}
-use Rattle.space_mem.specs.Held.{Held, IsClean, IsOutside, SamePage}
+use Rattle.space_mem.specs.Held.{Held, IsClean, IsOutside, Owns, SamePage}
 
 -- two memories have the same bytes in the pages from one to before another
 abbrev pub SameBytes : Memory → Memory → ℕ → ℕ → Type 0
@@ -64,3 +64,12 @@ pub record IsMerged (child : Held) (snapshot : Memory) (first end page : ℕ) : 
   pub below : page < end
   pub dirty : IsClean child page → ⊥
   pub differs : SamePage child.memory snapshot page → ⊥
+
+-- the next page from one to before another of which a child changed a byte
+pub record IsNextChanged (child : Held) (snapshot : Memory) (from end page : ℕ) : Type 0 where
+  pub changed : IsMerged child snapshot from end page
+  pub same : SameBytes child.memory snapshot from page
+
+-- each page from one to before another of which a child changed a byte is owned
+abbrev pub OwnsChanged : Memory → Memory → Held → ℕ → ℕ → Type 0
+OwnsChanged child snapshot parent first end = (page : ℕ) → first ≤ page → page < end → SamePage child snapshot page ⊎ Owns parent page

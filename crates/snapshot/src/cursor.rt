@@ -1,8 +1,9 @@
 ghost use Rattle.std.specs.Prelude.{◌≡◌, ◌≤◌, IfSome, IsFalse, IsNone};
-ghost use Rattle.memory_model.specs.Ranges.{IsZeroPage};
+ghost use Rattle.memory_model.specs.Ranges.{IsPageOf, IsZeroPage};
 ghost use Rattle.memory_model.specs.Sizes.{pages};
 ghost use Rattle.space_mem.specs.Held.{AllClean, AllZero, IsNextDirty};
 
+use crate::page::{SIZE, page_bytes};
 use space_mem::Mem;
 use std::marker::Model;
 
@@ -54,6 +55,13 @@ impl<'a> Cursor<'a> {
         ensures { IsFalse result → IsZeroPage self.now.memory page }
     {
         self.memory.page(page).is_some()
+    }
+
+    // The bytes of a page.
+    pub fn bytes(&self, page: u32) -> &[u8; SIZE]
+        ensures { IsPageOf self.now.memory page result.now }
+    {
+        page_bytes(self.memory, page)
     }
 
     // The least page from `n` to before `end` of which bytes are kept, or `end`.

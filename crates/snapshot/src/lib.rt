@@ -5,10 +5,12 @@ mod changes;
 mod cursor;
 mod fault;
 mod merging;
+mod overlaying;
 mod page;
 mod taking;
 mod walk;
 
 pub use fault::MergeError;
 pub use merging::{merge, merge_and_permit};
+pub use overlaying::{overlay, overlay_owned, own_changed};
 pub use taking::take;
