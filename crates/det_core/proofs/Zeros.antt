@@ -1,9 +1,13 @@
 -- Zeros written where there are none but zeros change nothing.
-use Rattle.std.proofs.Common.{◌≡◌, ℕ, suc, ◌+◌, ◌≤◌, ◌<◌, List, [], ◌∷◌, length, get_or, take, refl, sym, ap, ◌∙◌, inl, inr, arith}
+use Rattle.std.proofs.Common.{◌≡◌, ℕ, suc, ◌+◌, ◌≤◌, ◌<◌, List, [], ◌∷◌, ◌++◌, length, get_or, take, refl, sym, ap, ◌∙◌, inl, inr, arith}
 use Rattle.std.proofs.lemmas.Bool.{cases_eq}
-use Rattle.std.proofs.lemmas.List.{length-take-le}
+use Rattle.std.specs.Prelude.{replicate}
+use Rattle.std.proofs.lemmas.List.{get_or-replicate, length-replicate, length-take-le}
 use Rattle.memory_model.specs.Memory.{Memory, byte_at, with_byte, with_bytes, same_memory}
 use Rattle.memory_model.proofs.Runs.{byte_at-with_byte, byte_at-with_byte_other, byte_at-with_bytes_out}
+use Rattle.space_mem.proofs.PageEdits.{with_bytes-append}
+use Rattle.image_file.specs.View.{padded}
+use Rattle.image_file.proofs.Padding.{length-padded, padded_is}
 use Rattle.det_core.specs.Empty.{IsEmptyFrom}
 
 zero_byte : (m : Memory) (at v : ℕ) → byte_at m at ≡ 0 → v ≡ 0 → with_byte m at v ≡ m
@@ -30,3 +34,21 @@ still_empty m now at done count from bytes empty written within is = λ k lt.
     ∙ byte_at-with_bytes_out m at (take done bytes) (from + k) (λ _. omega (arith, len, is))
     ∙ ap (byte_at m) {x = from + k} {y = at + (done + k)} (omega (arith, is))
     ∙ empty (done + k) (omega arith)
+
+-- zeros behind bytes are there
+pub padding_is_there : (m : Memory) (at : ℕ) (bytes : List ℕ) (n : ℕ) → IsEmptyFrom m at (length (padded bytes n)) → with_bytes m at bytes ≡ with_bytes m at (padded bytes n)
+padding_is_there m at bytes n empty =
+    let zeros = replicate n 0 in
+    let count : length zeros ≡ n = length-replicate {A = ℕ} n 0 in
+    let size = length-padded bytes n in
+    let rest : IsEmptyFrom (with_bytes m at bytes) (at + length bytes) (length zeros) = λ k lt.
+    byte_at-with_bytes_out m at bytes (at + length bytes + k) (λ _. omega arith)
+    ∙ ap (byte_at m) {x = at + length bytes + k} {y = at + (length bytes + k)} (omega arith)
+    ∙ empty (length bytes + k) (omega (arith, size, count)) in
+    zeros_are_there (with_bytes m at bytes) (at + length bytes) zeros rest (λ k lt. get_or-replicate n k 0 0 (omega (arith, count)))
+    ∙ with_bytes-append m at (at + length bytes) bytes zeros refl
+    ∙ ap (with_bytes m at) (sym (padded_is bytes n))
+
+-- and the bytes' own places are empty too
+pub empty_before : (m : Memory) (at : ℕ) (bytes : List ℕ) (n : ℕ) → IsEmptyFrom m at (length (padded bytes n)) → IsEmptyFrom m at (length bytes)
+empty_before m at bytes n empty = λ k lt. empty k (omega (arith, length-padded bytes n))

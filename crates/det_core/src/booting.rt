@@ -50,20 +50,29 @@ fn write_content(memory: &mut Mem, at: u32, bytes: &[u8]) -> Result<(), AllocErr
     Ok(())
 }
 
+// Writes a segment's bytes where a memory has none but zeros. The zeros behind them are there.
+fn write_bytes_of(memory: &mut Mem, segment: &Segment) -> Result<(), AllocError>
+    requires within { segment.now.addr + length (segment_view segment.now).content ≤ 2 ^ 32 }
+    requires empty { IsEmptyFrom memory.old.memory segment.now.addr (length (segment_view segment.now).content) }
+    ensures { OnOk result (memory.new.memory ≡ with_bytes memory.old.memory segment.now.addr (segment_view segment.now).content) }
+{
+    write_content(memory, segment.addr, &segment.bytes)?;
+    Ok(())
+}
+
 // A segment's bytes, and its permission on each page that it touches, where a memory has none but zeros.
 fn write_segment(memory: &mut Mem, segment: &Segment) -> Result<(), AllocError>
     requires sound { IsSegment 0 (segment_view segment.now) }
-    requires empty { IsEmptyFrom memory.old.memory segment.now.addr (length segment.now.bytes.items) }
+    requires empty { IsEmptyFrom memory.old.memory segment.now.addr (length (segment_view segment.now).content) }
     ensures { OnOk result (memory.new.memory ≡ with_segment memory.old.memory (segment_view segment.now)) }
 {
-    let length = segment.bytes.len() as u64;
     let first = segment.addr / PAGE_SIZE;
-    let last = ((u64::from(segment.addr) + length - 1) / u64::from(PAGE_SIZE)) as u32;
+    let last = ((u64::from(segment.addr) + segment.size() - 1) / u64::from(PAGE_SIZE)) as u32;
     let pages = Pages {
         first,
         count: last + 1 - first,
     };
-    write_content(memory, segment.addr, &segment.bytes)?;
+    write_bytes_of(memory, segment)?;
     memory.set_perm(pages, segment.perm)
 }
 

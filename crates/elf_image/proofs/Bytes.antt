@@ -1,10 +1,12 @@
 -- The bytes of a run's pages, load by load from the highest down.
 use Rattle.std.proofs.Common.{◌≡◌, ℕ, ◌-◌, ◌+◌, ◌≤◌, ◌<◌, min, max, false, cond, ◌&&◌, leb, ltb, List, [], ◌∷◌, ◌++◌, get_or, take, drop, length, map, refl, sym, ap, ◌∙◌, arith, inl, inr}
-use Rattle.std.specs.Prelude.{slice_index}
+use Rattle.std.specs.Prelude.{replicate, slice_index}
 use Rattle.std.specs.List.{range_with_len}
 use Rattle.std.proofs.lemmas.Bool.{cases_lt, and_from, and_left, and_right, le-leb, lt-leb, lt-ltb, le-ltb}
-use Rattle.std.proofs.lemmas.List.{drop_more, drop_all, get_or-map, length-map, ext_get_or, get_or-take, get_or-drop, get_or_append_left, get_or-append_right, length-take, length-drop}
+use Rattle.std.proofs.lemmas.List.{drop_more, drop_all, get_or-map, length-map, ext_get_or, get_or-take, get_or-drop, get_or_append_left, get_or-append_right, get_or-replicate, length-take, length-drop}
 use Rattle.std.proofs.lemmas.List.FromFn.{length-map-range_with_len, get_or-map-range_with_len}
+use Rattle.image_file.specs.View.{padded}
+use Rattle.image_file.proofs.Padding.{length-padded, padded_is}
 use Rattle.elf_model.specs.Loads as model
 use Rattle.elf_model.specs.Pages.{byte_of}
 use Rattle.elf_image.specs.declared.load.Load.{Load}
@@ -14,8 +16,11 @@ use Rattle.elf_image.specs.View.{load_view, load_views}
 abbrev pub over : Load → ℕ → ℕ → ℕ
 over l a other = cond (leb l.address a && ltb a (l.address + length l.content.now)) (slice_index l.content.now (a - l.address)) other
 
+pub passed_over : (l : Load) (a other : ℕ) → (leb l.address a && ltb a (l.address + length l.content.now)) ≡ false → over l a other ≡ other
+passed_over l a other e = rw e refl
+
 outside : (l : Load) (a other : ℕ) → (leb l.address a && ltb a (l.address + length l.content.now)) ≡ false → over l a other ≡ other
-outside l a other e = rw e refl
+outside l a other e = passed_over l a other e
 
 inside : (l : Load) (a other : ℕ) → l.address ≤ a → a < l.address + length l.content.now → over l a other ≡ slice_index l.content.now (a - l.address)
 inside l a other low high =
@@ -88,3 +93,19 @@ pub are_bytes : (content : List ℕ) (byte : ℕ → ℕ) (start at size count :
 are_bytes content byte start at size count same_start same_size len h =
     let length_same : length content ≡ length (map byte (range_with_len at count)) = omega (arith, length-map-range_with_len byte at count) in
     ext_get_or 0 content (map byte (range_with_len at count)) length_same (λ k lt. h k (omega arith) ∙ sym (get_or-map-range_with_len byte at count k (start + k) 0 (omega arith) (omega arith)))
+
+-- bytes behind which there are zeros, and so many zeros
+pub filled_up : (byte : ℕ → ℕ) (start size whole zeros : ℕ) → size ≤ whole → zeros ≡ whole - size → ((k : ℕ) → size ≤ k → k < whole → byte (start + k) ≡ 0) → padded (map byte (range_with_len start size)) zeros ≡ map byte (range_with_len start whole)
+filled_up byte start size whole zeros le count none =
+    let front = map byte (range_with_len start size) in
+    let len : length front ≡ size = length-map-range_with_len byte start size in
+    let all : length (map byte (range_with_len start whole)) ≡ whole = length-map-range_with_len byte start whole in
+    ext_get_or 0 (padded front zeros) (map byte (range_with_len start whole)) (omega (arith, length-padded front zeros, len, all))
+    (λ k lt.
+    let below : k < whole = omega (arith, length-padded front zeros, len) in
+    ap (λ (l : List ℕ). get_or l k 0) (padded_is front zeros)
+    ∙ elim (cases_lt k size) [
+      | inl low ↦ get_or_append_left front (replicate zeros 0) 0 k (omega (arith, len)) ∙ get_or-map-range_with_len byte start size k (start + k) 0 low refl
+      | inr high ↦ get_or-append_right front (replicate zeros 0) size k 0 len high ∙ get_or-replicate zeros (k - size) 0 0 (omega arith) ∙ sym (none k high below)
+    ]
+    ∙ sym (get_or-map-range_with_len byte start whole k (start + k) 0 below refl))

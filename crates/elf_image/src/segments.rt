@@ -1,4 +1,4 @@
-ghost use Rattle.std.specs.Prelude.{◌≡◌, ◌≤◌, ◌<◌, ◌^◌, ◌+◌, ◌-◌, ◌*◌, ◌&&◌, ℕ, nat_le, nat_lt, cond, length, map, slice_index, IfOk};
+ghost use Rattle.std.specs.Prelude.{◌≡◌, ◌≤◌, ◌<◌, ◌^◌, ◌+◌, ◌-◌, ◌*◌, ◌&&◌, false, ℕ, nat_le, nat_lt, cond, length, map, slice_index, IfOk};
 ghost use Rattle.std.specs.List.{All, range_with_len};
 ghost use Rattle.memory_model.specs.Sizes.{page_size};
 ghost use Rattle.image_file.specs.View.{segment_view, segment_views};
@@ -42,17 +42,65 @@ fn overlay_all(content: &mut [u8], start: u64, loads: &[Load<'_>])
     }
 }
 
-// The bytes of a run's pages: those that loads have there, and else zeros.
-fn content_of(alloc: Global, run: Run, loads: &[Load<'_>]) -> Result<Vec<u8>, AllocError>
-    requires { IsWithin (run_view run) }
-    ensures { IfOk result (λ v. v.items ≡ map (byte_of (load_views loads.now)) (range_with_len (page_size * run.first) (page_size * (run.end - run.first)))) }
+// The bytes of memory from an address on: those that loads have there, and else zeros.
+fn content_of(
+    alloc: Global,
+    start: u64,
+    size: usize,
+    loads: &[Load<'_>],
+) -> Result<Vec<u8>, AllocError>
+    requires { start ≤ 2 ^ 32 }
+    ensures { IfOk result (λ v. v.items ≡ map (byte_of (load_views loads.now)) (range_with_len start size)) }
 {
-    let start = u64::from(run.first) * u64::from(PAGE_SIZE);
-    let size = (run.end - run.first) as usize * PAGE_SIZE as usize;
     let mut content = Vec::new(alloc);
     content.resize(size, 0)?;
     overlay_all(&mut content, start, loads);
     Ok(content)
+}
+
+// How many bytes from `start` on lie before the end of a load's, and before `end`.
+fn reach(start: u64, end: u64, load: &Load<'_>) -> u64
+    requires { start ≤ end }
+    ensures most { result ≤ end - start }
+    ensures beyond { (a : ℕ) → start + result ≤ a → a < end → (nat_le load.now.address a && nat_lt a (load.now.address + length load.now.content.now)) ≡ false }
+{
+    let address = u64::from(load.address);
+    if end <= address {
+        return 0;
+    }
+    end.min(address + load.content.len() as u64)
+        .saturating_sub(start)
+}
+
+// How many bytes there are from `start` on, up to the last before `end` that a load has; at least one. Behind them there are zeros.
+fn filled(start: u64, end: u64, loads: &[Load<'_>]) -> u64
+    requires { start < end }
+    ensures some { 0 < result }
+    ensures most { result ≤ end - start }
+    ensures zeros { (k : ℕ) → result ≤ k → k < end - start → byte_of (load_views loads.now) (start + k) ≡ 0 }
+{
+    let mut most: u64 = 1;
+    let count = loads.len();
+    for done in 0..count {
+        most = most.max(reach(start, end, &loads[count - 1 - done]));
+    }
+    most
+}
+
+// A run's pages, with the bytes that loads have there. The zeros behind the last of these are counted alone, however many they are.
+fn segment_of(alloc: Global, run: Run, loads: &[Load<'_>]) -> Result<Segment, AllocError>
+    requires { IsWithin (run_view run) }
+    ensures { IfOk result (λ s. segment_view s ≡ pages.segment_of (load_views loads.now) (run_view run)) }
+{
+    let start = u64::from(run.first) * u64::from(PAGE_SIZE);
+    let end = u64::from(run.end) * u64::from(PAGE_SIZE);
+    let size = filled(start, end, loads);
+    Ok(Segment {
+        addr: run.first * PAGE_SIZE,
+        perm: run.permission,
+        bytes: content_of(alloc, start, size as usize, loads)?,
+        zeros: (end - start - size) as u32,
+    })
 }
 
 /// The segments of runs of pages, with the bytes that loads have there.
@@ -66,11 +114,7 @@ pub(crate) fn segments_of(
 {
     let mut segments = Vec::new(alloc);
     for run in runs {
-        segments.push(Segment {
-            addr: run.first * PAGE_SIZE,
-            perm: run.permission,
-            bytes: content_of(alloc, *run, loads)?,
-        })?;
+        segments.push(segment_of(alloc, *run, loads)?)?;
     }
     Ok(segments)
 }

@@ -17,9 +17,9 @@ pub is_found : (bytes : List ℕ) (r : Result model.Image (Fault ImageError)) �
 is_found bytes (Ok i) fits given = image_takes bytes i fits given
 is_found bytes (Err e) fits given = tt
 
-short_each : (page : ℕ) (ss : List Segment) → AreSegments page (segment_views ss) → AllByRecursion (λ s. length s.bytes.items < 2 ^ 32) ss
+short_each : (page : ℕ) (ss : List Segment) → AreSegments page (segment_views ss) → AllByRecursion (λ s. length (segment_view s).content < 2 ^ 32) ss
 short_each page [] h = tt
 short_each page (s ∷ ss) h = (h.0.short, short_each (last_page (segment_view s) + 1) ss h.1)
 
-pub are_short : (ss : List Segment) → AreSegments 0 (segment_views ss) → All (λ s. length s.bytes.items < 2 ^ 32) ss
-are_short ss h = All-from_recursion (λ s. length s.bytes.items < 2 ^ 32) ss (short_each 0 ss h)
+pub are_short : (ss : List Segment) → AreSegments 0 (segment_views ss) → All (λ s. length (segment_view s).content < 2 ^ 32) ss
+are_short ss h = All-from_recursion (λ s. length (segment_view s).content < 2 ^ 32) ss (short_each 0 ss h)

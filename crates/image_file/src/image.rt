@@ -1,17 +1,29 @@
-ghost use Rattle.std.specs.Prelude.{◌≡◌, ◌≤◌, vec_len};
+ghost use Rattle.std.specs.Prelude.{◌≡◌, ◌≤◌, length, vec_len};
 ghost use Rattle.image_model.specs.Image.{AreSegments, IsImage};
+ghost use Rattle.image_file.specs.View.{segment_view};
 
 use std::marker::Model;
 
-/// Bytes that stand from an address on. Each page that they touch gets the permission.
+/// Bytes that stand from an address on, and zeros behind them. Each page that they touch gets the permission.
 #[derive(Debug, Drop)]
 pub struct Segment {
     /// The address of the first byte.
     pub addr: u32,
     /// From 0 to 7: 1 allows reading, 2 writing, 4 executing.
     pub perm: u8,
-    /// At least one byte, and fewer than 2^32.
+    /// The bytes, up to the zeros.
     pub bytes: Vec<u8>,
+    /// How many zeros stand behind the bytes. Both are together at least one byte, and fewer than 2^32.
+    pub zeros: u32,
+}
+
+impl Segment {
+    /// How many bytes it has, the zeros too.
+    pub fn size(&self) -> u64
+        ensures { result ≡ length (segment_view self.now).content }
+    {
+        self.bytes.len() as u64 + u64::from(self.zeros)
+    }
 }
 
 /// An image of a root's memory: where the root begins, its stack pointer, and at most 64 segments.

@@ -112,6 +112,7 @@ fn segment_of(
             addr,
             perm,
             bytes: content,
+            zeros: 0,
         },
         rest,
     ))
@@ -158,7 +159,7 @@ fn segments_of(
     let mut rest = bytes;
     for _ in 0..count {
         let (segment, after) = segment_of(alloc, format, page, at, rest)?;
-        let count = segment.bytes.len() as u64;
+        let count = segment.size();
         at += 9 + count;
         page = ((u64::from(segment.addr) + count - 1) / u64::from(PAGE_SIZE) + 1) as u32;
         rest = after;

@@ -1,4 +1,4 @@
-ghost use Rattle.std.specs.Prelude.{◌≡◌, ◌<◌, ◌^◌, ◌++◌, length, OnOk, IfOk};
+ghost use Rattle.std.specs.Prelude.{◌≡◌, ◌<◌, ◌^◌, ◌++◌, length, replicate, OnOk, IfOk};
 ghost use Rattle.image_model.specs.Image as model;
 ghost use Rattle.image_model.specs.Image.{segment_bytes, image_bytes, ImageOf};
 ghost use Rattle.image_file.specs.View.{segment_view, segment_views};
@@ -8,14 +8,28 @@ use crate::image::{Image, Segment};
 use image_model::Format;
 use std::alloc::{AllocError, Global};
 
+fn put_zeros(out: &mut Vec<u8>, count: u32) -> Result<(), AllocError>
+    ensures { OnOk result (out.new.items ≡ out.old.items ++ replicate count 0) }
+{
+    let end = out.len() + count as usize;
+    out.resize(end, 0)
+}
+
+fn put_content(out: &mut Vec<u8>, segment: &Segment) -> Result<(), AllocError>
+    ensures { OnOk result (out.new.items ≡ out.old.items ++ (segment_view segment.now).content) }
+{
+    out.extend_from_slice(&segment.bytes)?;
+    put_zeros(out, segment.zeros)
+}
+
 fn put_segment(out: &mut Vec<u8>, format: Format, segment: &Segment) -> Result<(), AllocError>
-    requires { length segment.now.bytes.items < 2 ^ 32 }
+    requires { length (segment_view segment.now).content < 2 ^ 32 }
     ensures { OnOk result (out.new.items ≡ out.old.items ++ segment_bytes format (segment_view segment.now)) }
 {
     out.extend_from_slice(&segment.addr.to_le_bytes())?;
     out.push(permission_byte(format, segment.perm))?;
-    out.extend_from_slice(&(segment.bytes.len() as u32).to_le_bytes())?;
-    out.extend_from_slice(&segment.bytes)
+    out.extend_from_slice(&(segment.size() as u32).to_le_bytes())?;
+    put_content(out, segment)
 }
 
 fn has_all_permissions(format: Format, segments: &[Segment]) -> bool

@@ -181,6 +181,7 @@ fn all_segments(
             addr: base,
             perm: permission,
             bytes: content,
+            zeros: 0,
         })?;
     }
     Ok(segments)

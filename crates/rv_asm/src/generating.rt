@@ -112,6 +112,7 @@ fn code_segment(alloc: Global) -> Result<Segment, AllocError>
         addr: CODE,
         perm: READ_AND_EXECUTE,
         bytes,
+        zeros: 0,
     })
 }
 
@@ -124,6 +125,7 @@ fn data_segment(alloc: Global, seed: u32) -> Result<Segment, AllocError>
         addr: DATA,
         perm: EVERYTHING,
         bytes,
+        zeros: 0,
     })
 }
 
