@@ -8,7 +8,7 @@ use Rattle.clap.specs.ValueTests.{accepts}
 use Rattle.clap.specs.declared.builder.value_parser.ValueParser.TheVariants as vp
 use Rattle.clap.proofs.ValueTestLemmas.{accepts-Accepts}
 use Rattle.command_line.specs.declared.command.Command.{Command}
-use Rattle.command_line.specs.Line.{Engine, IsInRange, IsStaffed, asm, asm_line, bench_line, bench_with, Line, command_line, demand, engine_in, engine_named, engine_with, fuel_of, greatest_number, line_of, most_workers, number_in, pool, rounds, run_by, run_line, run_with, schedule, seed_of, walk_line, workers_of}
+use Rattle.command_line.specs.Line.{Engine, IsInRange, IsStaffed, asm, asm_line, bench_line, bench_with, Line, command_line, demand, engine_in, engine_named, engine_with, fuel_of, greatest_number, line_of, most_nodes, most_workers, nodes_of, number_in, pool, rounds, run_by, run_line, run_with, schedule, seed_of, walk_line, workers_of}
 
 pub number_bounds : (low high : ℕ) (t : List ℕ) (n : ℕ) → number_in low high t ≡ Some n → (low ≤ n) × (n ≤ high)
 unfolding number_in
@@ -48,22 +48,28 @@ bench_in_range (Some e) (Some n) h g =
     let b = h n refl in
     (omega arith, g)
 
--- the number of workers of an engine that has a name
+-- the numbers of workers and nodes of an engine that has a name
 staffed_if : (b : Bool) (e : Engine) (o : Option Engine) → IsStaffed e → IfSome o IsStaffed → IfSome (cond b (Some e) o) IsStaffed
 staffed_if true e o h k = h
 staffed_if false e o h k = k
 
-named_staffed : (n : ℕ) (t : Text) → (1 ≤ n) × (n ≤ most_workers) → IfSome (engine_named n t) IsStaffed
-named_staffed n t h =
-    staffed_if (bytes_eq t (codes "demand")) demand _ tt (staffed_if (bytes_eq t (codes "rounds")) rounds _ tt (staffed_if (bytes_eq t (codes "pool")) (pool n) None h tt))
+named_staffed : (n j : ℕ) (t : Text) → (1 ≤ n) × (n ≤ most_workers) × (1 ≤ j) × (j ≤ most_nodes) → IfSome (engine_named n j t) IsStaffed
+named_staffed n j t h =
+    staffed_if (bytes_eq t (codes "demand")) demand _ tt (staffed_if (bytes_eq t (codes "rounds")) rounds _ tt (staffed_if (bytes_eq t (codes "pool")) (pool n j) None h tt))
 
-with_staffed : (workers : Option ℕ) (name : Option Text) → ((n : ℕ) → workers ≡ Some n → (1 ≤ n) × (n ≤ most_workers)) → IfSome (engine_with workers name) IsStaffed
-with_staffed None name h = tt
-with_staffed (Some n) None h = tt
-with_staffed (Some n) (Some t) h = named_staffed n t (h n refl)
+with_staffed : (workers nodes : Option ℕ) (name : Option Text) → ((n : ℕ) → workers ≡ Some n → (1 ≤ n) × (n ≤ most_workers)) → ((n : ℕ) → nodes ≡ Some n → (1 ≤ n) × (n ≤ most_nodes))
+    → IfSome (engine_with workers nodes name) IsStaffed
+with_staffed None nodes name h g = tt
+with_staffed (Some n) None name h g = tt
+with_staffed (Some n) (Some j) None h g = tt
+with_staffed (Some n) (Some j) (Some t) h g =
+    let a = h n refl in
+    let b = g j refl in
+    named_staffed n j t (a.0, a.1, b.0, b.1)
 
 in_staffed : (rows : List Row) → IfSome (engine_in rows) IsStaffed
-in_staffed rows = with_staffed (workers_of rows) (first_of (codes "engine") rows) (number_of_bounds 1 most_workers (one_of (codes "workers") rows))
+in_staffed rows =
+    with_staffed (workers_of rows) (nodes_of rows) (first_of (codes "engine") rows) (number_of_bounds 1 most_workers (one_of (codes "workers") rows)) (number_of_bounds 1 most_nodes (one_of (codes "nodes") rows))
 
 schedule_staffed : (name : Option Text) → IfSome (option_map (λ n. schedule n) name) IsStaffed
 schedule_staffed None = tt

@@ -1,7 +1,7 @@
 //! The commands as `clap` reads them.
 
 ghost use Rattle.std.specs.Prelude.{IfOk};
-ghost use Rattle.command_line.specs.Line.{IsApp, IsRule, asm_app, bench_app, engine_rule, fuel_rule, program_app, run_app, seed_rule, walk_app, workers_rule};
+ghost use Rattle.command_line.specs.Line.{IsApp, IsRule, asm_app, bench_app, engine_rule, fuel_rule, nodes_rule, program_app, run_app, seed_rule, walk_app, workers_rule};
 ghost use Rattle.command_line.specs.Line.{required_rule, flag as flag_rule, number as number_rule, required_number as required_number_rule};
 
 use clap::builder::ValueParser;
@@ -16,6 +16,9 @@ pub(crate) const GREATEST_SEED: u32 = 4_294_967_295;
 
 /// The most workers that a pool may have.
 pub(crate) const MOST_WORKERS: u32 = 64;
+
+/// The most nodes that a pool may have.
+pub(crate) const MOST_NODES: u32 = 64;
 
 fn number<'a>(alloc: Global, id: &'a str, low: u64, high: u64, value: &'a str) -> Arg<'a>
     ensures { IsRule result (number_rule id.entry.now low high value.entry.now) }
@@ -66,6 +69,13 @@ fn workers_argument<'a>(alloc: Global) -> Arg<'a>
     number(alloc, "workers", 1, u64::from(MOST_WORKERS), "4")
 }
 
+// `clap` reads it whatever the engine.
+fn nodes_argument<'a>(alloc: Global) -> Arg<'a>
+    ensures { IsRule result nodes_rule }
+{
+    number(alloc, "nodes", 1, u64::from(MOST_NODES), "1")
+}
+
 fn seed_argument<'a>(alloc: Global) -> Arg<'a>
     ensures { IsRule result seed_rule }
 {
@@ -77,6 +87,7 @@ fn run_command<'a>(alloc: Global) -> Result<Command<'a>, AllocError>
 {
     let engine = engine_argument(alloc);
     let workers = workers_argument(alloc);
+    let nodes = nodes_argument(alloc);
     let fuel = fuel_argument(alloc);
     let digest = flag(alloc, "digest");
     let image = required_argument(alloc, "image");
@@ -84,6 +95,7 @@ fn run_command<'a>(alloc: Global) -> Result<Command<'a>, AllocError>
     Command::new(alloc, "run")
         .arg(engine)?
         .arg(workers)?
+        .arg(nodes)?
         .arg(fuel)?
         .arg(digest)?
         .arg(image)?
@@ -116,10 +128,12 @@ fn bench_command<'a>(alloc: Global) -> Result<Command<'a>, AllocError>
 {
     let engine = engine_argument(alloc);
     let workers = workers_argument(alloc);
+    let nodes = nodes_argument(alloc);
     let seed = seed_argument(alloc);
     Command::new(alloc, "bench")
         .arg(engine)?
         .arg(workers)?
+        .arg(nodes)?
         .arg(seed)
 }
 

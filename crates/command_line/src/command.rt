@@ -43,6 +43,8 @@ pub enum Engine<'a> {
     Pool {
         /// How many workers there are: from 1 to 64, or 4 where `--workers` is not given.
         workers: u32,
+        /// How many nodes the workers serve: from 1 to 64, or 1 where `--nodes` is not given.
+        nodes: u32,
     },
     /// First the events of a schedule, by the schedule's file name, and then whatever is left to run: the word `walk`.
     Schedule(&'a str),

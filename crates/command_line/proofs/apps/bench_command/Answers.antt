@@ -10,4 +10,5 @@ unfolding bench_app
 returns c =
     let one = arg_added _ _ (new_app (codes "bench")) _ _ c.in_ok-arg.ensures (c.new.ensures.app, c.new.ensures.local) c.engine_argument-engine.ensures in
     let two = arg_added _ _ _ _ _ c.in_ok-arg-2.ensures one c.workers_argument-workers.ensures in
-    IfOk-weaker c.arg-3.result _ _ (λ r adds. arg_added _ r _ _ _ adds two c.seed_argument-seed.ensures) c.arg-3.ensures
+    let three = arg_added _ _ _ _ _ c.in_ok-arg-3.ensures two c.nodes_argument-nodes.ensures in
+    IfOk-weaker c.arg-4.result _ _ (λ r adds. arg_added _ r _ _ _ adds three c.seed_argument-seed.ensures) c.arg-4.ensures
