@@ -50,7 +50,7 @@ pub(crate) fn read_plan<L: Loader>(
     match engine {
         Engine::Demand => Ok(Plan::Demand),
         Engine::Rounds => Ok(Plan::Rounds),
-        Engine::Pool { workers } => Ok(Plan::Pool(staff_of(workers))),
+        Engine::Pool { workers, nodes } => Ok(Plan::Pool(staff_of(workers, nodes))),
         Engine::Schedule(name) => {
             let paths = load_as::<L, Vec<Path>>(alloc, files, name)?;
             Ok(Plan::Schedule(paths))
