@@ -27,3 +27,8 @@ rest_of (p ∷ ps) = ps
 pub record IsFirst (p : List ℕ) (ps : Paths) : Type 0 where
   pub first : ps ≡ p ∷ rest_of ps
   pub least : (q : List ℕ) → Has ps q → (q ≡ p) ⊎ IsBefore p q
+
+-- p was the first, and is taken out: each that is left comes behind it
+pub record IsTakenFrom (p : List ℕ) (old new : Paths) : Type 0 where
+  pub first : old ≡ p ∷ new
+  pub behind : (q : List ℕ) → Has new q → IsBefore p q

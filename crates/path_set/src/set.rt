@@ -1,5 +1,5 @@
-ghost use Rattle.std.specs.Prelude.{◌≡◌, ◌≢◌, ◌⊎◌, ℕ, true, [], List, IfSome, IsNone, OnOk, OnErr};
-ghost use Rattle.path_set.specs.Paths.{Has, IsFirst, rest_of};
+ghost use Rattle.std.specs.Prelude.{◌≡◌, ◌≢◌, ◌⊎◌, ℕ, true, [], List, length, IfSome, IsNone, OnOk, OnErr};
+ghost use Rattle.path_set.specs.Paths.{Has, IsFirst, IsTakenFrom, rest_of};
 
 use arrayvec::ArrayVec;
 use std::alloc::{AllocError, Global};
@@ -47,6 +47,23 @@ impl PathSet {
         ensures { self.new ≡ rest_of self.old }
     {
         self.paths.pop_first();
+    }
+
+    /// Takes the first path out, where there is one, and gives it. It takes no memory.
+    #[tactic(auto, using(crate::proofs::Firsts::is_taken))]
+    pub fn take_first(&mut self) -> Option<ArrayVec<u16, 8>>
+        ensures some { IfSome result (λ p. IsTakenFrom p.items self.old self.new) }
+        ensures none { IsNone result → self.old ≡ [] }
+    {
+        self.paths.pop_first()
+    }
+
+    /// How many paths there are.
+    #[tactic(auto, using(crate::proofs::Firsts::as_many))]
+    pub fn len(&self) -> usize
+        ensures { result ≡ length self.now }
+    {
+        self.paths.len()
     }
 
     /// Whether a path is there.

@@ -1,0 +1,7 @@
+//! The spaces that are not on their home nodes.
+#![tactic(auto)]
+
+mod going;
+mod places;
+
+pub use places::Places;
