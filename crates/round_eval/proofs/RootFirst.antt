@@ -1,7 +1,8 @@
 -- Rounds in which the root goes on by itself, and what they write to its console.
-use Rattle.std.proofs.Common.{◌≡◌, ℕ, zero, suc, ◌+◌, ◌*◌, ◌-◌, ◌≤◌, ◌<◌, Bool, true, false, List, [], ◌∷◌, ◌++◌, length, Option, Some, None, Result, Ok, Err, IfOk, OnErr, refl, sym, ◌∙◌, ap, subst, arith}
+use Rattle.std.proofs.Common.{◌≡◌, ℕ, zero, suc, ◌+◌, ◌*◌, ◌-◌, ◌≤◌, ◌<◌, Bool, true, false, ◌||◌, List, [], ◌∷◌, ◌++◌, length, append_assoc, length-append, Option, Some, None, Result, Ok, Err, IfOk, OnErr, refl, sym, ◌∙◌, ap, subst, arith}
 use Rattle.std.specs.Prelude.{nat_lt, cond}
 use Rattle.std.proofs.lemmas.Bool.Decides.{nat_tests}
+use Rattle.std.proofs.lemmas.List.{append-nil}
 use Rattle.call_model.specs.declared.Call.{Call}
 use Rattle.det_host.specs.Writing.{Output, StopsWithin, TakesPrefix}
 use Rattle.space_model.specs.Stop.{is_stopped}
@@ -10,7 +11,7 @@ use Rattle.space_model.specs.Beginning.{fresh_top}
 use Rattle.space_model.specs.Path.{replace_top}
 use Rattle.space_model.specs.Sound.{IsSound}
 use Rattle.space_model.specs.Event.{NextEvent, rests, moves, meets, next, Follows}
-use Rattle.run_model.specs.Console.{console_in}
+use Rattle.run_model.specs.Console.{console_in, most_output}
 use Rattle.run_model.specs.Demand.{settle_tree}
 use Rattle.run_model.specs.Schedule.{is_enabled, may_happen, ready_call, call_at, step, where_some, event, try_meet}
 use Rattle.run_model.proofs.Console.{call_devices}
@@ -19,18 +20,48 @@ use Rattle.report_model.specs.Report.{console_of}
 use Rattle.det_laws.specs.Leads.{Leads}
 use Rattle.demand_eval.specs.Streams.{Begins, Lags, Writes}
 use Rattle.demand_eval.proofs.Streams.{begins_then, lags_then, writes_then}
+use Rattle.space_step.specs.Output.{GoesWithOutput}
+use Rattle.round_eval.specs.Apart.{Shows, WentWriting}
 use Rattle.round_eval.specs.Later.{IsLater}
-use Rattle.round_eval.proofs.Later.{later_settles, later_sound, went}
+use Rattle.round_eval.proofs.Later.{later_settles, later_sound, then_more, went}
 use Rattle.round_eval.proofs.Onward.{here_reaches}
 
 -- the root goes on
 pub root_went : (n : ℕ) (t u : Top) (s : Space) (cs : Children) → space t cs ≡ s → Follows 8 n t u → IsLater (nat_lt 0 n) s (space u cs)
 root_went n t u s cs is f = went s (space u cs) n (nat_lt 0 n) (here_reaches 8 n t u s cs is f) (λ some. grind (arith, nat_tests))
 
-pub root_wrote : (t u : Top) (cs : Children) (s : Space) (written ready output : List ℕ) → space t cs ≡ s → console_in u ≡ console_in t ++ written → ready ≡ [] → output ≡ ready ++ written
-    → console_of (space u cs) ≡ console_of s ++ output
-root_wrote t u cs s written ready output is wrote none appended =
-    wrote ∙ ap (λ l. console_in t ++ l) (sym (appended ∙ ap (λ l. l ++ written) none)) ∙ ap (λ (r : Space). console_of r ++ output) is
+-- and what it writes
+pub wrote_within : (quantum n enough : ℕ) (ready output : List ℕ) (t u : Top) → GoesWithOutput 8 enough n ready output t u → ready ≡ [] → length output < enough + most_output → enough + most_output ≡ quantum * most_output + 1
+    → WentWriting quantum n output t u
+wrote_within quantum n enough ready output t u goes none bound within =
+    let all : output ≡ goes.written = goes.appended ∙ ap (λ l. l ++ goes.written) none in
+    record { follows = goes.follows; console = goes.console ∙ ap (λ l. console_in t ++ l) (sym all); few = omega (arith, bound, within) }
+
+pub root_shows : (events n : ℕ) (t u : Top) (s : Space) (cs : Children) (written ready output : List ℕ) → space t cs ≡ s → WentWriting events n written t u → output ≡ ready ++ written → Shows events ready output s (space u cs)
+root_shows events n t u s cs written ready output is w appended = record { more = written; console = w.console ∙ ap (λ (r : Space). console_of r ++ written) is; appended = appended; few = w.few }
+
+-- nothing is written
+pub shows_quiet : (events : ℕ) (ready : List ℕ) (s t : Space) → console_of t ≡ console_of s → Shows events ready ready s t
+shows_quiet events ready s t same = record { more = []; console = same ∙ sym (append-nil (console_of s)); appended = sym (append-nil ready); few = omega arith }
+
+-- some events, and some more
+pub shows_then : (a b events : ℕ) (ready now output : List ℕ) (s t u : Space) → a + b ≤ events → Shows a ready now s t → Shows b now output t u → Shows events ready output s u
+shows_then a b events ready now output s t u within first then = record {
+  more = first.more ++ then.more;
+  console = then.console ∙ ap (λ l. l ++ then.more) first.console ∙ append_assoc (console_of s) first.more then.more;
+  appended = then.appended ∙ ap (λ l. l ++ then.more) first.appended ∙ append_assoc ready first.more then.more;
+  few = omega (arith, within, first.few, then.few, length-append first.more then.more);
+}
+
+-- some events, and then others that write nothing
+pub shows_still : (events : ℕ) (ready output : List ℕ) (s t u : Space) → Shows events ready output s t → console_of u ≡ console_of t → Shows events ready output s u
+shows_still events ready output s t u shows same = record { more = shows.more; console = same ∙ shows.console; appended = shows.appended; few = shows.few }
+
+-- all of it, where nothing was ready
+pub shows_all : (events : ℕ) (ready output : List ℕ) (s t : Space) → ready ≡ [] → Shows events ready output s t → (console_of t ≡ console_of s ++ output) × (length output ≤ events * most_output)
+shows_all events ready output s t none shows =
+    let all : output ≡ shows.more = shows.appended ∙ ap (λ l. l ++ shows.more) none in
+    (shows.console ∙ ap (λ l. console_of s ++ l) (sym all), subst (λ l. length l ≤ events * most_output) (sym all) shows.few)
 
 -- a call of the root leaves its console
 after_call : (t : Top) (cs : Children) (x : NextEvent) (done : Bool) → next 8 t ≡ x → console_of (event 8 x (space t cs)) ≡ console_of (space t cs) → console_of (where_some (ready_call x cs) (event 8 x (space t cs)) (space t cs)) ≡ console_of (space t cs)
@@ -72,6 +103,21 @@ went_below some fuel t u w cs ds s r is fresh later end =
 pub round_back : (some : Bool) (fuel : ℕ) (t t' u u' w : Top) (cs ds : Children) (s r : Space) → space t cs ≡ s → t' ≡ t → u' ≡ u → u ≡ fresh_top fuel → IsLater some (space u' cs) r → space w ds ≡ r
     → IsLater some s (space t' ds)
 round_back some fuel t t' u u' w cs ds s r is same put fresh later end = went_below some fuel t' u' w cs ds s r (ap (λ v. space v cs) same ∙ is) (put ∙ fresh) later end
+
+-- and a round below it while it goes on in a thread of its own
+pub went_beside : (below : Bool) (n fuel : ℕ) (t t' u u' v w : Top) (cs ds : Children) (s r : Space) → space t cs ≡ s → t' ≡ t → u' ≡ u → u ≡ fresh_top fuel → Follows 8 n t' v → IsLater below (space u' cs) r → space w ds ≡ r
+    → IsLater (nat_lt 0 n || below) s (space v ds)
+went_beside below n fuel t t' u u' v w cs ds s r is same put fresh follows later end =
+    let first = root_went n t' v s cs (ap (λ x. space x cs) same ∙ is) follows in
+    then_more (nat_lt 0 n) below s (space v cs) (space v ds) first (went_below below fuel v u' w cs ds (space v cs) r refl (put ∙ fresh) later end)
+
+pub either_later : (a b r : Bool) (s t : Space) → r ≡ (a || b) → IsLater (a || b) s t → IsLater r s t
+either_later a b r s t is later = subst (λ x. IsLater x s t) (sym is) later
+
+pub beside_shows : (events n : ℕ) (t t' v : Top) (cs ds : Children) (s : Space) (written ready output : List ℕ) → space t cs ≡ s → t' ≡ t → WentWriting events n written t' v → output ≡ ready ++ written
+    → Shows events ready output s (space v ds)
+beside_shows events n t t' v cs ds s written ready output is same w appended =
+    record { more = written; console = w.console ∙ ap (λ x. console_in x ++ written) same ∙ ap (λ (r : Space). console_of r ++ written) is; appended = appended; few = w.few }
 
 pub below_quiet : (t : Top) (cs ds : Children) (s : Space) → space t cs ≡ s → console_of (space t ds) ≡ console_of s
 below_quiet t cs ds s is = ap console_of is

@@ -1,3 +1,4 @@
 pub mod Jobs
 pub mod Later
 pub mod Begun
+pub mod Apart

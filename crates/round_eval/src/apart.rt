@@ -1,16 +1,16 @@
-ghost use Rattle.std.specs.Prelude.{◌≡◌, ◌+◌, ◌*◌, ◌≤◌, ◌++◌, [], length, IfOk, OnOk};
-ghost use Rattle.call_model.specs.declared.limits.TheConstants.{GREATEST_LENGTH};
+ghost use Rattle.std.specs.Prelude.{◌≡◌, ◌*◌, ◌≤◌, ◌++◌, ◌||◌, [], length, IfOk, OnOk};
 ghost use Rattle.space_model.specs.Space.{Space};
 ghost use Rattle.report_model.specs.Report.{console_of};
 ghost use Rattle.run_model.specs.Console.{most_output};
+ghost use Rattle.round_eval.specs.Apart.{Shows};
 ghost use Rattle.round_eval.specs.Later.{IsLater};
 
+use crate::beside::{RootDone, begin_root, end_root, run_root};
 use crate::engine::Engine;
-use crate::running::next_round;
+use crate::hints::Hints;
+use crate::round::round;
 use arrayvec::ArrayVec;
-use call_model::limits::GREATEST_LENGTH;
 use det_core::meet;
-use space_step::{Advance, advance_with_output};
 use space_tree::{Space, Top};
 use std::alloc::AllocError;
 use std::mem;
@@ -19,77 +19,47 @@ use std::thread::Threads;
 // The fuel of a top that stands in another's place. It is never run.
 const NO_MATTER: u32 = 1;
 
-// How many bytes are enough, so that what an event writes beyond them is within what a quantum of events may write.
-fn enough_of(quantum: u32) -> usize
-    requires { 1 ≤ quantum }
-    ensures { result + most_output ≡ quantum * most_output + 1 }
+// For how many events a root goes on in its place before the spaces below it go on beside it.
+const TRIAL: u32 = 2048;
+
+// Whether one of the two is so.
+fn either(first: bool, second: bool) -> bool
+    ensures { result ≡ (first || second) }
 {
-    (quantum as usize - 1) * GREATEST_LENGTH as usize + 1
+    first || second
 }
 
-// The root goes on for the quantum at most; what it writes to its console is appended to the output. It answers whether there was an event.
-#[tactic(auto, using(crate::proofs::RootFirst::root_went))]
+// Appends what was written to what is ready.
+fn append(output: &mut Vec<u8>, written: Vec<u8>) -> Result<(), AllocError>
+    ensures { OnOk result (output.new.items ≡ output.old.items ++ written.items) }
+{
+    if output.is_empty() {
+        *output = written;
+        return Ok(());
+    }
+    output.extend_from_slice(&written)
+}
+
+// The root goes on in its place, for so many events at most. It answers whether there was one, and keeps whether there were as many.
+#[tactic(auto, using(crate::proofs::RootFirst::root_went, crate::proofs::RootFirst::root_shows))]
 fn advance_root(
     engine: &mut Engine,
     space: &mut Space,
-    quantum: u32,
+    events: u32,
     output: &mut Vec<u8>,
 ) -> Result<bool, AllocError>
-    requires quantum { 1 ≤ quantum }
-    requires empty { output.old.items ≡ [] }
+    requires { 1 ≤ events }
     ensures ok { IfOk result (λ some. IsLater some space.old space.new) }
-    ensures console { OnOk result (console_of space.new ≡ console_of space.old ++ output.new.items) }
-    ensures bound { OnOk result (length output.new.items ≤ quantum * most_output) }
+    ensures shows { OnOk result (Shows events output.old.items output.new.items space.old space.new) }
 {
-    let enough = enough_of(quantum);
-    let Advance { ran, next } = advance_with_output(
-        &mut space.top,
-        0,
-        quantum,
-        &mut engine.cache,
-        output,
-        enough,
-    )?;
-    match next {
-        Some(_) => Ok(ran > 0),
-        None => Err(AllocError),
-    }
+    let mut written = Vec::new(engine.alloc);
+    let (ran, came_through) = run_root(&mut space.top, events, &mut engine.cache, &mut written)?;
+    engine.root_runs = came_through;
+    append(output, written)?;
+    Ok(ran > 0)
 }
 
-// The call of the root meets its children, where its time has come.
-fn meet_root(engine: &mut Engine, space: &mut Space) -> Result<bool, AllocError>
-    ensures ok { IfOk result (λ some. IsLater some space.old space.new) }
-    ensures console { OnOk result (console_of space.new ≡ console_of space.old) }
-{
-    let root = ArrayVec::new();
-    match meet(engine.alloc, space, &root)? {
-        Some(call) => {
-            engine.hints.met(root, call)?;
-            Ok(true)
-        }
-        None => Ok(false),
-    }
-}
-
-// The root goes on for the quantum at most, and then its call meets its children, where its time has come.
-fn go_root(
-    engine: &mut Engine,
-    space: &mut Space,
-    quantum: u32,
-    output: &mut Vec<u8>,
-) -> Result<bool, AllocError>
-    requires quantum { 1 ≤ quantum }
-    requires empty { output.old.items ≡ [] }
-    ensures ok { IfOk result (λ some. IsLater some space.old space.new) }
-    ensures console { OnOk result (console_of space.new ≡ console_of space.old ++ output.new.items) }
-    ensures bound { OnOk result (length output.new.items ≤ quantum * most_output) }
-{
-    let went = advance_root(engine, space, quantum, output)?;
-    let met = meet_root(engine, space)?;
-    Ok(went || met)
-}
-
-// A round of the spaces below the root, whose top is out of the tree meanwhile: one that has stopped stands in its place.
+// A round, where the hints say, of the spaces below the root, whose top is out of the tree meanwhile: one that has stopped stands in its place.
 fn round_below(
     rt: &(impl Threads + Sync),
     engine: &mut Engine,
@@ -100,14 +70,153 @@ fn round_below(
 {
     let place = Top::fresh(engine.alloc, NO_MATTER);
     let root = mem::replace(&mut space.top, place);
-    let some = next_round(rt, engine, space)?;
+    let some = round(rt, engine, space)?;
     space.top = root;
     Ok(some)
 }
 
-/// One round in which the root goes on by itself: for the quantum at most, and then its call meets its children, where its time has come; then the spaces
-/// below it have a round. What the root writes to its console is appended to the output. It answers whether there was an event. The
-/// one error is want of memory.
+// As `round_below`, while the root goes on in a thread of its own, for so many events at most.
+fn round_beside(
+    rt: &(impl Threads + Sync),
+    engine: &mut Engine,
+    space: &mut Space,
+    events: u32,
+    output: &mut Vec<u8>,
+) -> Result<bool, AllocError>
+    requires { 1 ≤ events }
+    ensures ok { IfOk result (λ some. IsLater some space.old space.new) }
+    ensures shows { OnOk result (Shows events output.old.items output.new.items space.old space.new) }
+{
+    let place = Top::fresh(engine.alloc, NO_MATTER);
+    let root = mem::replace(&mut space.top, place);
+    let begun = begin_root(rt, engine.alloc, root, events);
+    let below = round(rt, engine, space);
+    let RootDone {
+        top,
+        ran,
+        came_through,
+        output: written,
+    } = end_root(rt, begun)?;
+    let some = below?;
+    space.top = top;
+    engine.root_runs = came_through;
+    append(output, written)?;
+    Ok(either(ran > 0, some))
+}
+
+// Behind its first events a root that goes on does so for so many more at most: beside the spaces below it, where some of them run. Where it does not go on, they have a round.
+#[tactic(auto, using(crate::proofs::RootFirst::shows_quiet))]
+fn go_further(
+    rt: &(impl Threads + Sync),
+    engine: &mut Engine,
+    space: &mut Space,
+    events: u32,
+    output: &mut Vec<u8>,
+) -> Result<bool, AllocError>
+    ensures ok { IfOk result (λ some. IsLater some space.old space.new) }
+    ensures shows { OnOk result (Shows events output.old.items output.new.items space.old space.new) }
+{
+    if events == 0 || !engine.root_runs {
+        let some = round_below(rt, engine, space)?;
+        return Ok(some);
+    }
+    if engine.hints.some_run() {
+        engine.hints.hurry();
+        round_beside(rt, engine, space, events, output)
+    } else {
+        advance_root(engine, space, events, output)
+    }
+}
+
+// The root goes on for the quantum at most, and the spaces below it have a round.
+fn go_all(
+    rt: &(impl Threads + Sync),
+    engine: &mut Engine,
+    space: &mut Space,
+    quantum: u32,
+    output: &mut Vec<u8>,
+) -> Result<bool, AllocError>
+    requires { 1 ≤ quantum }
+    ensures ok { IfOk result (λ some. IsLater some space.old space.new) }
+    ensures shows { OnOk result (Shows quantum output.old.items output.new.items space.old space.new) }
+{
+    let first = quantum.min(TRIAL);
+    let went = advance_root(engine, space, first, output)?;
+    let more = go_further(rt, engine, space, quantum - first, output)?;
+    Ok(went || more)
+}
+
+// The call of the root meets its children, where its time has come.
+fn meet_root(engine: &mut Engine, space: &mut Space) -> Result<bool, AllocError>
+    ensures ok { IfOk result (λ some. IsLater some space.old space.new) }
+    ensures console { OnOk result (console_of space.new ≡ console_of space.old) }
+{
+    let root = ArrayVec::new();
+    match meet(engine.alloc, space, &root)? {
+        Some(call) => {
+            engine.hints.met_below(&root, call)?;
+            engine.hints.hurry();
+            Ok(true)
+        }
+        None => Ok(false),
+    }
+}
+
+// A round where the hints say, and then the call of the root meets its children.
+fn round_hinted(
+    rt: &(impl Threads + Sync),
+    engine: &mut Engine,
+    space: &mut Space,
+    quantum: u32,
+    output: &mut Vec<u8>,
+) -> Result<bool, AllocError>
+    requires { 1 ≤ quantum }
+    ensures ok { IfOk result (λ some. IsLater some space.old space.new) }
+    ensures shows { OnOk result (Shows quantum output.old.items output.new.items space.old space.new) }
+{
+    let went = go_all(rt, engine, space, quantum, output)?;
+    let met = meet_root(engine, space)?;
+    Ok(went || met)
+}
+
+// As `round_below`, where a search of the tree says.
+fn search_below(
+    rt: &(impl Threads + Sync),
+    engine: &mut Engine,
+    space: &mut Space,
+) -> Result<bool, AllocError>
+    ensures ok { IfOk result (λ some. IsLater some space.old space.new) }
+    ensures console { OnOk result (console_of space.new ≡ console_of space.old) }
+{
+    engine.hints = Hints::search(engine.alloc, space)?;
+    round_below(rt, engine, space)
+}
+
+// A round where the hints say, and where it finds nothing, one below the root where a search of the tree says.
+#[tactic(auto, using(crate::proofs::Later::then_second, crate::proofs::RootFirst::shows_still))]
+fn round_found(
+    rt: &(impl Threads + Sync),
+    engine: &mut Engine,
+    space: &mut Space,
+    quantum: u32,
+    output: &mut Vec<u8>,
+) -> Result<bool, AllocError>
+    requires { 1 ≤ quantum }
+    ensures ok { IfOk result (λ some. IsLater some space.old space.new) }
+    ensures shows { OnOk result (Shows quantum output.old.items output.new.items space.old space.new) }
+{
+    let hinted = round_hinted(rt, engine, space, quantum, output)?;
+    if hinted {
+        return Ok(hinted);
+    }
+    let found = search_below(rt, engine, space)?;
+    Ok(found)
+}
+
+/// One round in which the root goes on apart: for the quantum at most, first by itself and then beside the spaces below it, which have a round as they do in `rounds`; then its
+/// call meets its children, where its time has come. What the root writes to its console is put into the output, which is empty. Where the hints say
+/// of no event, all of the tree is looked at. It answers whether there was an event. The one error is want of memory.
+#[tactic(auto, using(crate::proofs::RootFirst::shows_all))]
 pub(crate) fn round_apart(
     rt: &(impl Threads + Sync),
     engine: &mut Engine,
@@ -121,7 +230,6 @@ pub(crate) fn round_apart(
     ensures console { OnOk result (console_of space.new ≡ console_of space.old ++ output.new.items) }
     ensures bound { OnOk result (length output.new.items ≤ quantum * most_output) }
 {
-    let went = go_root(engine, space, quantum, output)?;
-    let went_below = round_below(rt, engine, space)?;
-    Ok(went || went_below)
+    let some = round_found(rt, engine, space, quantum, output)?;
+    Ok(some)
 }

@@ -22,6 +22,8 @@ pub(crate) struct Engine {
     pub(crate) cache: DecodeCache,
     /// Where to look next.
     pub(crate) hints: Hints,
+    /// Where the root goes on apart: whether it came through the events that it had last.
+    pub(crate) root_runs: bool,
 }
 
 impl Engine {
@@ -42,6 +44,7 @@ impl Engine {
             processors: processors(rt),
             cache,
             hints,
+            root_runs: false,
         })
     }
 }

@@ -105,8 +105,8 @@ impl Hints {
         Ok(())
     }
 
-    /// A call has met its children: its caller goes on, and those that it waited for may run.
-    pub(crate) fn met(&mut self, path: Path, call: AcceptedCall) -> Result<(), AllocError> {
+    /// A call of the space at a path has met its children: those that it waited for may run.
+    pub(crate) fn met_below(&mut self, path: &Path, call: AcceptedCall) -> Result<(), AllocError> {
         let all = awaits(call.call());
         for index in 0..all.len() {
             let awaited = all.get(index);
@@ -115,7 +115,18 @@ impl Hints {
                 self.runs(child, false)?;
             }
         }
+        Ok(())
+    }
+
+    /// As `met_below`, and its caller goes on.
+    pub(crate) fn met(&mut self, path: Path, call: AcceptedCall) -> Result<(), AllocError> {
+        self.met_below(&path, call)?;
         self.runs(path, false)
+    }
+
+    /// Whether a space may run.
+    pub(crate) fn some_run(&self) -> bool {
+        !self.running.is_empty()
     }
 
     /// How many events a turn has, which is of several quanta where nobody waits.
@@ -123,6 +134,11 @@ impl Hints {
         ensures { quantum ≤ result }
     {
         quantum.saturating_mul(self.quanta).max(quantum)
+    }
+
+    /// The next turns are of a single quantum: somebody waits.
+    pub(crate) fn hurry(&mut self) {
+        self.quanta = 1;
     }
 
     /// The turns of a round are over. Where all came through theirs, the next have twice as many quanta, up to 16; where one did not, a single one again.

@@ -4,6 +4,7 @@
 
 mod apart;
 mod begun;
+mod beside;
 mod engine;
 mod going;
 mod hints;

@@ -12,9 +12,9 @@ use space_tree::Space;
 use std::alloc::{AllocError, Global};
 use std::thread::Threads;
 
-/// A round where the hints say, and where it finds nothing, one where a search of the tree says.
+// A round where the hints say, and where it finds nothing, one where a search of the tree says.
 #[tactic(auto, using(crate::proofs::Later::then_second))]
-pub(crate) fn next_round(
+fn next_round(
     rt: &(impl Threads + Sync),
     engine: &mut Engine,
     space: &mut Space,
