@@ -104,8 +104,7 @@ fn write_as_it_grows<O: Sink>(
     }
 }
 
-/// Brings a root to its end by a plan, and writes its console: as it grows; in rounds and where the plan is of workers, at the end. (A round that writes looks at
-/// all children of its root, so a root that makes thousands would wait for each of them.)
+/// Brings a root to its end by a plan, and writes its console: as it grows, and where the plan is of workers, at the end.
 pub(crate) fn show_console<F: Fn(Booted) -> Result<Space, AllocError>, O: Sink>(
     rt: &(impl Threads + Sync),
     settle: &F,
@@ -119,7 +118,7 @@ pub(crate) fn show_console<F: Fn(Booted) -> Result<Space, AllocError>, O: Sink>(
     ensures later { O.faults out.old ≤ O.faults out.new }
 {
     match booted.plan {
-        Plan::Pool(_) | Plan::Rounds => settle_then_write(settle, alloc, booted, out),
+        Plan::Pool(_) => settle_then_write(settle, alloc, booted, out),
         _ => write_as_it_grows(rt, alloc, booted, out),
     }
 }
