@@ -65,7 +65,7 @@ fn reach(start: u64, end: u64, load: &Load<'_>) -> u64
     ensures beyond { (a : ℕ) → start + result ≤ a → a < end → (nat_le load.now.address a && nat_lt a (load.now.address + length load.now.content.now)) ≡ false }
 {
     let address = u64::from(load.address);
-    if end <= address {
+    if load.content.is_empty() || end <= address {
         return 0;
     }
     end.min(address + load.content.len() as u64)
