@@ -113,3 +113,44 @@ fn own_pages(rt: HostRuntime) -> Result<(), Fail> {
     assert_eq!(rt; (mem.next_dirty(0), snapshot.byte(0xa001)), (None, 7));
     Ok(())
 }
+
+// A memory of which seven pages are dirty, one more than stand in a list.
+fn with_seven_dirty(alloc: Global) -> Result<Mem, AllocError> {
+    let mut mem = Mem::new(alloc);
+    mem.mark(900_000)?;
+    mem.mark(3)?;
+    mem.mark(700)?;
+    mem.mark(64)?;
+    mem.mark(8)?;
+    mem.mark(130)?;
+    mem.mark(65)?;
+    Ok(mem)
+}
+
+#[test]
+fn seven_dirty_pages(rt: HostRuntime) -> Result<(), Fail> {
+    let mut mem = with_seven_dirty(rt.alloc())?;
+    let low = [mem.next_dirty(0), mem.next_dirty(4), mem.next_dirty(9)];
+    assert_eq!(rt; low, [Some(3), Some(8), Some(64)]);
+    mem.unmark(64)?;
+    mem.unmark(65)?;
+    let high = [mem.next_dirty(9), mem.next_dirty(131), mem.next_dirty(701)];
+    assert_eq!(rt; high, [Some(130), Some(700), Some(900_000)]);
+    assert_eq!(rt; mem.next_dirty(900_001), None);
+    Ok(())
+}
+
+#[test]
+fn few_dirty_pages(rt: HostRuntime) -> Result<(), Fail> {
+    let mut mem = Mem::new(rt.alloc());
+    mem.mark(64)?;
+    mem.mark(3)?;
+    mem.mark(64)?;
+    mem.write(0x5001, 7)?;
+    let dirty = [mem.next_dirty(0), mem.next_dirty(4), mem.next_dirty(6)];
+    assert_eq!(rt; dirty, [Some(3), Some(5), Some(64)]);
+    mem.unmark(64)?;
+    mem.unmark(3)?;
+    assert_eq!(rt; [mem.next_dirty(0), mem.next_dirty(6)], [Some(5), None]);
+    Ok(())
+}
