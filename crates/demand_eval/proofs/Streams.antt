@@ -8,35 +8,21 @@ use Rattle.space_model.specs.Sound.{IsSound, IsSoundAt}
 use Rattle.space_model.specs.Event.{next, rests, Follows}
 use Rattle.report_model.specs.Report.{console_of}
 use Rattle.run_model.specs.Demand.{of_children, run, settle_tree}
-use Rattle.run_model.specs.Console.{console_in}
-use Rattle.run_model.proofs.Console.{settled_begins}
+use Rattle.run_model.specs.Console.{console_in, most_output}
+use Rattle.run_model.proofs.Console.{event_grows, settled_begins}
 use Rattle.run_model.proofs.Sound.{run_sound}
 use Rattle.run_model.proofs.Fuel.{stopped_rests}
 use Rattle.run_model.proofs.Run.{run-run_on, run_on-rests, run-stops}
+use Rattle.space_step.specs.ToSink.{GoesPartlyTo, GoesTo, StopsAtLast}
+use Rattle.space_step.proofs.Following.{follows_more}
+use Rattle.space_step.proofs.ToSink.{prefix_then, take_past, takes_then}
 use Rattle.demand_eval.specs.Turns.{IsSoundBelow, with_everyone}
 use Rattle.demand_eval.specs.Streams.{StandsStill, Writes, Lags, Begins}
 use Rattle.demand_eval.proofs.Everyone.{run_then}
 use Rattle.demand_eval.proofs.Turns.{advanced_sound, run-follows}
 
--- bytes that are taken one after the other
-pub takes_then : (a b c : Option (List ℕ)) (xs ys : List ℕ) → Takes a b xs → Takes b c ys → Takes a c (xs ++ ys)
-takes_then None b c xs ys h g = tt
-takes_then (Some before) b c xs ys h g = subst (λ o. IfSome o (λ l. c ≡ Some (l ++ ys))) h g ∙ ap Some (append_assoc before xs ys)
-
 taken_same : (a b : Option (List ℕ)) (xs ys : List ℕ) → xs ≡ ys → Takes a b xs → Takes a b ys
 taken_same a b xs ys e h = subst (Takes a b) e h
-
-take_past : (xs ys : List ℕ) (n : ℕ) → take (length xs + n) (xs ++ ys) ≡ xs ++ take n ys
-take_past [] ys n = ap (λ k. take k ys) (omega arith)
-take_past (x ∷ xs) ys n =
-    let all : length (x ∷ xs) + n ≡ suc (length xs + n) = omega arith in
-    ap (λ k. take k (x ∷ (xs ++ ys))) all ∙ ap (λ l. x ∷ l) (take_past xs ys n)
-
-pub prefix_then : (a b c : Option (List ℕ)) (xs ys : List ℕ) → Takes a b xs → TakesPrefix b c ys → TakesPrefix a c (xs ++ ys)
-prefix_then None b c xs ys h g = tt
-prefix_then (Some before) b c xs ys h g =
-    let rest = subst (λ o. IfSome o (λ l. (n : ℕ) × (c ≡ Some (l ++ take n ys)))) h g in
-    (length xs + rest.0, rest.1 ∙ ap Some (append_assoc before xs (take rest.0 ys) ∙ ap (λ l. before ++ l) (sym (take_past xs ys rest.0))))
 
 prefix_same : (a b : Option (List ℕ)) (xs ys : List ℕ) → xs ≡ ys → TakesPrefix a b xs → TakesPrefix a b ys
 prefix_same a b xs ys e h = subst (TakesPrefix a b) e h
@@ -98,24 +84,32 @@ went_same n t u cs s is f = same_end s (space u cs) (run-follows 8 n t u cs f �
 pub went_writing : (t u : Top) (cs : Children) (s : Space) (more : List ℕ) → space t cs ≡ s → console_in u ≡ console_in t ++ more → console_of (space u cs) ≡ console_of s ++ more
 went_writing t u cs s more is wrote = wrote ∙ ap (λ (r : Space). console_of r ++ more) is
 
--- a sink that fails within what the last event wrote
-pub fails_behind : (most n : ℕ) (t u : Top) (cs : Children) (s : Space) (more : List ℕ) (o : Output) → IsSound s → space t cs ≡ s → Follows 8 n t u → console_in u ≡ console_in t ++ more
-    → length more ≤ most → StopsWithin o more → Lags most o s (space u cs)
-fails_behind most n t u cs s more o ok is f wrote few stops = record {
-  sound = went_sound n t u cs s ok is f;
-  same = went_same n t u cs s is f;
-  more = more;
-  begins = went_writing t u cs s more is wrote;
-  count = stops.0.0;
-  taken = stops.0.1.1;
-  not_all = stops.0.1.0;
-  near = omega (arith, few);
-  fault = stops.1;
-}
+-- a sink that failed within what the last event wrote
+pub stops_behind : (t u : Top) (cs : Children) (s : Space) (o : Output) → IsSound s → space t cs ≡ s → StopsAtLast 8 o t u → Lags most_output o s (space u cs)
+stops_behind t u cs s o ok is stops =
+    let f = follows_more 8 stops.before t stops.top u stops.follows stops.last in
+    let grows = event_grows 8 stops.top u stops.last in
+    let long = ap length (sym stops.wrote ∙ grows.1.1) in
+    let few : length stops.piece ≤ most_output = omega (arith, long, grows.1.0, length-append (console_in stops.top) stops.piece, length-append (console_in stops.top) grows.0) in
+    let wrote : console_in u ≡ console_in t ++ (stops.early ++ stops.piece) = stops.wrote ∙ ap (λ l. l ++ stops.piece) stops.console ∙ append_assoc (console_in t) stops.early stops.piece in
+    record {
+      sound = went_sound (stops.before + 1) t u cs s ok is f;
+      same = went_same (stops.before + 1) t u cs s is f;
+      more = stops.early ++ stops.piece;
+      begins = went_writing t u cs s (stops.early ++ stops.piece) is wrote;
+      count = length stops.early + stops.count;
+      taken = subst (Takes o.taken_before o.taken_after) (sym (take_past stops.early stops.piece stops.count)) stops.taken;
+      not_all = omega (arith, stops.not_all, length-append stops.early stops.piece);
+      near = omega (arith, few, length-append stops.early stops.piece);
+      fault = stops.fault;
+    }
 
-pub begins_behind : (n : ℕ) (t u : Top) (cs : Children) (s : Space) (more : List ℕ) (o : Output) → space t cs ≡ s → Follows 8 n t u → console_in u ≡ console_in t ++ more
-    → TakesPrefix o.taken_before o.taken_after more → Begins o s
-begins_behind n t u cs s more o is f wrote prefix = record { at = space u cs; same = went_same n t u cs s is f; more = more; begins = went_writing t u cs s more is wrote; prefix = prefix }
+pub begins_behind : (t u : Top) (cs : Children) (s : Space) (o : Output) → space t cs ≡ s → GoesPartlyTo 8 o t u → Begins o s
+begins_behind t u cs s o is part =
+    record { at = space u cs; same = went_same part.ran t u cs s is part.follows; more = part.written; begins = went_writing t u cs s part.written is part.console; prefix = part.prefix }
+
+pub writes_behind : (n : ℕ) (t u : Top) (cs : Children) (s : Space) (o : Output) → space t cs ≡ s → GoesTo 8 n o t u → Writes o s (space u cs)
+writes_behind n t u cs s o is goes = (goes.written, (went_writing t u cs s goes.written is goes.console, goes.taken))
 
 nothing_taken : (a : Option (List ℕ)) → TakesPrefix a a []
 nothing_taken None = tt
@@ -216,10 +210,6 @@ ran_same s r ran = same_end s r (ap (run 8) ran ∙ run_twice s)
 pub nothing_prefix : (a : Option (List ℕ)) (xs : List ℕ) → TakesPrefix a a xs
 nothing_prefix None xs = tt
 nothing_prefix (Some before) xs = (0, ap Some (sym (append-nil before)))
-
--- what was ready, where nothing was before
-pub wrote_as : (xs ys written ready output bytes : List ℕ) → ys ≡ xs ++ written → ready ≡ [] → output ≡ ready ++ written → bytes ≡ output → ys ≡ xs ++ bytes
-wrote_as xs ys written ready output bytes w e o b = w ∙ ap (λ l. xs ++ l) (sym (b ∙ o ∙ ap (λ l. l ++ written) e))
 
 -- what the sink has taken in all, whatever the answer
 pub prefix_in_all : {E : Type 0} (r : Result Space E) (a b c : Option (List ℕ)) (g h : ℕ) (s : Space) → Takes a b (console_of s) → IfOk r (λ t. t ≡ settle_tree s)

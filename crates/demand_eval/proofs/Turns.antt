@@ -11,7 +11,6 @@ use Rattle.space_model.proofs.Next.{next_meets, follows_sound}
 use Rattle.space_step.specs.declared.event.Next.{Next}
 use Rattle.space_step.specs.declared.event.Next.TheVariants as answers
 use Rattle.space_step.specs.Running.{Ended}
-use Rattle.space_step.specs.Output.{EndedWithOutput}
 use Rattle.run_model.specs.Demand.{run, left_of, of_children, wait_for}
 use Rattle.run_model.proofs.Fuel.{left_falls, stopped_rests}
 use Rattle.run_model.proofs.Run.{run_on, run-run_on, run_on-follows, run_on-rests, run_on-meets, meet_fuel, call_costs}
@@ -123,20 +122,20 @@ met_devices levels k (space t cs) w r waited is =
     ap (λ v. (top_of v).devices) here ∙ meet_devices levels k (after_payment t t) (wait_for (of_children levels) (awaits k) cs).children
 
 -- what is told of what is next
-pub told_next : (levels quantum enough ran : ℕ) (o : Option Next) (output : List ℕ) (t : Top) → EndedWithOutput levels quantum enough ran o output t → IsTold levels o t
-told_next levels quantum enough ran None output t h = tt
-told_next levels quantum enough ran (Some answers.Local) output t h = tt
-told_next levels quantum enough ran (Some (answers.Meet k)) output t h = h.1
-told_next levels quantum enough ran (Some answers.Stopped) output t h = h.1
+pub told_next : (levels quantum ran : ℕ) (o : Option Next) (t : Top) → Ended levels quantum ran o t → IsTold levels o t
+told_next levels quantum ran None t h = tt
+told_next levels quantum ran (Some answers.Local) t h = tt
+told_next levels quantum ran (Some (answers.Meet k)) t h = h.1
+told_next levels quantum ran (Some answers.Stopped) t h = h.1
 
 -- local events, and then the call that is next
-pub turned : (levels quantum enough ran : ℕ) (o : Option Next) (stopped : Bool) (output : List ℕ) (t u : Top) (cs : Children) (s r : Space) → IsSoundBelow levels s → space t cs ≡ s → Follows levels ran t u
-    → EndedWithOutput levels quantum enough ran o output u → Comes levels o stopped (space u cs) r → Turned levels stopped s r
-turned levels quantum enough ran None stopped output t u cs s r ok is f h c = absurd c
-turned levels quantum enough ran (Some answers.Local) stopped output t u cs s r ok is f h c =
-    rw c.0 (subst (GoesOn levels s) (sym c.1) (advanced levels ran t u cs s ok is f h.0))
-turned levels quantum enough ran (Some (answers.Meet k)) stopped output t u cs s r ok is f h c = rw c.0 (advanced_then levels ran t u cs s r is f c.1)
-turned levels quantum enough ran (Some answers.Stopped) stopped output t u cs s r ok is f h c = rw c.0 (c.1 ∙ advanced_stopped levels ran t u cs s is f h.1)
+pub turned : (levels quantum ran : ℕ) (o : Option Next) (stopped : Bool) (t u : Top) (cs : Children) (s r : Space) → IsSoundBelow levels s → space t cs ≡ s → Follows levels ran t u → 1 ≤ quantum
+    → Ended levels quantum ran o u → Comes levels o stopped (space u cs) r → Turned levels stopped s r
+turned levels quantum ran None stopped t u cs s r ok is f some h c = absurd c
+turned levels quantum ran (Some answers.Local) stopped t u cs s r ok is f some h c =
+    rw c.0 (subst (GoesOn levels s) (sym c.1) (advanced levels ran t u cs s ok is f (omega (arith, some, h))))
+turned levels quantum ran (Some (answers.Meet k)) stopped t u cs s r ok is f some h c = rw c.0 (advanced_then levels ran t u cs s r is f c.1)
+turned levels quantum ran (Some answers.Stopped) stopped t u cs s r ok is f some h c = rw c.0 (c.1 ∙ advanced_stopped levels ran t u cs s is f h.1)
 
 pub came_devices : (levels : ℕ) (o : Option Next) (stopped : Bool) (s r : Space) → Comes levels o stopped s r → KeepsDevices s r
 came_devices levels None stopped s r c = absurd c

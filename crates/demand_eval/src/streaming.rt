@@ -12,8 +12,8 @@ ghost use Rattle.demand_eval.specs.Turns.{Comes, IsSoundBelow, IsTold, Turned};
 
 use crate::console::write_console;
 use crate::running::{Runner, STRETCH, meet, settle_children};
-use det_host::{Sink, SinkError, write_all};
-use space_step::{DecodeCache, Next, advance_with_output};
+use det_host::{Sink, SinkError};
+use space_step::{DecodeCache, Next, advance_to};
 use space_tree::Space;
 use std::alloc::{AllocError, Global};
 
@@ -25,9 +25,6 @@ pub enum StreamFault {
     /// Memory ran out; the tree is given up.
     Memory,
 }
-
-// From how many bytes on the root stands still until they are written: any.
-const ENOUGH: usize = 1;
 
 // The call that is next of the root, if there is one. It says whether the root has stopped.
 fn meet_next(runner: &mut Runner, space: &mut Space, next: Option<Next>) -> Result<bool, AllocError>
@@ -45,8 +42,8 @@ fn meet_next(runner: &mut Runner, space: &mut Space, next: Option<Next>) -> Resu
     }
 }
 
-// Local events of the root, up to the first that writes to its console; what it wrote goes to the sink. Then the call that is next, if there is one. It
-// says whether the root has stopped.
+// Local events of the root; what each writes to its console goes to the sink before the next. Then the call that is next, if there is one. It says whether
+// the root has stopped.
 fn turn_root<O: Sink>(
     runner: &mut Runner,
     space: &mut Space,
@@ -59,20 +56,10 @@ fn turn_root<O: Sink>(
     ensures begins { OnErr result (Begins (output_of O.taken O.faults out.old out.new) space.old) }
     ensures later { O.faults out.old ≤ O.faults out.new }
 {
-    let mut output = Vec::new(runner.alloc);
-    let Ok(reached) = advance_with_output(
-        &mut space.top,
-        0,
-        STRETCH,
-        &mut runner.cache,
-        &mut output,
-        ENOUGH,
-    ) else {
-        return Err(SinkError::Memory);
+    let reached = match advance_to(&mut space.top, 0, STRETCH, &mut runner.cache, out) {
+        Ok(reached) => reached,
+        Err(error) => return Err(error),
     };
-    if let Err(error) = write_all(out, &output) {
-        return Err(error);
-    }
     match meet_next(runner, space, reached.next) {
         Ok(stopped) => Ok(stopped),
         Err(_) => Err(SinkError::Memory),

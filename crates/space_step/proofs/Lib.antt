@@ -12,3 +12,4 @@ pub mod Marking
 pub mod Leaving
 pub mod Told
 pub mod WithOutput
+pub mod ToSink

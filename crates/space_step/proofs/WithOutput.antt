@@ -66,7 +66,7 @@ went_on levels enough n m ready now more output t u v g few f w wrote is = recor
 }
 
 -- a console that has not grown is as it was
-not_grown : (levels m : ℕ) (u v : Top) → Follows levels m u v → length (console_in v) ≤ length (console_in u) → console_in v ≡ console_in u
+pub not_grown : (levels m : ℕ) (u v : Top) → Follows levels m u v → length (console_in v) ≤ length (console_in u) → console_in v ≡ console_in u
 not_grown levels m u v f h =
     let g = follows_grows levels m u v f in
     let long = ap length g.1.1 ∙ length-append (console_in u) g.0 in

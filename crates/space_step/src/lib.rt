@@ -12,6 +12,7 @@ mod run;
 mod running;
 mod source;
 mod stepping;
+mod streaming;
 mod stretch;
 
 pub use decode_cache::DecodeCache;
@@ -20,4 +21,5 @@ pub use output::advance_with_output;
 pub use peeking::peek;
 pub use run::{Run, run_local};
 pub use running::{advance, next};
+pub use streaming::advance_to;
 pub use trap_ret::AcceptedCall;

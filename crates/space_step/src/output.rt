@@ -17,14 +17,22 @@ const A1: usize = 11;
 
 const A2: usize = 12;
 
+/// The bytes that a1 and a2 name.
+pub(crate) fn copy_named(top: &Top) -> Result<Vec<u8>, AllocError>
+    requires { named_from top.now + named_length top.now ≤ 2 ^ 32 }
+    ensures { IfOk result (λ bytes. bytes.items ≡ named_bytes top.now) }
+{
+    let from = top.registers.x[A1];
+    let length = top.registers.x[A2];
+    top.memory.bytes(top.memory.allocator(), from, length)
+}
+
 // Appends the bytes that a1 and a2 name.
 fn append_named(top: &Top, output: &mut Vec<u8>) -> Result<(), AllocError>
     requires { named_from top.now + named_length top.now ≤ 2 ^ 32 }
     ensures { IfOk result (λ _. output.new.items ≡ output.old.items ++ named_bytes top.now) }
 {
-    let from = top.registers.x[A1];
-    let length = top.registers.x[A2];
-    let bytes = top.memory.bytes(top.memory.allocator(), from, length)?;
+    let bytes = copy_named(top)?;
     output.extend_from_slice(&bytes)?;
     Ok(())
 }
