@@ -1,8 +1,8 @@
-; COUNT times the same 64 bytes are written to the console.
+; COUNT times the same LENGTH bytes, at most 64, are written to the console.
 .segment 0x1000 1
         li s1, COUNT
         lui a1, 2
-        addi a2, zero, 64
+        addi a2, zero, LENGTH
         addi a7, zero, 4        ; console out
 write:  ecall
         addi s1, s1, -1

@@ -8,7 +8,7 @@ ghost use Rattle.space_step.specs.ToSink.{AdvancesTo, GoesPartlyTo, StopsAtLast}
 
 use crate::decode_cache::DecodeCache;
 use crate::event::{Advance, Next};
-use crate::output::copy_named;
+use crate::output::{copy_named, lent_named};
 use crate::running::{Progress, proceed};
 use crate::source::Source;
 use det_host::{Sink, SinkError, write_all};
@@ -22,6 +22,9 @@ fn write_named<O: Sink>(top: &Top, out: &mut O) -> Result<(), SinkError>
     ensures failed { IsErrOf result SinkError.Failed → StopsWithin (output_of O.taken O.faults out.old out.new) (named_bytes top.now) }
     ensures later { O.faults out.old ≤ O.faults out.new }
 {
+    if let Some(bytes) = lent_named(top) {
+        return write_all(out, bytes);
+    }
     match copy_named(top) {
         Ok(bytes) => write_all(out, &bytes),
         Err(_) => Err(SinkError::Memory),
