@@ -10,4 +10,5 @@ write:  ecall
         addi a7, zero, 3        ; Ret
         ecall
 .segment 0x2000 1
-        .zero 64
+        .byte 120
+        .zero 63
