@@ -1,11 +1,11 @@
 -- What a sink takes of a console piece by piece is what it takes of it in all.
-use Rattle.std.proofs.Common.{◌≡◌, ℕ, zero, suc, ◌+◌, ◌-◌, ◌≤◌, ◌<◌, min, max, Bool, true, List, [], ◌∷◌, ◌++◌, length, take, append_assoc, length-append, Option, Some, None, Result, Ok, Err, IfOk, OnErr, IfSome, refl, sym, ap, ap₂, ◌∙◌, subst, arith}
-use Rattle.std.proofs.lemmas.List.{append-nil, take_all, take-append-le}
+use Rattle.std.proofs.Common.{◌≡◌, ℕ, zero, suc, ◌+◌, ◌≤◌, Bool, true, List, [], ◌∷◌, ◌++◌, length, take, append_assoc, length-append, Option, Some, None, Result, Ok, Err, IfOk, OnErr, refl, sym, ap, ◌∙◌, subst, arith}
+use Rattle.std.proofs.lemmas.List.{append-nil, take_all}
 use Rattle.det_host.specs.Outside.{Rose, Takes}
-use Rattle.det_host.specs.Writing.{Output, TakesPrefix, StopsWithin, output_of}
-use Rattle.space_model.specs.Space.{Space, space, Top, Children, top_of, is_settled}
+use Rattle.det_host.specs.Writing.{Output, TakesPrefix, StopsWithin}
+use Rattle.space_model.specs.Space.{Space, space, Top, Children, top_of}
 use Rattle.space_model.specs.Sound.{IsSound, IsSoundAt}
-use Rattle.space_model.specs.Event.{next, rests, Follows}
+use Rattle.space_model.specs.Event.{Follows}
 use Rattle.report_model.specs.Report.{console_of}
 use Rattle.run_model.specs.Demand.{of_children, run, settle_tree}
 use Rattle.run_model.specs.Console.{console_in, most_output}

@@ -1,5 +1,5 @@
 -- A space that has had local events, or a call, goes on to the same end.
-use Rattle.std.proofs.Common.{◌≡◌, ℕ, zero, suc, pred, ◌+◌, ◌≤◌, ◌<◌, Bool, true, false, cond, List, Option, Some, None, refl, sym, ap, ◌∙◌, subst, arith}
+use Rattle.std.proofs.Common.{◌≡◌, ℕ, zero, suc, pred, ◌+◌, ◌≤◌, ◌<◌, Bool, true, false, cond, Option, Some, None, refl, sym, ap, ◌∙◌, subst, arith}
 use Rattle.call_model.specs.declared.Call.{Call}
 use Rattle.space_model.specs.Stop.{is_stopped}
 use Rattle.space_model.specs.Space.{Space, space, Top, Children, top_of, children_of}

@@ -1,10 +1,10 @@
 -- Local events one after the other, and what a sink takes of what they write.
-use Rattle.std.proofs.Common.{◌≡◌, ℕ, zero, suc, ◌+◌, ◌-◌, ◌≤◌, ◌<◌, Bool, List, [], ◌∷◌, ◌++◌, length, take, append_assoc, length-append, Option, Some, None, Result, Ok, Err, IfOk, OnErr, IfSome, refl, sym, ap, ◌∙◌, subst, arith}
+use Rattle.std.proofs.Common.{◌≡◌, ℕ, suc, ◌+◌, ◌≤◌, ◌<◌, Bool, List, [], ◌∷◌, ◌++◌, length, take, append_assoc, Option, Some, None, Result, Ok, Err, IfOk, OnErr, IfSome, refl, sym, ap, ◌∙◌, subst, arith}
 use Rattle.std.proofs.lemmas.List.{append-nil}
-use Rattle.det_host.specs.Outside.{Rose, Takes}
+use Rattle.det_host.specs.Outside.{Takes}
 use Rattle.det_host.specs.Writing.{Output, StopsWithin, TakesPrefix}
 use Rattle.space_model.specs.Space.{Top}
-use Rattle.space_model.specs.Event.{moves, next, Follows}
+use Rattle.space_model.specs.Event.{Follows}
 use Rattle.space_model.specs.Sound.{IsSoundTop}
 use Rattle.space_model.proofs.Next.{follows_sound}
 use Rattle.run_model.specs.Console.{console_in}
