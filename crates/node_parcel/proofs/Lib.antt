@@ -8,3 +8,5 @@ pub mod Marks
 pub mod Written
 pub mod Found
 pub mod Bounds
+mod AtOnce
+mod Kept

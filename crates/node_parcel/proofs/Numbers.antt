@@ -66,7 +66,7 @@ absent_from : (i : ℕ) (known : List (List ℕ)) (page : List ℕ) → position
 absent_from i [] page e j lt same = omega (arith, lt)
 absent_from i (p ∷ known) page e j lt same = absent_by (pointwise nat_eq p page) i j p known page (position_from (λ p. pointwise nat_eq p page) (i + 1) known) refl e lt same (absent_from (i + 1) known page)
 
-absent : (known : List (List ℕ)) (page : List ℕ) (j : ℕ) → number_of known page ≡ None → j < length known → page_in known j ≡ page → ⊥
+pub absent : (known : List (List ℕ)) (page : List ℕ) (j : ℕ) → number_of known page ≡ None → j < length known → page_in known j ≡ page → ⊥
 unfolding number_of
 absent known page j e lt same = absent_from 0 known page e j lt same
 

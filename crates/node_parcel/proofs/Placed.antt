@@ -1,6 +1,6 @@
 -- Putting pages one after the other, as a loop does.
 use Rattle.std.proofs.Common.{◌≡◌, ℕ, suc, ◌+◌, ◌-◌, ◌<◌, ◌≤◌, List, ◌∷◌, Result, Ok, Err, refl, sym, ap, ◌∙◌, arith}
-use Rattle.memory_model.specs.Memory.{Memory, no_memory, with_permission}
+use Rattle.memory_model.specs.Memory.{Memory, no_memory}
 use Rattle.parcel_model.specs.declared.error.ParcelError.{ParcelError}
 use Rattle.parcel_model.specs.Parcel.{Content, Entry, with_entry, with_entries}
 use Rattle.parcel_model.specs.Reading.{◌>>=◌, page_at, permission_at, content_at, content_size, entry_at, entry_size, entries_at}
@@ -32,22 +32,22 @@ triple_is x y e = cc
 four_is : (x y : Placed) → four_ok x ≡ four_ok y → x ≡ y
 four_is x y e = cc
 
-entry_ok : (known : List (List ℕ)) (m after : Memory) (page permission at end : ℕ) (rest : List ℕ) (r : Result (Content × List ℕ) ParcelError) → put_content known m page (at + 5 + 1) r ≡ Ok (after, end, rest)
-    → made known m at (entry_from page permission r) ≡ Ok (with_permission after page permission, page + 1, end, rest)
+entry_ok : (known : List (List ℕ)) (m after : Memory) (page permission at end : ℕ) (rest : List ℕ) (r : Result (Content × List ℕ) ParcelError) → put_content known m page permission (at + 5 + 1) r ≡ Ok (after, end, rest)
+    → made known m at (entry_from page permission r) ≡ Ok (after, page + 1, end, rest)
 entry_ok known m after page permission at end rest (Err d) e = absurd cc
 entry_ok known m after page permission at end rest (Ok c) e =
     let size : at + 5 + 1 + content_size c.0 ≡ at + (6 + content_size c.0) = omega arith in
     let t = triple_is _ _ e in
     let at_end : at + (6 + content_size c.0) ≡ end = sym size ∙ ap (λ (x : Memory × ℕ × List ℕ). x.1) t in
-    λ i. Ok (with_permission (t i).0 page permission, page + 1, at_end i, (t i).2)
+    λ i. Ok ((t i).0, page + 1, at_end i, (t i).2)
 
-entry_fails : (known : List (List ℕ)) (m : Memory) (page permission at : ℕ) (d : ParcelError) (r : Result (Content × List ℕ) ParcelError) → put_content known m page (at + 5 + 1) r ≡ Err d
+entry_fails : (known : List (List ℕ)) (m : Memory) (page permission at : ℕ) (d : ParcelError) (r : Result (Content × List ℕ) ParcelError) → put_content known m page permission (at + 5 + 1) r ≡ Err d
     → made known m at (entry_from page permission r) ≡ Err d
 entry_fails known m page permission at d (Ok c) e = absurd cc
 entry_fails known m page permission at d (Err f) e = cc
 
 pub entry_placed : (known : List (List ℕ)) (m after : Memory) (least page permission at end : ℕ) (bytes numbered permitted rest : List ℕ) → page_at least at bytes ≡ Ok (page, numbered) → permission_at (at + 4) numbered ≡ Ok (permission, permitted)
-    → content_in known m page permission (at + 5) permitted ≡ Ok (after, end, rest) → entry_in known m least at bytes ≡ Ok (with_permission after page permission, page + 1, end, rest)
+    → content_in known m page permission (at + 5) permitted ≡ Ok (after, end, rest) → entry_in known m least at bytes ≡ Ok (after, page + 1, end, rest)
 unfolding entry_in entry_at content_in
 entry_placed known m after least page permission at end bytes numbered permitted rest p q e = rw (p, q) (entry_ok known m after page permission at end rest (content_at known permission (at + 5) permitted) e)
 

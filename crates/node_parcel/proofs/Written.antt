@@ -11,7 +11,7 @@ use Rattle.memory_model.specs.Sizes.{pages}
 use Rattle.memory_model.specs.Memory.{Memory}
 use Rattle.memory_model.specs.Ranges.{NoneUsed, IsNextPage, IsPageOf, IsZeroPage}
 use Rattle.parcel_model.specs.Parcel.{Entry, is_zero, block_spelling, content_spelling, entry_spelling, memory_spelling, TopOf}
-use Rattle.parcel_model.specs.Packing.{page_bytes, number_of, content_of, entry_of, entries_from, entries_of, parcel_bytes, IsPackable}
+use Rattle.parcel_model.specs.Packing.{page_bytes, number_of, numbered, content_of, entry_of, entries_from, entries_of, parcel_bytes, IsPackable}
 use Rattle.parcel_model.specs.Sent.{whole_page}
 use Rattle.space_model.specs.Space.{Top}
 use Rattle.parcel_model.proofs.Packed.{packed_spells}
@@ -26,11 +26,14 @@ zero_content known m page h = rw (zero_bytes m page h) refl
 pub empty_content : (known : List (List ℕ)) (m : Memory) (page : ℕ) (bytes : List ℕ) → IsPageOf m page bytes → is_zero bytes ≡ true → content_spelling (content_of known (page_bytes m page)) ≡ 0 ∷ []
 empty_content known m page bytes h z = ap (λ (l : List ℕ). content_spelling (content_of known l)) (sym (page_is m page bytes h)) ∙ rw z refl
 
-pub known_content : (known : List (List ℕ)) (m : Memory) (page n : ℕ) (bytes : List ℕ) → IsPageOf m page bytes → is_zero bytes ≡ false → number_of known bytes ≡ Some n → content_spelling (content_of known (page_bytes m page)) ≡ 1 ∷ to_le_bytes w32 n
-known_content known m page n bytes h z e = ap (λ (l : List ℕ). content_spelling (content_of known l)) (sym (page_is m page bytes h)) ∙ rw (z, e) refl
+pub some_content : (known : List (List ℕ)) (m : Memory) (page : ℕ) (bytes : List ℕ) → IsPageOf m page bytes → is_zero bytes ≡ false → content_spelling (content_of known (page_bytes m page)) ≡ content_spelling (numbered (number_of known bytes) bytes)
+some_content known m page bytes h z = ap (λ (l : List ℕ). content_spelling (content_of known l)) (sym (page_is m page bytes h)) ∙ rw z refl
 
-pub whole_content : (known : List (List ℕ)) (m : Memory) (page : ℕ) (bytes : List ℕ) → IsPageOf m page bytes → is_zero bytes ≡ false → number_of known bytes ≡ None → content_spelling (content_of known (page_bytes m page)) ≡ 2 ∷ bytes
-whole_content known m page bytes h z e = ap (λ (l : List ℕ). content_spelling (content_of known l)) (sym (page_is m page bytes h)) ∙ rw (z, e) refl
+pub known_content : (known : List (List ℕ)) (bytes : List ℕ) (n : ℕ) → number_of known bytes ≡ Some n → content_spelling (numbered (number_of known bytes) bytes) ≡ 1 ∷ to_le_bytes w32 n
+known_content known bytes n e = rw e refl
+
+pub whole_content : (known : List (List ℕ)) (bytes : List ℕ) → number_of known bytes ≡ None → content_spelling (numbered (number_of known bytes) bytes) ≡ 2 ∷ bytes
+whole_content known bytes e = rw e refl
 
 -- ---- the bytes that stand there
 
@@ -40,11 +43,14 @@ none_whole_zero known m page h = rw (zero_bytes m page h) refl
 pub none_whole_empty : (known : List (List ℕ)) (m : Memory) (page : ℕ) (bytes : List ℕ) → IsPageOf m page bytes → is_zero bytes ≡ true → whole_page (content_of known (page_bytes m page)) ≡ []
 none_whole_empty known m page bytes h z = ap (λ (l : List ℕ). whole_page (content_of known l)) (sym (page_is m page bytes h)) ∙ rw z refl
 
-pub none_whole_known : (known : List (List ℕ)) (m : Memory) (page n : ℕ) (bytes : List ℕ) → IsPageOf m page bytes → is_zero bytes ≡ false → number_of known bytes ≡ Some n → whole_page (content_of known (page_bytes m page)) ≡ []
-none_whole_known known m page n bytes h z e = ap (λ (l : List ℕ). whole_page (content_of known l)) (sym (page_is m page bytes h)) ∙ rw (z, e) refl
+pub some_whole : (known : List (List ℕ)) (m : Memory) (page : ℕ) (bytes : List ℕ) → IsPageOf m page bytes → is_zero bytes ≡ false → whole_page (content_of known (page_bytes m page)) ≡ whole_page (numbered (number_of known bytes) bytes)
+some_whole known m page bytes h z = ap (λ (l : List ℕ). whole_page (content_of known l)) (sym (page_is m page bytes h)) ∙ rw z refl
 
-pub one_whole : (known : List (List ℕ)) (m : Memory) (page : ℕ) (bytes : List ℕ) → IsPageOf m page bytes → is_zero bytes ≡ false → number_of known bytes ≡ None → whole_page (content_of known (page_bytes m page)) ≡ bytes ∷ []
-one_whole known m page bytes h z e = ap (λ (l : List ℕ). whole_page (content_of known l)) (sym (page_is m page bytes h)) ∙ rw (z, e) refl
+pub none_whole_known : (known : List (List ℕ)) (bytes : List ℕ) (n : ℕ) → number_of known bytes ≡ Some n → whole_page (numbered (number_of known bytes) bytes) ≡ []
+none_whole_known known bytes n e = rw e refl
+
+pub one_whole : (known : List (List ℕ)) (bytes : List ℕ) → number_of known bytes ≡ None → whole_page (numbered (number_of known bytes) bytes) ≡ bytes ∷ []
+one_whole known bytes e = rw e refl
 
 pub stays_whole : {X E : Type 0} (r : Result X E) (old added : List (List ℕ)) → added ≡ [] → OnOk r (old ≡ old ++ added)
 stays_whole (Ok x) old added e = sym (append-nil old) ∙ ap (λ (l : List (List ℕ)). old ++ l) (sym e)

@@ -6,7 +6,7 @@ use Rattle.memory_model.specs.Memory.{Memory}
 use Rattle.instruction_model.specs.Outcome.{Registers}
 use Rattle.space_model.specs.Space.{Top}
 use Rattle.parcel_model.specs.declared.error.ParcelError.{ParcelError}
-use Rattle.parcel_model.specs.Parcel.{Content, with_content, with_entry, memory_of, snapshot_of, status_in}
+use Rattle.parcel_model.specs.Parcel.{Content, with_entry, memory_of, snapshot_of, status_in}
 use Rattle.parcel_model.specs.Reading.{◌>>=◌, number_at, magic_at, words_at, cause_at, value_at, flags_at, limit_at, used_at, content_at, content_size, entry_at, entry_size, entries_at, memory_at, snapshot_at, ended}
 
 -- pc and all registers; x0 is 0
@@ -16,15 +16,15 @@ registers_at at bytes = do
   x ← words_at 31 (at + 4) pc.1
   Ok (record { pc = pc.0; x = 0 ∷ x.0 }, x.1)
 
--- a memory with the content of this page that was read, and where the content ends
-abbrev pub put_content : List (List ℕ) → Memory → ℕ → ℕ → Result (Content × List ℕ) ParcelError → Result (Memory × ℕ × List ℕ) ParcelError
-put_content known m page at read = do
+-- a memory with this page and the content that was read, and where the content ends
+abbrev pub put_content : List (List ℕ) → Memory → ℕ → ℕ → ℕ → Result (Content × List ℕ) ParcelError → Result (Memory × ℕ × List ℕ) ParcelError
+put_content known m page permission at read = do
   c ← read
-  Ok (with_content known m page c.0, at + content_size c.0, c.1)
+  Ok (with_entry known m (record { page = page; permission = permission; content = c.0 }), at + content_size c.0, c.1)
 
--- a memory with the content of this page, and where the content ends
+-- a memory with this page and the content that stands there, and where it ends
 unfoldable pub content_in : List (List ℕ) → Memory → ℕ → ℕ → ℕ → List ℕ → Result (Memory × ℕ × List ℕ) ParcelError
-content_in known m page permission at bytes = put_content known m page (at + 1) (content_at known permission at bytes)
+content_in known m page permission at bytes = put_content known m page permission (at + 1) (content_at known permission at bytes)
 
 -- a memory with the page that stands there, from which page on the next one may be, and where this one ends
 unfoldable pub entry_in : List (List ℕ) → Memory → ℕ → ℕ → List ℕ → Result (Memory × ℕ × ℕ × List ℕ) ParcelError

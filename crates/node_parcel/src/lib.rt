@@ -18,6 +18,7 @@ mod packing;
 mod placing;
 mod resident;
 mod residents;
+mod runs;
 mod unpacking;
 
 pub use fault::ParcelFault;

@@ -1,14 +1,16 @@
 ghost use Rattle.std.specs.Prelude.{◌≡◌, ◌++◌, ◌∷◌, ◌+◌, ◌*◌, ◌<◌, ◌^◌, ℕ, List, [], length, slice_index, IfOk, OnOk, None};
 ghost use Rattle.std.specs.Int.{w32, to_le_bytes};
 ghost use Rattle.std.specs.List.{flat_map};
+ghost use Rattle.page_store.specs.Bytes.{bytes_of};
 ghost use Rattle.space_model.specs.Block.{block_of};
 ghost use Rattle.space_mem.specs.Held as held;
 ghost use Rattle.parcel_model.specs.Parcel.{block_spelling, content_spelling, entry_spelling, is_there, memory_spelling, snapshot_spelling, TopOf};
-ghost use Rattle.parcel_model.specs.Packing.{content_of, entries_of, entry_of, page_bytes, parcel_bytes, parcel_of, snapshot_entries, IsBoundedIn, IsPackable};
+ghost use Rattle.parcel_model.specs.Packing.{content_of, entries_of, entry_of, number_of, numbered, page_bytes, parcel_bytes, parcel_of, snapshot_entries, IsBoundedIn, IsPackable};
 ghost use Rattle.parcel_model.specs.Sent.{page_of_entry, pages_sent, whole_page, whole_pages, whole_pages_in};
 
-use crate::resident::ResidentPage;
+use crate::resident::{ResidentPage, is_zero_page};
 use crate::residents::Residents;
+use page_store::PageRef;
 use space_mem::Mem;
 use space_tree::Top;
 use std::alloc::{AllocError, Global};
@@ -57,11 +59,60 @@ fn put_formed(out: &mut Vec<u8>, form: u8, content: &[u8]) -> Result<(), AllocEr
     out.extend_from_slice(content)
 }
 
+// Adds the form and the content of a page that is not all 0, and is looked for in the list; and the page to the others whose bytes stand there.
+// It is near the pages that were found before, so where it was found is where the next one is looked for.
+fn put_searched(
+    alloc: Global,
+    out: &mut Vec<u8>,
+    whole: &mut Vec<ResidentPage>,
+    near: &mut u32,
+    page: &PageRef,
+    known: &Residents,
+) -> Result<(), AllocError>
+    ensures written { OnOk result (out.new.items ≡ out.old.items ++ content_spelling (numbered (number_of known.now (bytes_of page.now)) (bytes_of page.now))) }
+    ensures whole { OnOk result (whole.new.items ≡ whole.old.items ++ whole_page (numbered (number_of known.now (bytes_of page.now)) (bytes_of page.now))) }
+{
+    let page = ResidentPage::of(alloc, page)?;
+    match known.number_of(&page) {
+        Some(number) => {
+            *near = number.wrapping_add(1);
+            put_formed(out, 1, &number.to_le_bytes())
+        }
+        None => {
+            *near = near.wrapping_add(1);
+            put_formed(out, 2, page.bytes())?;
+            whole.push(page)?;
+            Ok(())
+        }
+    }
+}
+
+// Adds the form and the content of a page that is not all 0: the page of the number that was guessed is looked at before any other.
+fn put_some(
+    alloc: Global,
+    out: &mut Vec<u8>,
+    whole: &mut Vec<ResidentPage>,
+    near: &mut u32,
+    page: &PageRef,
+    known: &Residents,
+) -> Result<(), AllocError>
+    ensures written { OnOk result (out.new.items ≡ out.old.items ++ content_spelling (numbered (number_of known.now (bytes_of page.now)) (bytes_of page.now))) }
+    ensures whole { OnOk result (whole.new.items ≡ whole.old.items ++ whole_page (numbered (number_of known.now (bytes_of page.now)) (bytes_of page.now))) }
+{
+    let number = *near;
+    if known.has_at(number, page) {
+        *near = number.wrapping_add(1);
+        return put_formed(out, 1, &number.to_le_bytes());
+    }
+    put_searched(alloc, out, whole, near, page, known)
+}
+
 // Adds the form and the content of a page, and the page to the others whose bytes stand there.
 fn put_content(
     alloc: Global,
     out: &mut Vec<u8>,
     whole: &mut Vec<ResidentPage>,
+    near: &mut u32,
     memory: &Mem,
     page: u32,
     known: &Residents,
@@ -72,18 +123,10 @@ fn put_content(
     let Some(bytes) = memory.page(page) else {
         return put_formed(out, 0, &[]);
     };
-    let bytes = ResidentPage::of(alloc, bytes)?;
-    if bytes.is_zero() {
+    if is_zero_page(bytes) {
         return put_formed(out, 0, &[]);
     }
-    match known.number_of(&bytes) {
-        Some(number) => put_formed(out, 1, &number.to_le_bytes()),
-        None => {
-            put_formed(out, 2, bytes.bytes())?;
-            whole.push(bytes)?;
-            Ok(())
-        }
-    }
+    put_some(alloc, out, whole, near, bytes, known)
 }
 
 // Adds a page.
@@ -91,6 +134,7 @@ fn put_entry(
     alloc: Global,
     out: &mut Vec<u8>,
     whole: &mut Vec<ResidentPage>,
+    near: &mut u32,
     memory: &Mem,
     page: u32,
     known: &Residents,
@@ -100,7 +144,7 @@ fn put_entry(
 {
     put_u32(out, page)?;
     out.push(memory.perm(page))?;
-    put_content(alloc, out, whole, memory, page, known)
+    put_content(alloc, out, whole, near, memory, page, known)
 }
 
 // How many pages have a permission or a byte other than 0.
@@ -128,9 +172,10 @@ fn put_memory(
     ensures whole { OnOk result (whole.new.items ≡ whole.old.items ++ whole_pages (entries_of known.now memory.now.memory)) }
 {
     put_u32(out, count_pages(memory))?;
+    let mut near = 0;
     let mut from = 0;
     while let Some(page) = memory.next_page(from) {
-        put_entry(alloc, out, whole, memory, page, known)?;
+        put_entry(alloc, out, whole, &mut near, memory, page, known)?;
         from = page + 1;
     }
     Ok(())

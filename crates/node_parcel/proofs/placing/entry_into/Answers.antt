@@ -5,8 +5,8 @@ use Rattle.node_parcel.proofs.placing.entry_into.Goals as goal
 pub returns-in_err-end-clause-read : goal.returns-in_err-end-clause-read
 returns-in_err-end-clause-read c =
     let p = err_from_is_err_and c.from_residual-in_err-end.result c.from_residual-in_err-end.ensures.1 in
-    rw (p.1, p.2) (entry_cut c.args.known.now c.args.memory.now.memory c.args.least c.in_ok-page.page c.in_ok-permission.permission c.args.at c.args.bytes.now _ _ c.in_err-end.field-0.0 c.in_ok-page.ensures.read c.in_ok-permission.ensures.read c.in_err-end.ensures.read)
+    rw (p.1, p.2) (entry_cut c.args.known.now _ c.args.least c.in_ok-page.page c.in_ok-permission.permission c.args.at c.args.bytes.now _ _ c.in_err-end.field-0.0 c.in_ok-page.ensures.read c.in_ok-permission.ensures.read c.in_err-end.ensures.read)
 
 pub returns-clause-read : goal.returns-clause-read
 returns-clause-read c =
-    rw c.in_ok-set_perm.ensures.ok (entry_placed c.args.known.now c.args.memory.now.memory _ c.args.least c.in_ok-page.page c.in_ok-permission.permission c.args.at c.in_ok-end.end c.args.bytes.now _ _ c.in_ok-end.rest.now c.in_ok-page.ensures.read c.in_ok-permission.ensures.read c.in_ok-end.ensures.read)
+    entry_placed c.args.known.now _ _ c.args.least c.in_ok-page.page c.in_ok-permission.permission c.args.at c.in_ok-end.end c.args.bytes.now _ _ c.in_ok-end.rest.now c.in_ok-page.ensures.read c.in_ok-permission.ensures.read c.in_ok-end.ensures.read
