@@ -17,6 +17,7 @@ use Rattle.run_model.proofs.Calls.{call_enabled}
 use Rattle.det_laws.proofs.Near.{local_enabled}
 use Rattle.board.specs.declared.job.Out.{Out}
 use Rattle.board.specs.Jobs.{Slots, out_at}
+use Rattle.board.specs.Runs.{Runs, HasRun}
 use Rattle.board.specs.Listed.{IsListed, HasAll, IsSoundSomewhere, HasEnabled, HasEnabledBelow}
 
 -- a number is one of these
@@ -46,7 +47,7 @@ found_in n (child m d rest) c is = go (cases_eq n m) (λ later. found_in n rest 
         inr (rec (sym (ap (λ b. cond b (Some d) (find n rest)) other) ∙ is))
 
 -- one more child was gone through
-pub one_more_child : (run calls more_run more_calls : Paths) (q : List ℕ) (levels : ℕ) (s : Space) (ms : List ℕ) (m : ℕ)
+pub one_more_child : (run calls more_run more_calls : List ℕ → Type 0) (q : List ℕ) (levels : ℕ) (s : Space) (ms : List ℕ) (m : ℕ)
     → ((n : ℕ) → IsIn ms n → HasEnabledBelow run q levels n s × HasEnabledBelow calls q levels n s) → HasAll more_run run → HasAll more_calls calls
     → HasEnabledBelow more_run q levels m s × HasEnabledBelow more_calls q levels m s
     → (n : ℕ) → IsIn (ms ++ m ∷ []) n → HasEnabledBelow more_run q levels n s × HasEnabledBelow more_calls q levels n s
@@ -56,7 +57,7 @@ one_more_child run calls more_run more_calls q levels s ms m so_far all_run all_
     go (inl has) = (λ p may. all_run (q ++ n ∷ p) ((so_far n has).0 p may), λ p may. all_calls (q ++ n ∷ p) ((so_far n has).1 p may))
     go (inr e) = subst (λ k. HasEnabledBelow more_run q levels k s × HasEnabledBelow more_calls q levels k s) (sym e) here
 
-pub next_child : (run calls more_run more_calls : Paths) (q : List ℕ) (levels : ℕ) (s : Space) (ms : List ℕ) (i m : ℕ) → slice_get ms i ≡ Some m
+pub next_child : (run calls more_run more_calls : List ℕ → Type 0) (q : List ℕ) (levels : ℕ) (s : Space) (ms : List ℕ) (i m : ℕ) → slice_get ms i ≡ Some m
     → ((n : ℕ) → IsIn (take i ms) n → HasEnabledBelow run q levels n s × HasEnabledBelow calls q levels n s) → HasAll more_run run → HasAll more_calls calls
     → HasEnabledBelow more_run q levels m s × HasEnabledBelow more_calls q levels m s
     → (n : ℕ) → IsIn (take (i + 1) ms) n → HasEnabledBelow more_run q levels n s × HasEnabledBelow more_calls q levels n s
@@ -66,8 +67,8 @@ next_child run calls more_run more_calls q levels s ms i m is so_far all_run all
     one_more_child run calls more_run more_calls q levels s (take i ms) m so_far all_run all_calls here n (subst (λ xs. IsIn xs n) next in')
 
 -- all children were gone through
-pub all_children : (ps : Paths) (q : List ℕ) (levels : ℕ) (s : Space) → Has ps q → ((n : ℕ) → IsIn (numbers_of (children_of s)) n → HasEnabledBelow ps q levels n s) → HasEnabled ps q levels s
-all_children ps q levels s own each [] may = subst (Has ps) (append-nil_of q) own
+pub all_children : (ps : List ℕ → Type 0) (q : List ℕ) (levels : ℕ) (s : Space) → ps q → ((n : ℕ) → IsIn (numbers_of (children_of s)) n → HasEnabledBelow ps q levels n s) → HasEnabled ps q levels s
+all_children ps q levels s own each [] may = subst ps (append-nil_of q) own
   where
     append-nil_of : (q : List ℕ) → q ≡ q ++ []
     append-nil_of [] = refl
@@ -77,7 +78,7 @@ all_children ps q levels s own each (n ∷ p) may =
     each n (found_in n (children_of s) c.0 c.1) p may
 
 -- a missing child has none
-pub missing_child : (ps : Paths) (q : List ℕ) (levels n : ℕ) (s : Space) → find n (children_of s) ≡ None → HasEnabledBelow ps q levels n s
+pub missing_child : (ps : List ℕ → Type 0) (q : List ℕ) (levels n : ℕ) (s : Space) → find n (children_of s) ≡ None → HasEnabledBelow ps q levels n s
 missing_child ps q levels n s away p may =
     let c = child_there (is_enabled p (pred levels)) (find n (children_of s)) may in
     let there = c.1 in
@@ -91,17 +92,17 @@ pub child_levels : (levels n : ℕ) (s c : Space) → IsSoundSomewhere levels s 
 child_levels zero n (space t cs) c sound is = let away = no_child sound.1 0 n cs sound.2.1 in cc
 child_levels (suc levels) n (space t cs) c sound is = (omega arith, (false, sound.1, subst (λ k. IsSoundAt k false sound.1 c) (one_less levels) (found_sound (suc levels) sound.1 n cs sound.2.1 c is)))
 
-pub below_child : (ps : Paths) (q below : List ℕ) (levels lower n : ℕ) (s c : Space) → find n (children_of s) ≡ Some c → below ≡ q ++ n ∷ [] → lower ≡ pred levels → HasEnabled ps below lower c → HasEnabledBelow ps q levels n s
+pub below_child : (ps : List ℕ → Type 0) (q below : List ℕ) (levels lower n : ℕ) (s c : Space) → find n (children_of s) ≡ Some c → below ≡ q ++ n ∷ [] → lower ≡ pred levels → HasEnabled ps below lower c → HasEnabledBelow ps q levels n s
 below_child ps q below levels lower n s c found is fewer all p may =
     let inner : is_enabled p (pred levels) c ≡ true = sym (ap (on_child (is_enabled p (pred levels))) found) ∙ may in
-    let here : Has ps (below ++ p) = all p (subst (λ k. is_enabled p k c ≡ true) (sym fewer) inner) in
-    subst (Has ps) (ap (λ x. x ++ p) is ∙ shift q n p) here
+    let here : ps (below ++ p) = all p (subst (λ k. is_enabled p k c ≡ true) (sym fewer) inner) in
+    subst ps (ap (λ x. x ++ p) is ∙ shift q n p) here
   where
     shift : (q : List ℕ) (n : ℕ) (p : List ℕ) → (q ++ n ∷ []) ++ p ≡ q ++ n ∷ p
     shift [] n p = refl
     shift (m ∷ q) n p = ap (λ x. m ∷ x) (shift q n p)
 
-pub both_lists : (run calls : Paths) (q : List ℕ) (levels : ℕ) (s : Space) (cs : Children) (t : Top) (numbers : List ℕ) (i : ℕ) → length numbers ≤ i → space t cs ≡ s → numbers ≡ numbers_of cs → Has run q × Has calls q
+pub both_lists : (run calls : List ℕ → Type 0) (q : List ℕ) (levels : ℕ) (s : Space) (cs : Children) (t : Top) (numbers : List ℕ) (i : ℕ) → length numbers ≤ i → space t cs ≡ s → numbers ≡ numbers_of cs → run q × calls q
     → ((n : ℕ) → IsIn (take i numbers) n → HasEnabledBelow run q levels n s × HasEnabledBelow calls q levels n s) → HasEnabled run q levels s × HasEnabled calls q levels s
 both_lists run calls q levels s cs t numbers i past view told own each =
     let all : take i numbers ≡ numbers_of (children_of s) = take_all i numbers past ∙ told ∙ ap (λ x. numbers_of (children_of x)) view in
@@ -109,9 +110,9 @@ both_lists run calls q levels s cs t numbers i past view told own each =
     (all_children run q levels s own.0 (λ n in'. (at n in').0), all_children calls q levels s own.1 (λ n in'. (at n in').1))
 
 -- a board that begins has listed what its tree has
-pub begun_listed : (tree : Space) (run calls news : Paths) (out : Slots) (q : List ℕ) → q ≡ [] → HasEnabled run q 8 tree × HasEnabled calls q 8 tree → news ≡ [] → out ≡ [] → IsListed tree run calls news out
+pub begun_listed : (tree : Space) (run : Runs) (calls news : Paths) (out : Slots) (q : List ℕ) → q ≡ [] → HasEnabled (HasRun run) q 8 tree × HasEnabled (Has calls) q 8 tree → news ≡ [] → out ≡ [] → IsListed tree run calls news out
 begun_listed tree run calls news out q start all no_news no_jobs = record {
-  running = λ p goes. inl (subst (λ x. Has run (x ++ p)) start (all.0 p (local_enabled p 8 tree goes)));
+  running = λ p goes. inl (subst (λ x. HasRun run (x ++ p)) start (all.0 p (local_enabled p 8 tree goes)));
   meeting = λ p k may. inl (subst (λ x. Has calls (x ++ p)) start (all.1 p (call_enabled p 8 tree k may)));
   goes = λ p is_out. absurd (none_at is_out.0 is_out.1.0 is_out.1.1);
   apart = λ i j o r at_i at_j same. absurd (none_at i o at_i);

@@ -1,5 +1,5 @@
 -- What the history of a board says of its tree, and what may be put into it.
-use Rattle.std.proofs.Common.{◌≡◌, ℕ, zero, suc, pred, ◌-◌, ◌≤◌, ◌<◌, ◌^◌, Bool, true, false, List, [], ◌∷◌, ◌++◌, length, Option, Some, None, refl, sym, ap, ap₂, ◌∙◌, subst, arith, true≢false}
+use Rattle.std.proofs.Common.{◌≡◌, ℕ, zero, suc, pred, ◌-◌, ◌≤◌, ◌<◌, ◌^◌, Bool, true, false, List, [], ◌∷◌, ◌++◌, length, Option, Some, None, refl, sym, ap, ◌∙◌, subst, arith, true≢false}
 use Rattle.std.specs.Prelude.{option_and_then, option_map}
 use Rattle.space_model.specs.Space.{Space, space, Top, top_of, find}
 use Rattle.space_model.specs.Path.{at, with_top, is_root}
@@ -12,8 +12,9 @@ use Rattle.run_model.specs.Schedule.{is_local, is_local_at, call_at, step, where
 use Rattle.det_core.proofs.Legal.{legal-append}
 use Rattle.run_model.proofs.Sound.{step_sound, replay_whole}
 use Rattle.det_core.specs.declared.entry.Entry.{Entry}
-use Rattle.det_core.specs.declared.entry.Entry.TheVariants.{Ran, Met}
-use Rattle.det_core.specs.Legal.{RunsAt, Happens, Legal}
+use Rattle.det_core.specs.declared.entry.Entry.TheVariants.{Ran, Moved, Met}
+use Rattle.det_core.specs.Legal.{RunsAt, Happens, Leads}
+use Rattle.node_places.specs.Places.{Places}
 use Rattle.det_laws.specs.Tops.{top_at}
 use Rattle.det_laws.proofs.Local.{local_reaches, leads_may}
 use Rattle.det_laws.proofs.Moved.{top_space}
@@ -23,17 +24,19 @@ use Rattle.board.specs.Jobs.{Slots}
 use Rattle.board.specs.Value.{Shown}
 use Rattle.board.proofs.Kept.{local_found, local_missing}
 
-pub happens_sound : (e : Entry) (s t : Space) → Happens e s t → IsSound s → IsSound t
-happens_sound (Ran path events) s t runs sound =
+pub happens_sound : (e : Entry) (s t : Space) (ps qs : Places) → Happens e s ps t qs → IsSound s → IsSound t
+happens_sound (Ran path events) s t ps qs happens sound =
+    let runs = happens.0 in
     let reached = local_reaches events path.items 8 s runs.here runs.top runs.stood runs.follows in
     let led = leads_may reached.0 s (with_top path.items runs.top s) reached.2 in
     subst IsSound (led.1 ∙ sym runs.now) (replay_whole reached.0 s sound)
-happens_sound (Met path) s t met sound = subst IsSound (sym met.now) (sound.0, (sound.1.0, sound.1.1, step_sound path.items 8 true sound.0 s sound.1.2))
+happens_sound (Moved path node) s t ps qs moved sound = subst IsSound (sym moved.now) sound
+happens_sound (Met path) s t ps qs met sound = subst IsSound (sym met.now) (sound.0, (sound.1.0, sound.1.1, step_sound path.items 8 true sound.0 s sound.1.2))
 
 -- the tree of a legal history is sound
-pub legal_sound : (es : List Entry) (boot tree : Space) → Legal boot es tree → IsSound boot → IsSound tree
-legal_sound [] boot tree same sound = subst IsSound same sound
-legal_sound (e ∷ es) boot tree legal sound = legal_sound es legal.0 tree legal.2 (happens_sound e boot legal.0 legal.1 sound)
+pub legal_sound : (es : List Entry) (boot tree : Space) (ps qs : Places) → Leads boot ps es tree qs → IsSound boot → IsSound tree
+legal_sound [] boot tree ps qs same sound = subst IsSound same.0 sound
+legal_sound (e ∷ es) boot tree ps qs legal sound = legal_sound es legal.0 tree legal.1 qs legal.3 (happens_sound e boot legal.0 ps legal.1 legal.2 sound)
 
 below_root : (p : List ℕ) → is_root false p ≡ false
 below_root [] = refl
@@ -83,18 +86,9 @@ run_happens p tree run is deep stood goes =
 pub met_now : (tree later : Space) (path : ArrayVec ℕ) (k : Call) → call_at path.items 8 tree ≡ Some k → later ≡ try_meet path.items 8 tree → later ≡ step path.items 8 tree
 met_now tree later path k may met = met ∙ ap (λ o. where_some o (step path.items 8 tree) tree) may
 
--- is one more entry
-pub met_legal : (boot tree later : Space) (es : List Entry) (path : ArrayVec ℕ) (k : Call) → Legal boot es tree → call_at path.items 8 tree ≡ Some k → later ≡ try_meet path.items 8 tree
-    → Legal boot (es ++ Met path ∷ []) later
-met_legal boot tree later es path k legal may met = legal-append es (Met path) boot tree later legal (record { call = k; may = may; now = met_now tree later path k may met })
-
--- and nothing else has changed
-abbrev pub shown_of : Space → ℕ → Space → List Entry → Slots → ℕ → ℕ → Shown
-shown_of boot nodes tree es out ticket owed = record { boot = boot; nodes = nodes; tree = tree; history = es; out = out; next_ticket = ticket; owed = owed }
-
-pub met_shown : (boot : Space) (nodes : ℕ) (tree later : Space) (es fs : List Entry) (out : Slots) (ticket owed : ℕ) (path : ArrayVec ℕ) → later ≡ step path.items 8 tree → fs ≡ es ++ Met path ∷ []
-    → shown_of boot nodes later fs out ticket owed ≡ shown_of boot nodes (step path.items 8 tree) (es ++ Met path ∷ []) out ticket owed
-met_shown boot nodes tree later es fs out ticket owed path now items = ap₂ (λ s xs. shown_of boot nodes s xs out ticket owed) now items
+-- what contracts see of a board's fields
+abbrev pub shown_of : Space → Space → Places → List Entry → Slots → ℕ → ℕ → Shown
+shown_of boot tree places es out ticket owed = record { boot = boot; tree = tree; places = places; history = es; out = out; next_ticket = ticket; owed = owed }
 
 -- a space stands where a top is, and where a local event is next
 pub top_stands : (p : List ℕ) (tree : Space) (t : Top) → top_at p tree ≡ Some t → (c : Space) × (at p tree ≡ Some c)
@@ -107,12 +101,12 @@ goes_stands p tree o goes told none = go (at p tree) refl
     go None is = true≢false (sym goes ∙ local_missing p tree is)
     go (Some c) is = let there : option_map top_of (at p tree) ≡ Some (top_of c) = ap (option_map top_of) is in cc
 
--- a result that is taken is one more entry
-pub ran_legal : (boot tree later : Space) (es fs : List Entry) (path : ArrayVec ℕ) (run : Run) (top : Top) (events : ℕ) → Legal boot es tree → IsRun run → run.depth ≡ length path.items
-    → top_at path.items tree ≡ Some run.start → is_local_at path.items 8 tree ≡ true → top ≡ run.top → events ≡ run.ran → later ≡ with_top path.items top tree → fs ≡ es ++ Ran path events ∷ [] → Legal boot fs later
-ran_legal boot tree later es fs path run top events legal is deep stood goes last many now items =
+-- a result that is taken is one more entry, and no space has gone elsewhere
+pub ran_legal : (boot tree later : Space) (home ps : Places) (es fs : List Entry) (path : ArrayVec ℕ) (run : Run) (top : Top) (events : ℕ) → Leads boot home es tree ps → IsRun run → run.depth ≡ length path.items
+    → top_at path.items tree ≡ Some run.start → is_local_at path.items 8 tree ≡ true → top ≡ run.top → events ≡ run.ran → later ≡ with_top path.items top tree → fs ≡ es ++ Ran path events ∷ [] → Leads boot home fs later ps
+ran_legal boot tree later home ps es fs path run top events legal is deep stood goes last many now items =
     let happens = run_happens path.items tree run is deep stood goes in
-    let one : Legal boot (es ++ Ran path run.ran ∷ []) (with_top path.items run.top tree) = legal-append es (Ran path run.ran) boot tree (with_top path.items run.top tree) legal happens in
+    let one : Leads boot home (es ++ Ran path run.ran ∷ []) (with_top path.items run.top tree) ps = legal-append es (Ran path run.ran) boot tree (with_top path.items run.top tree) home ps ps legal (happens, refl) in
     let same : with_top path.items run.top tree ≡ later = ap (λ t. with_top path.items t tree) (sym last) ∙ sym now in
     let entry : es ++ Ran path run.ran ∷ [] ≡ fs = ap (λ n. es ++ Ran path n ∷ []) (sym many) ∙ sym items in
-    subst (λ xs. Legal boot xs later) entry (subst (Legal boot (es ++ Ran path run.ran ∷ [])) same one)
+    subst (λ xs. Leads boot home xs later ps) entry (subst (λ t. Leads boot home (es ++ Ran path run.ran ∷ []) t ps) same one)

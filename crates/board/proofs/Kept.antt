@@ -1,7 +1,7 @@
 -- The lists of a board are kept by each of its steps.
 use Rattle.std.proofs.Common.{◌≡◌, ◌≢◌, ℕ, zero, suc, pred, ◌-◌, ◌≤◌, length, arith, Bool, true, false, List, [], ◌∷◌, ◌++◌, Option, Some, None, ◌⊎◌, inl, inr, refl, sym, ap, ap₂, ◌∙◌, subst, true≢false}
 use Rattle.std.proofs.lemmas.Bool.{cases_eq}
-use Rattle.std.specs.Prelude.{option_map, option_and_then}
+use Rattle.std.specs.Prelude.{option_map, option_and_then, slice_index_or, slice_set}
 use Rattle.call_model.specs.declared.Call.{Call}
 use Rattle.space_model.specs.Space.{Space, space, Top, top_of, children_of, find}
 use Rattle.space_model.specs.Path.{at, with_top}
@@ -15,12 +15,16 @@ use Rattle.run_model.proofs.Calls.{call_enabled}
 use Rattle.run_model.proofs.Sound.{step_sound}
 use Rattle.det_laws.proofs.Commutes.{child_there}
 use Rattle.det_laws.specs.Tops.{top_at}
-use Rattle.det_laws.specs.Near.{IsOnWay, IsNear}
+use Rattle.det_laws.specs.Near.{is_awaited, IsOnWay, IsAwaitedChild, IsAwaitedBelow, IsNear}
+use Rattle.space_model.specs.declared.Await.{Await}
+use Rattle.node_places.specs.Places.{place_of}
 use Rattle.det_laws.proofs.Tops.{top_other}
 use Rattle.det_laws.proofs.Near.{others_stay, local_there, same_local, same_call, local_enabled, enabled_near, going_on_stays}
 use Rattle.path_set.specs.Paths.{Paths, Has, rest_of, IsFirst}
 use Rattle.board.specs.declared.job.Out.{Out}
-use Rattle.board.specs.Jobs.{Slots, out_at, IsOut, Sets, MayBeTaken}
+use Rattle.board.proofs.ByNode.{set_there}
+use Rattle.board.specs.Jobs.{Slots, out_at, IsOut, Sets, MayBeTaken, MayBeTakenOn}
+use Rattle.board.specs.Runs.{Runs, HasRun, list_on}
 use Rattle.board.specs.Listed.{IsOnNews, ListsRunning, ListsCalls, OutsApart, IsListed, HasAll, HasWay, HasAwaited}
 
 -- whether local events are next at a path is told by the space there
@@ -151,7 +155,7 @@ still_apart slot old new apart sets i j o r at_i at_j same = go (cases_eq i slot
     go (inr ne) (inr nf) = apart i j o r (sym (sets.others i ne) ∙ at_i) (sym (sets.others j nf) ∙ at_j) same
 
 -- a result is taken: another top stands at its path, and its job is out no longer
-pub taken_listed : (tree : Space) (run calls news : Paths) (old new : Slots) (slot : ℕ) (o : Out) (t : Top) → IsListed tree run calls news old → out_at old slot ≡ Some o → Sets slot None old new
+pub taken_listed : (tree : Space) (run : Runs) (calls news : Paths) (old new : Slots) (slot : ℕ) (o : Out) (t : Top) → IsListed tree run calls news old → out_at old slot ≡ Some o → Sets slot None old new
     → IsListed (with_top o.path.items t tree) run calls (news ++ o.path.items ∷ []) new
 taken_listed tree run calls news old new slot o t listed was sets = record {
   running = runs;
@@ -168,7 +172,7 @@ taken_listed tree run calls news old new slot o t listed was sets = record {
     after : Space
     after = with_top q t tree
 
-    listed_still : (p : List ℕ) → p ≢ q → Has run p ⊎ (Has news p ⊎ IsOut old p) → Has run p ⊎ (Has (news ++ q ∷ []) p ⊎ IsOut new p)
+    listed_still : (p : List ℕ) → p ≢ q → HasRun run p ⊎ (Has news p ⊎ IsOut old p) → HasRun run p ⊎ (Has (news ++ q ∷ []) p ⊎ IsOut new p)
     listed_still p other (inl has) = inl has
     listed_still p other (inr (inl has)) = inr (inl (more_news news q p has))
     listed_still p other (inr (inr out)) = inr (inr (still_out slot o old new p was sets other out))
@@ -176,7 +180,7 @@ taken_listed tree run calls news old new slot o t listed was sets = record {
     runs : ListsRunning after run (news ++ q ∷ []) new
     runs p goes = go (path_cases p q)
       where
-        go : (p ≡ q) ⊎ (p ≡ q → ⊥) → Has run p ⊎ (Has (news ++ q ∷ []) p ⊎ IsOut new p)
+        go : (p ≡ q) ⊎ (p ≡ q → ⊥) → HasRun run p ⊎ (Has (news ++ q ∷ []) p ⊎ IsOut new p)
         go (inl e) = inr (inl (subst (Has (news ++ q ∷ [])) (sym e) (last_news news q)))
         go (inr other) = listed_still p other (listed.running p (sym (local_by_top p 8 tree after (top_other p q t tree other)) ∙ goes))
 
@@ -192,7 +196,7 @@ taken_listed tree run calls news old new slot o t listed was sets = record {
         go (inr away) = calls_still p (listed.meeting p k (sym (same_call p 8 tree after (others_stay p q t tree away)) ∙ may))
 
 -- a result is not taken, and its job is out no longer
-pub stale_listed : (tree : Space) (run calls news : Paths) (old new : Slots) (slot : ℕ) (o : Out) → IsListed tree run calls news old → out_at old slot ≡ Some o → Sets slot None old new
+pub stale_listed : (tree : Space) (run : Runs) (calls news : Paths) (old new : Slots) (slot : ℕ) (o : Out) → IsListed tree run calls news old → out_at old slot ≡ Some o → Sets slot None old new
     → IsListed tree run calls (news ++ o.path.items ∷ []) new
 stale_listed tree run calls news old new slot o listed was sets = record {
   running = λ p goes. runs p (path_cases p q) (listed.running p goes);
@@ -204,7 +208,7 @@ stale_listed tree run calls news old new slot o listed was sets = record {
     q : List ℕ
     q = o.path.items
 
-    runs : (p : List ℕ) → (p ≡ q) ⊎ (p ≡ q → ⊥) → Has run p ⊎ (Has news p ⊎ IsOut old p) → Has run p ⊎ (Has (news ++ q ∷ []) p ⊎ IsOut new p)
+    runs : (p : List ℕ) → (p ≡ q) ⊎ (p ≡ q → ⊥) → HasRun run p ⊎ (Has news p ⊎ IsOut old p) → HasRun run p ⊎ (Has (news ++ q ∷ []) p ⊎ IsOut new p)
     runs p c (inl has) = inl has
     runs p c (inr (inl has)) = inr (inl (more_news news q p has))
     runs p (inl e) (inr (inr out)) = inr (inl (subst (Has (news ++ q ∷ [])) (sym e) (last_news news q)))
@@ -215,8 +219,8 @@ stale_listed tree run calls news old new slot o listed was sets = record {
     calls_still p (inr on) = inr (still_news news q p on)
 
 -- the last of the news is listed
-pub news_listed : (tree : Space) (run calls run' calls' news : Paths) (q : List ℕ) (out : Slots) → IsListed tree run calls (news ++ q ∷ []) out
-    → HasAll run' run → HasAll calls' calls → Has run' q → HasWay calls' q → IsListed tree run' calls' news out
+pub news_listed : (tree : Space) (run : Runs) (calls : Paths) (run' : Runs) (calls' news : Paths) (q : List ℕ) (out : Slots) → IsListed tree run calls (news ++ q ∷ []) out
+    → HasAll (HasRun run') (HasRun run) → HasAll (Has calls') (Has calls) → HasRun run' q → HasWay (Has calls') q → IsListed tree run' calls' news out
 news_listed tree run calls run' calls' news q out listed all_run all_calls there way_calls = record {
   running = λ p goes. runs p (listed.running p goes);
   meeting = λ p k may. meets p (listed.meeting p k may);
@@ -224,11 +228,11 @@ news_listed tree run calls run' calls' news q out listed all_run all_calls there
   apart = listed.apart;
 }
   where
-    by_run : (p : List ℕ) → (p ≡ q) ⊎ Has news p → Has run' p ⊎ (Has news p ⊎ IsOut out p)
-    by_run p (inl e) = inl (subst (Has run') (sym e) there)
+    by_run : (p : List ℕ) → (p ≡ q) ⊎ Has news p → HasRun run' p ⊎ (Has news p ⊎ IsOut out p)
+    by_run p (inl e) = inl (subst (HasRun run') (sym e) there)
     by_run p (inr has) = inr (inl has)
 
-    runs : (p : List ℕ) → Has run p ⊎ (Has (news ++ q ∷ []) p ⊎ IsOut out p) → Has run' p ⊎ (Has news p ⊎ IsOut out p)
+    runs : (p : List ℕ) → HasRun run p ⊎ (Has (news ++ q ∷ []) p ⊎ IsOut out p) → HasRun run' p ⊎ (Has news p ⊎ IsOut out p)
     runs p (inl has) = inl (all_run p has)
     runs p (inr (inl has)) = by_run p (split_news news q p has)
     runs p (inr (inr o)) = inr (inr o)
@@ -242,7 +246,7 @@ news_listed tree run calls run' calls' news q out listed all_run all_calls there
     meets p (inr on) = by_call p on.0 (split_news news q on.0 on.1) on.2
 
 -- sets that have more list what they listed
-pub more_listed : (tree : Space) (run calls run' calls' news : Paths) (out : Slots) → IsListed tree run calls news out → HasAll run' run → HasAll calls' calls → IsListed tree run' calls' news out
+pub more_listed : (tree : Space) (run : Runs) (calls : Paths) (run' : Runs) (calls' news : Paths) (out : Slots) → IsListed tree run calls news out → HasAll (HasRun run') (HasRun run) → HasAll (Has calls') (Has calls) → IsListed tree run' calls' news out
 more_listed tree run calls run' calls' news out listed all_run all_calls = record {
   running = λ p goes. runs p (listed.running p goes);
   meeting = λ p k may. meets p (listed.meeting p k may);
@@ -250,7 +254,7 @@ more_listed tree run calls run' calls' news out listed all_run all_calls = recor
   apart = listed.apart;
 }
   where
-    runs : (p : List ℕ) → Has run p ⊎ (Has news p ⊎ IsOut out p) → Has run' p ⊎ (Has news p ⊎ IsOut out p)
+    runs : (p : List ℕ) → HasRun run p ⊎ (Has news p ⊎ IsOut out p) → HasRun run' p ⊎ (Has news p ⊎ IsOut out p)
     runs p (inl has) = inl (all_run p has)
     runs p (inr other) = inr other
 
@@ -258,10 +262,31 @@ more_listed tree run calls run' calls' news out listed all_run all_calls = recor
     meets p (inl has) = inl (all_calls p has)
     meets p (inr on) = inr on
 
--- a call has met its children
-pub met_listed : (tree : Space) (fuel : ℕ) (run calls news : Paths) (out : Slots) (q : List ℕ) (k : Call) → IsSoundAt 8 true fuel tree → IsListed tree run calls news out → call_at q 8 tree ≡ Some k
-    → HasWay run q → HasWay calls q → HasAwaited run (awaits k) q → HasAwaited calls (awaits k) q → IsListed (step q 8 tree) run calls news out
-met_listed tree fuel run calls news out q k sound listed may way_run way_calls awaited_run awaited_calls = record {
+-- a path is that of an awaited child, or not
+child_cases : (all : List Await) (p : List ℕ) → IsAwaitedChild all p ⊎ (IsAwaitedChild all p → ⊥)
+child_cases all [] = inr (λ x. x)
+child_cases all (n ∷ []) = go (is_awaited n all) refl
+  where
+    go : (b : Bool) → is_awaited n all ≡ b → (is_awaited n all ≡ true) ⊎ (is_awaited n all ≡ true → ⊥)
+    go true is = inl is
+    go false is = inr (λ e. true≢false (sym e ∙ is))
+child_cases all (n ∷ m ∷ p) = inr (λ x. x)
+
+pub awaited_cases : (all : List Await) (p q : List ℕ) → IsAwaitedBelow all p q ⊎ (IsAwaitedBelow all p q → ⊥)
+awaited_cases all p [] = child_cases all p
+awaited_cases all [] (m ∷ q) = inr (λ x. x)
+awaited_cases all (n ∷ p) (m ∷ q) = go (cases_eq n m) (awaited_cases all p q)
+  where
+    go : (n ≡ m) ⊎ (n ≡ m → ⊥) → IsAwaitedBelow all p q ⊎ (IsAwaitedBelow all p q → ⊥) → IsAwaitedBelow all (n ∷ p) (m ∷ q) ⊎ (IsAwaitedBelow all (n ∷ p) (m ∷ q) → ⊥)
+    go (inl e) (inl b) = inl (e, b)
+    go (inl e) (inr f) = inr (λ b. f b.1)
+    go (inr f) c = inr (λ b. f b.0)
+
+-- a call has met its children, and some spaces stand elsewhere since: those of the caller and of its awaited children are listed where they stand, and each other that goes on stands where it did
+pub met_listed : (tree : Space) (fuel : ℕ) (run run' : Runs) (calls news : Paths) (out : Slots) (q : List ℕ) (k : Call) → IsSoundAt 8 true fuel tree → IsListed tree run calls news out → call_at q 8 tree ≡ Some k
+    → HasWay (HasRun run') q → HasWay (Has calls) q → HasAwaited (HasRun run') (awaits k) q → HasAwaited (Has calls) (awaits k) q
+    → ((p : List ℕ) → is_local_at p 8 tree ≡ true → p ≢ q → (IsAwaitedBelow (awaits k) p q → ⊥) → HasRun run p → HasRun run' p) → IsListed (step q 8 tree) run' calls news out
+met_listed tree fuel run run' calls news out q k sound listed may way_run way_calls awaited_run awaited_calls stays = record {
   running = λ p goes. runs p (enabled_near p q 8 true fuel tree k sound may (local_enabled p 8 after goes)) goes;
   meeting = λ p j now. meets p j (enabled_near p q 8 true fuel tree k sound may (call_enabled p 8 after j now)) now;
   goes = λ p o.
@@ -279,8 +304,14 @@ met_listed tree fuel run calls news out q k sound listed may way_run way_calls a
     apart_from : (p : List ℕ) → is_local_at p 8 tree ≡ true → p ≢ q
     apart_from p goes e = not_both q 8 tree k (ap (λ r. is_local_at r 8 tree) (sym e) ∙ goes) may
 
-    runs : (p : List ℕ) → (at p after ≡ at p tree) ⊎ IsNear (awaits k) p q → is_local_at p 8 after ≡ true → Has run p ⊎ (Has news p ⊎ IsOut out p)
-    runs p (inl same) goes = listed.running p (sym (same_local p 8 tree after same) ∙ goes)
+    was_listed : (p : List ℕ) → is_local_at p 8 tree ≡ true → is_local_at p 8 after ≡ true → IsAwaitedBelow (awaits k) p q ⊎ (IsAwaitedBelow (awaits k) p q → ⊥)
+        → HasRun run p ⊎ (Has news p ⊎ IsOut out p) → HasRun run' p ⊎ (Has news p ⊎ IsOut out p)
+    was_listed p before goes (inl below) was = inl (awaited_run p (short p (local_enabled p 8 after goes)) below)
+    was_listed p before goes (inr beside) (inl has) = inl (stays p before (apart_from p before) beside has)
+    was_listed p before goes (inr beside) (inr other) = inr other
+
+    runs : (p : List ℕ) → (at p after ≡ at p tree) ⊎ IsNear (awaits k) p q → is_local_at p 8 after ≡ true → HasRun run' p ⊎ (Has news p ⊎ IsOut out p)
+    runs p (inl same) goes = let before = sym (same_local p 8 tree after same) ∙ goes in was_listed p before goes (awaited_cases (awaits k) p q) (listed.running p before)
     runs p (inr (inl way)) goes = inl (way_run p way)
     runs p (inr (inr below)) goes = inl (awaited_run p (short p (local_enabled p 8 after goes)) below)
 
@@ -289,26 +320,43 @@ met_listed tree fuel run calls news out q k sound listed may way_run way_calls a
     meets p j (inr (inl way)) now = inl (way_calls p way)
     meets p j (inr (inr below)) now = inl (awaited_calls p (short p (call_enabled p 8 after j now)) below)
 
--- the first of those listed has no local event, or is out: it goes
-pub run_dropped : (tree : Space) (run calls : Paths) (out : Slots) (p : List ℕ) → IsListed tree run calls [] out → IsFirst p run → (is_local_at p 8 tree ≡ true → IsOut out p)
-    → IsListed tree (rest_of run) calls [] out
-run_dropped tree run calls out p listed first away = record {
+-- the list of one node, once its first is out of it
+dropped_here : (lists : List Paths) (node : ℕ) (ps : Paths) (p q : List ℕ) → IsFirst p (slice_index_or lists node []) → Has (slice_index_or lists node []) q → (q ≡ p) ⊎ Has (slice_index_or (slice_set lists node (rest_of (slice_index_or lists node []))) node []) q
+dropped_here [] node ps p q first has = absurd has
+dropped_here (l ∷ lists) zero ps p q first has = subst (λ xs. Has xs q) first.first has
+dropped_here (l ∷ lists) (suc node) ps p q first has = dropped_here lists node ps p q first has
+
+-- without the first that is listed for a node
+abbrev pub without_first : Runs → ℕ → Runs
+without_first run node = record run { lists = slice_set run.lists node (rest_of (list_on run node)) }
+
+-- the first of those listed for a node stands elsewhere, has no local event, or is out: it goes
+pub run_dropped : (tree : Space) (run : Runs) (calls : Paths) (out : Slots) (node : ℕ) (p : List ℕ) → IsListed tree run calls [] out → IsFirst p (list_on run node)
+    → (place_of run.places p ≡ node → is_local_at p 8 tree ≡ true → IsOut out p) → IsListed tree (without_first run node) calls [] out
+run_dropped tree run calls out node p listed first away = record {
   running = λ q goes. runs q goes (listed.running q goes);
   meeting = listed.meeting;
   goes = listed.goes;
   apart = listed.apart;
 }
   where
-    one_of : (q : List ℕ) → is_local_at q 8 tree ≡ true → (q ≡ p) ⊎ Has (rest_of run) q → Has (rest_of run) q ⊎ (Has [] q ⊎ IsOut out q)
-    one_of q goes (inr later) = inl later
-    one_of q goes (inl e) = inr (inr (subst (IsOut out) (sym e) (away (subst (λ r. is_local_at r 8 tree ≡ true) e goes))))
+    after : Runs
+    after = without_first run node
 
-    runs : (q : List ℕ) → is_local_at q 8 tree ≡ true → Has run q ⊎ (Has [] q ⊎ IsOut out q) → Has (rest_of run) q ⊎ (Has [] q ⊎ IsOut out q)
-    runs q goes (inl has) = one_of q goes (subst (λ ps. Has ps q) first.first has)
+    one_of : (q : List ℕ) → is_local_at q 8 tree ≡ true → place_of run.places q ≡ node → (q ≡ p) ⊎ Has (list_on after node) q → HasRun after q ⊎ (Has [] q ⊎ IsOut out q)
+    one_of q goes there (inr later) = inl (subst (λ n. Has (list_on after n) q) (sym there) later)
+    one_of q goes there (inl e) = inr (inr (subst (IsOut out) (sym e) (away (subst (λ r. place_of run.places r ≡ node) e there) (subst (λ r. is_local_at r 8 tree ≡ true) e goes))))
+
+    on_node : (q : List ℕ) → is_local_at q 8 tree ≡ true → HasRun run q → (place_of run.places q ≡ node) ⊎ (place_of run.places q ≡ node → ⊥) → HasRun after q ⊎ (Has [] q ⊎ IsOut out q)
+    on_node q goes has (inl there) = one_of q goes there (dropped_here run.lists node [] p q first (subst (λ n. Has (list_on run n) q) there has))
+    on_node q goes has (inr other) = inl (subst (λ xs. Has xs q) (sym (set_there run.lists node (place_of run.places q) (rest_of (list_on run node)) other)) has)
+
+    runs : (q : List ℕ) → is_local_at q 8 tree ≡ true → HasRun run q ⊎ (Has [] q ⊎ IsOut out q) → HasRun after q ⊎ (Has [] q ⊎ IsOut out q)
+    runs q goes (inl has) = on_node q goes has (cases_eq (place_of run.places q) node)
     runs q goes (inr other) = inr other
 
 -- the first of the calls listed may not meet its children: it goes
-pub call_dropped : (tree : Space) (run calls : Paths) (out : Slots) (p : List ℕ) → IsListed tree run calls [] out → IsFirst p calls → call_at p 8 tree ≡ None → IsListed tree run (rest_of calls) [] out
+pub call_dropped : (tree : Space) (run : Runs) (calls : Paths) (out : Slots) (p : List ℕ) → IsListed tree run calls [] out → IsFirst p calls → call_at p 8 tree ≡ None → IsListed tree run (rest_of calls) [] out
 call_dropped tree run calls out p listed first none = record {
   running = listed.running;
   meeting = λ q k may. meets q k may (listed.meeting q k may);
@@ -324,32 +372,32 @@ call_dropped tree run calls out p listed first none = record {
     meets q k may (inl has) = one_of q k may (subst (λ ps. Has ps q) first.first has)
     meets q k may (inr on) = inr on
 
--- the first of those listed may be taken: no other comes before it
-pub run_least : (tree : Space) (run calls : Paths) (out : Slots) (p q : List ℕ) → IsListed tree run calls [] out → IsFirst p run → MayBeTaken tree out q → (q ≡ p) ⊎ IsBefore p q
-run_least tree run calls out p q listed first may = go (listed.running q may.goes)
+-- the first of those listed for a node may be taken: no other there comes before it
+pub run_least : (tree : Space) (run : Runs) (calls : Paths) (out : Slots) (node : ℕ) (p q : List ℕ) → IsListed tree run calls [] out → IsFirst p (list_on run node) → MayBeTakenOn run.places node tree out q → (q ≡ p) ⊎ IsBefore p q
+run_least tree run calls out node p q listed first on = go (listed.running q (let may = on.may in may.goes))
   where
-    go : Has run q ⊎ (Has [] q ⊎ IsOut out q) → (q ≡ p) ⊎ IsBefore p q
-    go (inl has) = first.least q has
+    go : HasRun run q ⊎ (Has [] q ⊎ IsOut out q) → (q ≡ p) ⊎ IsBefore p q
+    go (inl has) = first.least q (subst (λ n. Has (list_on run n) q) on.there has)
     go (inr (inl has)) = absurd has
-    go (inr (inr out)) = absurd (may.inside out)
+    go (inr (inr out)) = absurd (let may = on.may in may.inside out)
 
--- and where none is listed none may be taken
-pub none_to_take : (tree : Space) (calls : Paths) (out : Slots) (q : List ℕ) → IsListed tree [] calls [] out → MayBeTaken tree out q → ⊥
-none_to_take tree calls out q listed may = go (listed.running q may.goes)
+-- and where none is listed for a node none may be taken there
+pub none_to_take : (tree : Space) (run : Runs) (calls : Paths) (out : Slots) (node : ℕ) (q : List ℕ) → IsListed tree run calls [] out → list_on run node ≡ [] → MayBeTakenOn run.places node tree out q → ⊥
+none_to_take tree run calls out node q listed none on = go (listed.running q (let may = on.may in may.goes))
   where
-    go : Has [] q ⊎ (Has [] q ⊎ IsOut out q) → ⊥
-    go (inl has) = has
+    go : HasRun run q ⊎ (Has [] q ⊎ IsOut out q) → ⊥
+    go (inl has) = subst (λ xs. Has xs q) none (subst (λ n. Has (list_on run n) q) on.there has)
     go (inr (inl has)) = has
-    go (inr (inr out)) = may.inside out
+    go (inr (inr out)) = let may = on.may in may.inside out
 
-pub call_least : (tree : Space) (run calls : Paths) (out : Slots) (p q : List ℕ) (k : Call) → IsListed tree run calls [] out → IsFirst p calls → call_at q 8 tree ≡ Some k → (q ≡ p) ⊎ IsBefore p q
+pub call_least : (tree : Space) (run : Runs) (calls : Paths) (out : Slots) (p q : List ℕ) (k : Call) → IsListed tree run calls [] out → IsFirst p calls → call_at q 8 tree ≡ Some k → (q ≡ p) ⊎ IsBefore p q
 call_least tree run calls out p q k listed first may = go (listed.meeting q k may)
   where
     go : Has calls q ⊎ IsOnNews [] q → (q ≡ p) ⊎ IsBefore p q
     go (inl has) = first.least q has
     go (inr on) = absurd on.1
 
-pub none_to_meet : (tree : Space) (run : Paths) (out : Slots) (q : List ℕ) → IsListed tree run [] [] out → call_at q 8 tree ≡ None
+pub none_to_meet : (tree : Space) (run : Runs) (out : Slots) (q : List ℕ) → IsListed tree run [] [] out → call_at q 8 tree ≡ None
 none_to_meet tree run out q listed = go (call_at q 8 tree) refl
   where
     listed_none : (k : Call) → Has [] q ⊎ IsOnNews [] q → ⊥
@@ -381,8 +429,8 @@ out_before old new slot o q sets out = go (cases_eq out.0 slot)
     go (inr ne) = inl (out.0, (out.1.0, sym (sets.others out.0 ne) ∙ out.1.1, out.1.2))
 
 -- a space that may be taken is put out, in a slot in which nothing was, and need be listed no more
-pub put_out_listed : (tree : Space) (run run' calls news : Paths) (old new : Slots) (slot : ℕ) (o : Out) → IsListed tree run calls news old → MayBeTaken tree old o.path.items
-    → out_at old slot ≡ None → Sets slot (Some o) old new → ((q : List ℕ) → q ≢ o.path.items → Has run q → Has run' q) → IsListed tree run' calls news new
+pub put_out_listed : (tree : Space) (run run' : Runs) (calls news : Paths) (old new : Slots) (slot : ℕ) (o : Out) → IsListed tree run calls news old → MayBeTaken tree old o.path.items
+    → out_at old slot ≡ None → Sets slot (Some o) old new → ((q : List ℕ) → q ≢ o.path.items → HasRun run q → HasRun run' q) → IsListed tree run' calls news new
 put_out_listed tree run run' calls news old new slot o listed may vacant sets fewer = record {
   running = λ q goes. runs q (path_cases q o.path.items) (listed.running q goes);
   meeting = listed.meeting;
@@ -390,7 +438,7 @@ put_out_listed tree run run' calls news old new slot o listed may vacant sets fe
   apart = apart;
 }
   where
-    runs : (q : List ℕ) → (q ≡ o.path.items) ⊎ (q ≡ o.path.items → ⊥) → Has run q ⊎ (Has news q ⊎ IsOut old q) → Has run' q ⊎ (Has news q ⊎ IsOut new q)
+    runs : (q : List ℕ) → (q ≡ o.path.items) ⊎ (q ≡ o.path.items → ⊥) → HasRun run q ⊎ (Has news q ⊎ IsOut old q) → HasRun run' q ⊎ (Has news q ⊎ IsOut new q)
     runs q (inl e) was = inr (inr (slot, (o, sets.here, sym e)))
     runs q (inr other) (inl has) = inl (fewer q other has)
     runs q (inr other) (inr (inl on)) = inr (inl on)

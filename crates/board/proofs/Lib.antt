@@ -1,3 +1,7 @@
+pub mod ByNode
+pub mod Meetings
+pub mod Sent
+pub mod Assembled
 pub mod Kept
 pub mod Ways
 pub mod Places
@@ -7,5 +11,7 @@ pub mod Histories
 pub mod Beginnings
 pub mod Stale
 pub mod Settling
+pub mod Rings
 pub mod Turns
 pub mod Works
+pub mod Replays

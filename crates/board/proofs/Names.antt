@@ -29,9 +29,9 @@ pub met_stands : (starts : Starts) (old new : Shown) (path : ArrayVec ℕ) → I
 met_stands starts old new path sound runs met stands slot v o named is =
     let before : out_at old.out slot ≡ Some o = ap (λ (b : Shown). out_at b.out slot) (sym met.others) ∙ is in
     let goes : is_local_at o.path.items 8 old.tree ≡ true = runs o.path.items (slot, (o, before, refl)) in
-    let k = met.may.0 in
-    let apart : o.path.items ≢ path.items = λ e. not_both path.items 8 old.tree k (ap (λ p. is_local_at p 8 old.tree) (sym e) ∙ goes) met.may.1 in
-    let stays = going_on_stays o.path.items path.items 8 true sound.0 old.tree k sound.1.2 apart (local_enabled o.path.items 8 old.tree goes) met.may.1 in
+    let k = met.call in
+    let apart : o.path.items ≢ path.items = λ e. not_both path.items 8 old.tree k (ap (λ p. is_local_at p 8 old.tree) (sym e) ∙ goes) met.may in
+    let stays = going_on_stays o.path.items path.items 8 true sound.0 old.tree k sound.1.2 apart (local_enabled o.path.items 8 old.tree goes) met.may in
     ap (λ (b : Shown). top_at o.path.items b.tree) met.others ∙ (stays ∙ stands slot v o named before)
 
 -- a job is put out: its name stands for its state
@@ -51,9 +51,9 @@ put_stands starts starts' old new job name is_top kept put stands slot v o named
         tree ∙ (ap (λ (x : Out). top_at x.path.items old.tree) (sym one) ∙ (put.top ∙ sym (is_top v its)))
     go (inr ne) = tree ∙ stands slot v o (sym (kept.others slot ne) ∙ named) (sym (put.out.others slot ne) ∙ is)
 
-pub handed_out_stands : (starts starts' : Starts) (old new : Shown) (job : Job) (name : Option (Option Top)) → ((v : Option Top) → name ≡ Some v → v ≡ Some job.top) → IsKeptAt job.slot name starts starts'
-    → HandsOut old job new → StartsStand starts old → StartsStand starts' new
-handed_out_stands starts starts' old new job name is_top kept hands stands =
+pub handed_out_stands : (node : ℕ) (starts starts' : Starts) (old new : Shown) (job : Job) (name : Option (Option Top)) → ((v : Option Top) → name ≡ Some v → v ≡ Some job.top) → IsKeptAt job.slot name starts starts'
+    → HandsOut node old job new → StartsStand starts old → StartsStand starts' new
+handed_out_stands node starts starts' old new job name is_top kept hands stands =
     let taken = hands.0 in
     let there = put_stands starts starts' old taken job name is_top kept hands.1.is stands in
     subst (StartsStand starts') (sym hands.2) there

@@ -17,26 +17,29 @@ use Rattle.det_laws.proofs.Local.{local_reaches, leads_may}
 use Rattle.det_laws.proofs.Near.{local_enabled}
 use Rattle.det_laws.proofs.Reaching.{meaning_reached, never_stuck, replay_settles}
 use Rattle.det_core.specs.declared.entry.Entry.{Entry}
-use Rattle.det_core.specs.declared.entry.Entry.TheVariants.{Ran, Met}
-use Rattle.det_core.specs.Legal.{Happens, Legal}
+use Rattle.det_core.specs.declared.entry.Entry.TheVariants.{Ran, Moved, Met}
+use Rattle.det_core.specs.Legal.{Happens, Leads}
+use Rattle.node_places.specs.Places.{Places}
 use Rattle.board.specs.Jobs.{Slots, out_at, IsOut, IsNoneOut, MayBeTaken}
 use Rattle.board.proofs.Histories.{happens_sound, legal_sound}
 
 -- an entry of a history changes nothing of what the tree settles to
-happens_settles : (e : Entry) (s t : Space) → Happens e s t → IsSound s → settle 8 t ≡ settle 8 s
-happens_settles (Ran path events) s t runs sound =
+happens_settles : (e : Entry) (s t : Space) (ps qs : Places) → Happens e s ps t qs → IsSound s → settle 8 t ≡ settle 8 s
+happens_settles (Ran path events) s t ps qs happens sound =
+    let runs = happens.0 in
     let reached = local_reaches events path.items 8 s runs.here runs.top runs.stood runs.follows in
     let led = leads_may reached.0 s (with_top path.items runs.top s) reached.2 in
     ap (settle 8) (runs.now ∙ sym led.1) ∙ replay_settles reached.0 8 true sound.0 s sound.1.2
-happens_settles (Met path) s t met sound =
+happens_settles (Moved path node) s t ps qs moved sound = ap (settle 8) moved.now
+happens_settles (Met path) s t ps qs met sound =
     let may = call_enabled path.items 8 s met.call met.may in
     let one : step path.items 8 s ≡ replay (path.items ∷ []) 8 s = sym (ap (λ b. cond b (step path.items 8 s) s) may) in
     ap (settle 8) (met.now ∙ one) ∙ replay_settles (path.items ∷ []) 8 true sound.0 s sound.1.2
 
-legal_settles : (es : List Entry) (boot tree : Space) → Legal boot es tree → IsSound boot → settle 8 tree ≡ settle 8 boot
-legal_settles [] boot tree same sound = ap (settle 8) (sym same)
-legal_settles (e ∷ es) boot tree legal sound =
-    legal_settles es legal.0 tree legal.2 (happens_sound e boot legal.0 legal.1 sound) ∙ happens_settles e boot legal.0 legal.1 sound
+legal_settles : (es : List Entry) (boot tree : Space) (ps qs : Places) → Leads boot ps es tree qs → IsSound boot → settle 8 tree ≡ settle 8 boot
+legal_settles [] boot tree ps qs same sound = ap (settle 8) (sym same.0)
+legal_settles (e ∷ es) boot tree ps qs legal sound =
+    legal_settles es legal.0 tree legal.1 qs legal.3 (happens_sound e boot legal.0 ps legal.1 legal.2 sound) ∙ happens_settles e boot legal.0 ps legal.1 legal.2 sound
 
 -- a settled tree settles to itself
 settled_itself : (s : Space) → IsSound s → is_settled s ≡ true → settle 8 s ≡ s
@@ -45,8 +48,8 @@ settled_itself s sound still =
     sym (settled_stays 8 a.0 s (settle 8 s) still a.2)
 
 -- where the tree of a legal history is settled, it is what the first one settles to
-pub settled_end : (boot tree : Space) (es : List Entry) → IsSound boot → Legal boot es tree → is_settled tree ≡ true → tree ≡ settle_tree boot
-settled_end boot tree es sound legal still = sym (settled_itself tree (legal_sound es boot tree legal sound) still) ∙ legal_settles es boot tree legal sound
+pub settled_end : (boot tree : Space) (ps qs : Places) (es : List Entry) → IsSound boot → Leads boot ps es tree qs → is_settled tree ≡ true → tree ≡ settle_tree boot
+settled_end boot tree ps qs es sound legal still = sym (settled_itself tree (legal_sound es boot tree ps qs legal sound) still) ∙ legal_settles es boot tree ps qs legal sound
 
 -- an event that may happen is a local one or a call
 ready_cases : (e : NextEvent) (cs : Children) → may_happen e cs ≡ true → (is_local e ≡ true) ⊎ ((k : Call) × (ready_call e cs ≡ Some k))

@@ -7,7 +7,7 @@ use Rattle.arrayvec.specs.ArrayVec.{ArrayVec}
 use Rattle.call_model.specs.declared.Call.{Call}
 use Rattle.run_model.specs.Schedule.{call_at}
 use Rattle.det_core.specs.declared.entry.Entry.{Entry}
-use Rattle.det_core.specs.declared.entry.Entry.TheVariants.{Ran, Met as MetEntry}
+use Rattle.det_core.specs.declared.entry.Entry.TheVariants.{Ran, Moved, Met as MetEntry}
 use Rattle.worker_pool.specs.Turns.{is_idle}
 use Rattle.worker_pool.specs.declared.shop.Turn.{Turn}
 use Rattle.worker_pool.specs.declared.shop.Turn.TheVariants.{Job as Hands, Met, Rest, Over}
@@ -18,7 +18,12 @@ use Rattle.board.specs.declared.result.Commit.{Commit}
 use Rattle.board.specs.declared.result.Commit.TheVariants.{Taken, Stale}
 use Rattle.board.specs.Jobs.{Slots, out_at, IsNoneOut, MayBeTaken, Sets}
 use Rattle.board.specs.Value.{Shown}
-use Rattle.board.specs.Steps.{Meets, IsTaken, IsStale, IsDropped, Commits}
+use Rattle.node_places.specs.Places.{Places}
+use Rattle.space_model.specs.declared.Await.{Await}
+use Rattle.space_model.specs.Meeting.{awaits}
+use Rattle.std.specs.List.{All}
+use Rattle.std.proofs.lemmas.List.Elements.{All-head, All-tail}
+use Rattle.board.specs.Steps.{Meets, IsTaken, IsStale, IsDropped, Commits, IsCallersMove, ComesHome, AreMoves}
 use Rattle.board.specs.Turns.{results_in, accepted, is_taken, IsFinished, IsIdle, IsTurn, IsOnlyOut, HandsOut, handed_in, HandsIn, bare}
 use Rattle.board.proofs.Settling.{settled_meets_none, settled_takes_none}
 
@@ -26,22 +31,54 @@ use Rattle.board.proofs.Settling.{settled_meets_none, settled_takes_none}
 pub results_after_run : (es : List Entry) (path : ArrayVec ℕ) (events : ℕ) → results_in (es ++ Ran path events ∷ []) ≡ results_in es + 1
 results_after_run [] path events = refl
 results_after_run (Ran p n ∷ es) path events = ap (λ k. k + 1) (results_after_run es path events)
+results_after_run (Moved p node ∷ es) path events = results_after_run es path events
 results_after_run (MetEntry p ∷ es) path events = results_after_run es path events
 
--- and a meeting is none
-pub results_after_meeting : (es : List Entry) (path : ArrayVec ℕ) → results_in (es ++ MetEntry path ∷ []) ≡ results_in es
-results_after_meeting [] path = refl
-results_after_meeting (Ran p n ∷ es) path = ap (λ k. k + 1) (results_after_meeting es path)
-results_after_meeting (MetEntry p ∷ es) path = results_after_meeting es path
+-- of two lists, behind one another
+results_both : (es fs : List Entry) → results_in (es ++ fs) ≡ results_in es + results_in fs
+results_both [] fs = let none : results_in [] ≡ 0 = refl in omega (arith, none)
+results_both (Ran p n ∷ es) fs = let rest = results_both es fs in omega (arith, rest)
+results_both (Moved p node ∷ es) fs = results_both es fs
+results_both (MetEntry p ∷ es) fs = results_both es fs
+
+-- moves are none
+home_none : (ps : Places) (p : List ℕ) (all : List Await) (es : List Entry) → All (ComesHome ps p all) es → results_in es ≡ 0
+home_none ps p all [] each = refl
+home_none ps p all (Ran q n ∷ es) each = absurd (All-head (ComesHome ps p all) (Ran q n) es each)
+home_none ps p all (Moved q node ∷ es) each = home_none ps p all es (All-tail (ComesHome ps p all) (Moved q node) es each)
+home_none ps p all (MetEntry q ∷ es) each = absurd (All-head (ComesHome ps p all) (MetEntry q) es each)
+
+caller_none : (ps : Places) (path : ArrayVec ℕ) (all : List Await) (es : List Entry) → IsCallersMove ps path all es → results_in es ≡ 0
+caller_none ps path [] es is = ap results_in is
+caller_none ps path (a ∷ others) es (inl stays) = ap results_in stays.1
+caller_none ps path (a ∷ others) es (inr goes) = ap results_in goes.1
+
+moves_none : (ps : Places) (path : ArrayVec ℕ) (all : List Await) (es : List Entry) → AreMoves ps path all es → results_in es ≡ 0
+moves_none ps path all es are =
+    let callers = caller_none ps path all are.callers are.caller in
+    let childrens = home_none ps path.items all are.childrens are.home in
+    let both = results_both are.callers are.childrens in
+    let is = ap results_in are.are in
+    omega (arith, callers, childrens, both, is)
+
+-- and a meeting with its moves is none
+pub results_after_meeting : (es moves : List Entry) (ps : Places) (path : ArrayVec ℕ) (all : List Await) → AreMoves ps path all moves → results_in (es ++ (moves ++ MetEntry path ∷ [])) ≡ results_in es
+results_after_meeting es moves ps path all are =
+    let none = moves_none ps path all moves are in
+    let last : results_in (MetEntry path ∷ []) ≡ 0 = refl in
+    let inner = results_both moves (MetEntry path ∷ []) in
+    let outer = results_both es (moves ++ MetEntry path ∷ []) in
+    omega (arith, none, last, inner, outer)
 
 pub results_few : (es : List Entry) → results_in es ≤ length es
 results_few [] = omega arith
 results_few (Ran p n ∷ es) = let rest = results_few es in omega (arith, rest)
+results_few (Moved p node ∷ es) = let rest = results_few es in omega (arith, rest)
 results_few (MetEntry p ∷ es) = let rest = results_few es in omega (arith, rest)
 
 -- a job that is handed out where none was out is the only one
-pub only_out : (old new : Shown) (job : Job) → IsNoneOut old.out → HandsOut old job new → IsOnlyOut new.out job
-only_out old new job none hands =
+pub only_out : (node : ℕ) (old new : Shown) (job : Job) → IsNoneOut old.out → HandsOut node old job new → IsOnlyOut new.out job
+only_out node old new job none hands =
     let taken = hands.0 in
     let sets = hands.1.is.out in
     let same : taken.out ≡ new.out = sym (ap (λ (b : Shown). b.out) hands.2) in
@@ -92,8 +129,8 @@ stale_accepts old new d kept is = dropped_accepts (out_at old.out d.slot) d old 
 pub finished_meets_none : (old new : Shown) (path : ArrayVec ℕ) → IsFinished old → Meets old path new → ⊥
 finished_meets_none old new path finished meets = settled_meets_none old.tree path.items meets.least.one.0 finished.1 meets.least.one.1
 
-pub finished_hands_none : (old new : Shown) (job : Job) → IsFinished old → HandsOut old job new → ⊥
-finished_hands_none old new job finished hands = settled_takes_none old.tree old.out job.path.items finished.1 hands.1.least.one
+pub finished_hands_none : (node : ℕ) (old new : Shown) (job : Job) → IsFinished old → HandsOut node old job new → ⊥
+finished_hands_none node old new job finished hands = settled_takes_none old.tree old.out job.path.items finished.1 (let one = hands.1.least.one in one.may)
 
 -- nor where it is idle
 pub idle_meets_none : (old new : Shown) (path : ArrayVec ℕ) → IsIdle old → Meets old path new → ⊥
@@ -102,26 +139,26 @@ idle_meets_none old new path idle meets =
     let here : call_at path.items 8 old.tree ≡ Some meets.least.one.0 = meets.least.one.1 in
     cc
 
-pub idle_hands_none : (old new : Shown) (job : Job) → IsIdle old → HandsOut old job new → ⊥
-idle_hands_none old new job idle hands = idle.1 job.path.items hands.1.least.one
+pub idle_hands_none : (node : ℕ) (old new : Shown) (job : Job) → IsIdle old → HandsOut node old job new → ⊥
+idle_hands_none node old new job idle hands = idle.1 job.path.items (let one = hands.1.least.one in one.may)
 
 -- a turn leaves the results as they were
-pub turn_accepts : (old new : Shown) (t : Turn Job) → IsTurn old t new → accepted new ≡ accepted old
-turn_accepts old new Met is = ap accepted is.1.is.others ∙ results_after_meeting old.history is.0
-turn_accepts old new (Hands job) is = ap accepted is.1.2 ∙ ap accepted is.1.1.is.others
-turn_accepts old new Rest is = ap accepted is.2
-turn_accepts old new Over is = ap accepted is.1
+pub turn_accepts : (worker : ℕ) (old new : Shown) (t : Turn Job) → IsTurn worker old t new → accepted new ≡ accepted old
+turn_accepts worker old new Met is = let met = is.1.is in ap accepted met.others ∙ results_after_meeting old.history met.moves old.places is.0 (awaits met.call) met.are
+turn_accepts worker old new (Hands job) is = let hands = is.1.hands in ap accepted hands.2 ∙ ap accepted hands.1.is.others
+turn_accepts worker old new Rest is = ap accepted is.2
+turn_accepts worker old new Over is = ap accepted is.1
 
-pub result_accepts : (old new : Shown) (r : Result (Turn Job) AllocError) → IfOk r (λ t. IsTurn old t new) → OnErr r (new ≡ old) → accepted new ≡ accepted old
-result_accepts old new (Ok t) is err = turn_accepts old new t is
-result_accepts old new (Err e) is err = ap accepted err
+pub result_accepts : (worker : ℕ) (old new : Shown) (r : Result (Turn Job) AllocError) → IfOk r (λ t. IsTurn worker old t new) → OnErr r (new ≡ old) → accepted new ≡ accepted old
+result_accepts worker old new (Ok t) is err = turn_accepts worker old new t is
+result_accepts worker old new (Err e) is err = ap accepted err
 
 -- and has nothing to do only where the board is idle
-pub turn_idles : (old new : Shown) (t : Turn Job) → IsTurn old t new → is_idle t ≡ true → IsIdle old
-turn_idles old new Met is h = absurd (true≢false (sym h))
-turn_idles old new (Hands job) is h = absurd (true≢false (sym h))
-turn_idles old new Rest is h = is.0
-turn_idles old new Over is h = (finished_quiet old is.0, λ p may. settled_takes_none old.tree old.out p is.0.1 may)
+pub turn_idles : (worker : ℕ) (old new : Shown) (t : Turn Job) → IsTurn worker old t new → is_idle t ≡ true → IsIdle old
+turn_idles worker old new Met is h = absurd (true≢false (sym h))
+turn_idles worker old new (Hands job) is h = absurd (true≢false (sym h))
+turn_idles worker old new Rest is h = is.0
+turn_idles worker old new Over is h = (finished_quiet old is.0, λ p may. settled_takes_none old.tree old.out p is.0.1 may)
   where
     finished_quiet : (old : Shown) → IsFinished old → (p : List ℕ) → call_at p 8 old.tree ≡ None
     finished_quiet old finished p = go (call_at p 8 old.tree) refl
@@ -136,15 +173,15 @@ none_taken_before old new same none = subst (λ (s : Shown). (p : List ℕ) → 
 
 -- a result that is handed in is counted exactly where it is taken
 -- the same of a turn whose job has more than a job: a name
-pub named_accepts : {A : Type 0} (job_of : A → Job) (old new : Shown) (r : Result (Turn A) AllocError) → IfOk r (λ t. IsTurn old (bare job_of t) new) → OnErr r (new ≡ old) → accepted new ≡ accepted old
-named_accepts job_of old new (Ok t) is err = turn_accepts old new (bare job_of t) is
-named_accepts job_of old new (Err e) is err = ap accepted err
+pub named_accepts : {A : Type 0} (job_of : A → Job) (worker : ℕ) (old new : Shown) (r : Result (Turn A) AllocError) → IfOk r (λ t. IsTurn worker old (bare job_of t) new) → OnErr r (new ≡ old) → accepted new ≡ accepted old
+named_accepts job_of worker old new (Ok t) is err = turn_accepts worker old new (bare job_of t) is
+named_accepts job_of worker old new (Err e) is err = ap accepted err
 
-pub named_idles : {A : Type 0} (job_of : A → Job) (old new : Shown) (t : Turn A) → IsTurn old (bare job_of t) new → is_idle t ≡ true → IsIdle old
-named_idles job_of old new Met is h = absurd (true≢false (sym h))
-named_idles job_of old new (Hands named) is h = absurd (true≢false (sym h))
-named_idles job_of old new Rest is h = turn_idles old new Rest is refl
-named_idles job_of old new Over is h = turn_idles old new Over is refl
+pub named_idles : {A : Type 0} (job_of : A → Job) (worker : ℕ) (old new : Shown) (t : Turn A) → IsTurn worker old (bare job_of t) new → is_idle t ≡ true → IsIdle old
+named_idles job_of worker old new Met is h = absurd (true≢false (sym h))
+named_idles job_of worker old new (Hands named) is h = absurd (true≢false (sym h))
+named_idles job_of worker old new Rest is h = turn_idles worker old new Rest is refl
+named_idles job_of worker old new Over is h = turn_idles worker old new Over is refl
 
 pub hands_in_accepts : (old new : Shown) (d : Done) (b : Bool) → HandsIn old d b new → accepted new ≡ cond b (accepted old + 1) (accepted old)
 hands_in_accepts old new d b hands = go hands.0 hands.1 hands.2

@@ -8,7 +8,7 @@ use Rattle.std.proofs.lemmas.List.{take_all, take_more}
 use Rattle.arrayvec.specs.ArrayVec.{ArrayVec}
 use Rattle.space_model.specs.declared.Await.{Await}
 use Rattle.det_laws.specs.Near.{is_awaited, IsOnWay, IsAwaitedBelow}
-use Rattle.path_set.specs.Paths.{Paths, Has, paths_in}
+use Rattle.path_set.specs.Paths.{paths_in}
 use Rattle.board.specs.Listed.{HasAll, HasWay, HasAwaited}
 
 -- a path on the way to another is its beginning
@@ -21,24 +21,24 @@ way_take (n ∷ p) (m ∷ q) way =
     (ap₂ (λ i is. i ∷ is) way.0 rest.0, omega (arith, long))
 
 -- all beginnings of a path that are shorter than this are there
-abbrev pub HasShorter : Paths → List ℕ → ℕ → Type 0
-HasShorter ps q length' = (p : List ℕ) → IsOnWay p q → length p < length' → Has ps p
+abbrev pub HasShorter : (List ℕ → Type 0) → List ℕ → ℕ → Type 0
+HasShorter has q length' = (p : List ℕ) → IsOnWay p q → length p < length' → has p
 
-pub none_shorter : (ps : Paths) (q : List ℕ) → HasShorter ps q 0
-none_shorter ps q p way short = absurd (omega (arith, short))
+pub none_shorter : (has : List ℕ → Type 0) (q : List ℕ) → HasShorter has q 0
+none_shorter has q p way short = absurd (omega (arith, short))
 
-pub one_longer : (ps new : Paths) (q : List ℕ) (n : ℕ) → HasShorter ps q n → HasAll new ps → Has new (take n q) → HasShorter new q (n + 1)
-one_longer ps new q n so_far all there p way short = go (cases_eq (length p) n)
+pub one_longer : (has new : List ℕ → Type 0) (q : List ℕ) (n : ℕ) → HasShorter has q n → HasAll new has → new (take n q) → HasShorter new q (n + 1)
+one_longer has new q n so_far all there p way short = go (cases_eq (length p) n)
   where
-    go : (length p ≡ n) ⊎ (length p ≡ n → ⊥) → Has new p
-    go (inl e) = subst (Has new) (sym ((way_take p q way).0 ∙ ap (λ i. take i q) e)) there
+    go : (length p ≡ n) ⊎ (length p ≡ n → ⊥) → new p
+    go (inl e) = subst new (sym ((way_take p q way).0 ∙ ap (λ i. take i q) e)) there
     go (inr ne) = all p (so_far p way (omega (arith, short, ne)))
 
-pub whole_way : (ps : Paths) (q : List ℕ) (n : ℕ) → length q < n → HasShorter ps q n → HasWay ps q
-whole_way ps q n past so_far p way = let long = (way_take p q way).1 in so_far p way (omega (arith, past, long))
+pub whole_way : (has : List ℕ → Type 0) (q : List ℕ) (n : ℕ) → length q < n → HasShorter has q n → HasWay has q
+whole_way has q n past so_far p way = let long = (way_take p q way).1 in so_far p way (omega (arith, past, long))
 
 -- the path of a child that is awaited
-awaited_path : (all : List Await) (p q : List ℕ) → IsAwaitedBelow all p q → (n : ℕ) × (p ≡ q ++ n ∷ []) × (is_awaited n all ≡ true)
+pub awaited_path : (all : List Await) (p q : List ℕ) → IsAwaitedBelow all p q → (n : ℕ) × (p ≡ q ++ n ∷ []) × (is_awaited n all ≡ true)
 awaited_path all [] [] below = absurd below
 awaited_path all (n ∷ []) [] below = (n, refl, below)
 awaited_path all (n ∷ m ∷ p) [] below = absurd below
@@ -46,11 +46,11 @@ awaited_path all [] (m ∷ q) below = absurd below
 awaited_path all (n ∷ p) (m ∷ q) below = let rest = awaited_path all p q below.1 in (rest.0, ap₂ (λ i is. i ∷ is) below.0 rest.1, rest.2)
 
 -- the first so many of those awaited are there
-abbrev pub HasSome : Paths → List Await → List ℕ → Type 0
-HasSome ps all q = (n : ℕ) → length q < 8 → is_awaited n all ≡ true → Has ps (q ++ n ∷ [])
+abbrev pub HasSome : (List ℕ → Type 0) → List Await → List ℕ → Type 0
+HasSome has all q = (n : ℕ) → length q < 8 → is_awaited n all ≡ true → has (q ++ n ∷ [])
 
-pub none_awaited : (ps : Paths) (q : List ℕ) → HasSome ps [] q
-none_awaited ps q n short is = absurd (true≢false (sym is))
+pub none_awaited : (has : List ℕ → Type 0) (q : List ℕ) → HasSome has [] q
+none_awaited has q n short is = absurd (true≢false (sym is))
 
 either : (a b : Bool) → (a || b) ≡ true → (a ≡ true) ⊎ (b ≡ true)
 either true b h = inl refl
@@ -76,22 +76,22 @@ append_awaited n (b ∷ all) a is = go (either (n == b.number) (is_awaited n (al
     go (inl e) rec = inl (ap (λ x. x || is_awaited n all) e)
     go (inr later) rec = more (rec later)
 
-pub one_more_awaited : (ps new : Paths) (all more : List Await) (a : Await) (q : List ℕ) → more ≡ all ++ a ∷ [] → HasSome ps all q → HasAll new ps → (length q < 8 → Has new (q ++ a.number ∷ [])) → HasSome new more q
-one_more_awaited ps new all more a q is so_far others there n short awaited = go (append_awaited n all a (ap (is_awaited n) (sym is) ∙ awaited))
+pub one_more_awaited : (has new : List ℕ → Type 0) (all more : List Await) (a : Await) (q : List ℕ) → more ≡ all ++ a ∷ [] → HasSome has all q → HasAll new has → (length q < 8 → new (q ++ a.number ∷ [])) → HasSome new more q
+one_more_awaited has new all more a q is so_far others there n short awaited = go (append_awaited n all a (ap (is_awaited n) (sym is) ∙ awaited))
   where
-    go : (is_awaited n all ≡ true) ⊎ (n ≡ a.number) → Has new (q ++ n ∷ [])
+    go : (is_awaited n all ≡ true) ⊎ (n ≡ a.number) → new (q ++ n ∷ [])
     go (inl h) = others (q ++ n ∷ []) (so_far n short h)
-    go (inr e) = subst (λ i. Has new (q ++ i ∷ [])) (sym e) (there short)
+    go (inr e) = subst (λ i. new (q ++ i ∷ [])) (sym e) (there short)
 
 pub length_one_more : (q : List ℕ) (n : ℕ) → length (q ++ n ∷ []) ≡ length q + 1
 length_one_more [] n = refl
 length_one_more (m ∷ q) n = let rest = length_one_more q n in omega (arith, rest)
 
-pub all_awaited : (ps : Paths) (all : List Await) (q : List ℕ) → HasSome ps all q → HasAwaited ps all q
-all_awaited ps all q so_far p short below =
+pub all_awaited : (has : List ℕ → Type 0) (all : List Await) (q : List ℕ) → HasSome has all q → HasAwaited has all q
+all_awaited has all q so_far p short below =
     let path = awaited_path all p q below in
     let long = ap length path.1 ∙ length_one_more q path.0 in
-    subst (Has ps) (sym path.1) (so_far path.0 (omega (arith, short, long)) path.2)
+    subst has (sym path.1) (so_far path.0 (omega (arith, short, long)) path.2)
 
 pub paths-append : (ps : List (ArrayVec ℕ)) (p : ArrayVec ℕ) → paths_in (ps ++ p ∷ []) ≡ paths_in ps ++ p.items ∷ []
 paths-append [] p = refl
@@ -102,9 +102,9 @@ pub next_awaited : (all : List Await) (i : ℕ) (a : Await) → slice_get all i 
 next_awaited all i a is = let within = slice_get_within all i a is in take_more all i a within ∙ ap (λ x. take i all ++ x ∷ []) (get_or_from_slice_get all i a a is)
 
 -- where all were gone through
-pub awaited_end : (ps : Paths) (all named : List Await) (q : List ℕ) (i : ℕ) → HasSome ps (take i all) q → length all ≤ i → all ≡ named → HasAwaited ps named q
-awaited_end ps all named q i so_far past is =
-    subst (λ xs. HasAwaited ps xs q) is (all_awaited ps all q (subst (λ xs. HasSome ps xs q) (take_all i all past) so_far))
+pub awaited_end : (has : List ℕ → Type 0) (all named : List Await) (q : List ℕ) (i : ℕ) → HasSome has (take i all) q → length all ≤ i → all ≡ named → HasAwaited has named q
+awaited_end has all named q i so_far past is =
+    subst (λ xs. HasAwaited has xs q) is (all_awaited has all q (subst (λ xs. HasSome has xs q) (take_all i all past) so_far))
 
 -- what holds at Ok holds where the result is no error
 pub of_ok : {T E : Type 0} (r : Result T E) (P : Type 0) {b : Bool} → b ≡ false → b ≡ is_err r → OnOk r P → P

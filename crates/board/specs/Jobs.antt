@@ -4,6 +4,7 @@ use Rattle.std.specs.Prelude.{◌≡◌, ◌≢◌, ℕ, true, List, Option, Som
 use Rattle.call_model.specs.Limits.{greatest_depth}
 use Rattle.space_model.specs.Space.{Space}
 use Rattle.run_model.specs.Schedule.{is_local_at}
+use Rattle.node_places.specs.Places.{Places, place_of}
 use Rattle.board.specs.declared.job.Out.{Out}
 
 abbrev pub Slots : Type 0
@@ -34,3 +35,8 @@ pub record Sets (slot : ℕ) (o : Option Out) (old new : Slots) : Type 0 where
 pub record MayBeTaken (tree : Space) (out : Slots) (p : List ℕ) : Type 0 where
   pub goes : is_local_at p greatest_depth tree ≡ true
   pub inside : IsOut out p → ⊥
+
+-- and it stands on this node
+pub record MayBeTakenOn (places : Places) (node : ℕ) (tree : Space) (out : Slots) (p : List ℕ) : Type 0 where
+  pub may : MayBeTaken tree out p
+  pub there : place_of places p ≡ node

@@ -1,8 +1,11 @@
 pub mod Sound
 pub mod Jobs
+pub mod Runs
 pub mod Listed
 pub mod Names
 pub mod Value
 pub mod View
 pub mod Steps
+pub mod Gathering
 pub mod Turns
+pub mod Events

@@ -1,13 +1,14 @@
 -- What a turn of a board is, and what comes of a job that a worker does.
 -- Our choice: calls that may meet their children come before jobs, and a board is over where nothing may happen any more and no job is out.
-use Rattle.std.specs.Prelude.{◌≡◌, ◌≢◌, ℕ, ◌+◌, ◌-◌, ◌≤◌, ◌<◌, true, Bool, false, List, [], ◌∷◌, Some, None}
+use Rattle.std.specs.Prelude.{◌≡◌, ◌≢◌, ℕ, ◌+◌, ◌-◌, ◌%◌, ◌≤◌, ◌<◌, nat_lt, if◌then◌else◌, true, Bool, false, List, [], ◌∷◌, Some, None}
 use Rattle.arrayvec.specs.ArrayVec.{ArrayVec}
 use Rattle.call_model.specs.Limits.{greatest_depth, levels_below}
 use Rattle.space_model.specs.Space.{is_settled}
 use Rattle.space_model.specs.Event.{next, IsNotLocal}
 use Rattle.run_model.specs.Schedule.{call_at}
 use Rattle.det_core.specs.declared.entry.Entry.{Entry}
-use Rattle.det_core.specs.declared.entry.Entry.TheVariants.{Ran, Met as MetEntry}
+use Rattle.node_places.specs.Places.{place_of}
+use Rattle.det_core.specs.declared.entry.Entry.TheVariants.{Ran, Moved, Met as MetEntry}
 use Rattle.worker_pool.specs.declared.shop.Turn.{Turn}
 use Rattle.worker_pool.specs.declared.shop.Turn.TheVariants.{Job as Hands, Met, Rest, Over}
 use Rattle.worker_pool.specs.declared.shop.Worked.{Worked}
@@ -26,6 +27,7 @@ use Rattle.board.specs.Steps.{Takes, Meets, Commits}
 abbrev pub results_in : List Entry → ℕ
 results_in [] = 0
 results_in (Ran path events ∷ es) = results_in es + 1
+results_in (Moved path node ∷ es) = results_in es
 results_in (MetEntry path ∷ es) = results_in es
 
 abbrev pub accepted : Shown → ℕ
@@ -52,17 +54,44 @@ pub record IsOnlyOut (out : Slots) (job : Job) : Type 0 where
   pub there : (o : Out) × (out_at out job.slot ≡ Some o) × (o.ticket ≡ job.ticket)
   pub others : (slot : ℕ) → slot ≢ job.slot → out_at out slot ≡ None
 
--- a job is taken, and is owed from then on
-abbrev pub HandsOut : Shown → Job → Shown → Type 0
-HandsOut old job new = (taken : Shown) × Takes old job taken × (new ≡ record taken { owed = old.owed + 1 })
+-- a job is taken on a node, and is owed from then on
+abbrev pub HandsOut : ℕ → Shown → Job → Shown → Type 0
+HandsOut node old job new = (taken : Shown) × Takes node old job taken × (new ≡ record taken { owed = old.owed + 1 })
 
--- The least call that may meet its children has met them. Where there is none, the least space that may be taken is handed out. Where there is none either,
--- nothing changes: it is over where the board is finished, and a job is out else.
-abbrev pub IsTurn : Shown → Turn Job → Shown → Type 0
-IsTurn old Met new = (path : ArrayVec ℕ) × Meets old path new
-IsTurn old (Hands job) new = NoneMayMeet old × HandsOut old job new
-IsTurn old Rest new = IsIdle old × IsSomeOut old.out × (new ≡ old)
-IsTurn old Over new = IsFinished old × (new ≡ old)
+-- how far a node is from a first one, where they are gone through in a ring
+abbrev pub distance : ℕ → ℕ → ℕ → ℕ
+distance nodes first node = if nat_lt node first then node + (nodes - first) else node - first
+
+-- no space may be taken on the nodes that come before this one, from a first node on
+abbrev pub NoneBefore : Shown → ℕ → ℕ → Type 0
+NoneBefore b first node =
+    (p : List ℕ) → distance b.places.nodes first (place_of b.places p) < distance b.places.nodes first node → MayBeTaken b.tree b.out p → ⊥
+
+-- no space may be taken on the nodes from one on to another
+abbrev pub NoneAmong : Shown → ℕ → ℕ → Type 0
+NoneAmong b from to = (p : List ℕ) → from ≤ place_of b.places p → place_of b.places p < to → MayBeTaken b.tree b.out p → ⊥
+
+-- the least space that may be taken is handed out on the first of these nodes that has any
+pub record HandsOutAmong (from to : ℕ) (old : Shown) (job : Job) (new : Shown) : Type 0 where
+  pub node : ℕ
+  pub within : (from ≤ node) × (node < to)
+  pub none : NoneAmong old from node
+  pub hands : HandsOut node old job new
+
+-- the least space that may be taken on a node is handed out, on the first node from this one on that has any
+pub record HandsOutFrom (first : ℕ) (old : Shown) (job : Job) (new : Shown) : Type 0 where
+  pub node : ℕ
+  pub there : node < old.places.nodes
+  pub none : NoneBefore old first node
+  pub hands : HandsOut node old job new
+
+-- The least call that may meet its children has met them. Where there is none, a space that may be taken is handed out, from the node of the worker on. Where there is
+-- none either, nothing changes: it is over where the board is finished, and a job is out else.
+abbrev pub IsTurn : ℕ → Shown → Turn Job → Shown → Type 0
+IsTurn worker old Met new = (path : ArrayVec ℕ) × Meets old path new
+IsTurn worker old (Hands job) new = NoneMayMeet old × HandsOutFrom (worker % old.places.nodes) old job new
+IsTurn worker old Rest new = IsIdle old × IsSomeOut old.out × (new ≡ old)
+IsTurn worker old Over new = IsFinished old × (new ≡ old)
 
 -- a turn whose job has lost its name
 abbrev pub bare : {A : Type 0} → (A → Job) → Turn A → Turn Job

@@ -24,7 +24,7 @@ pub fn run_alone<R: Wait>(rt: &R, board: Board) -> Result<Closed, AllocError>
     let mut board = board;
     let mut cache = DecodeCache::new(board.alloc)?;
     for _ in rt.forever() {
-        match board.next_turn()? {
+        match board.next_turn(0)? {
             Turn::Job(job) => work_at(&mut board, &mut cache, job)?,
             Turn::Met => {}
             Turn::Rest => unreachable!(),

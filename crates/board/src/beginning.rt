@@ -1,12 +1,16 @@
-ghost use Rattle.std.specs.Prelude.{◌≡◌, ◌+◌, ◌-◌, ◌<◌, Some, slice_get, IfOk, OnOk, length};
+ghost use Rattle.std.specs.Prelude.{◌≡◌, ◌+◌, ◌-◌, ◌<◌, ◌≤◌, Some, slice_get, IfOk, OnOk, length};
 ghost use Rattle.space_model.specs.Sound.{IsSound};
 ghost use Rattle.board.specs.Listed.{HasAll, HasEnabled, HasEnabledBelow, IsSoundSomewhere};
+ghost use Rattle.path_set.specs.Paths.{Has};
+ghost use Rattle.board.specs.Runs.{HasAllLists, HasRun};
 ghost use Rattle.board.specs.Value.{begun};
 
 use crate::board::Board;
 use crate::boot::Boot;
 use crate::listing::{child_path, list};
 use crate::lists::Lists;
+use crate::runs::Runs;
+use node_store::Nodes;
 use path_set::PathSet;
 use slab::Slab;
 use space_tree::{Path, Space, copy_tree};
@@ -24,7 +28,7 @@ fn number_at(numbers: &[u16], index: usize) -> u16
 #[cycle(all)]
 fn list_all(
     alloc: Global,
-    run: &mut PathSet,
+    run: &mut Runs,
     calls: &mut PathSet,
     space: &Space,
     path: &Path,
@@ -32,9 +36,10 @@ fn list_all(
 ) -> Result<(), AllocError>
     requires sound { IsSoundSomewhere levels space.now }
     requires deep { length path.now.items + levels ≡ 8 }
-    ensures run { HasAll run.new run.old }
-    ensures calls { HasAll calls.new calls.old }
-    ensures all { OnOk result (HasEnabled run.new path.now.items levels space.now × HasEnabled calls.new path.now.items levels space.now) }
+    ensures places { run.new.places ≡ run.old.places }
+    ensures run { HasAllLists run.new run.old }
+    ensures calls { HasAll (Has calls.new) (Has calls.old) }
+    ensures all { OnOk result (HasEnabled (HasRun run.new) path.now.items levels space.now × HasEnabled (Has calls.new) path.now.items levels space.now) }
 {
     list(run, calls, path)?;
     let numbers = space.children.numbers(alloc)?;
@@ -49,7 +54,7 @@ fn list_all(
 #[cycle(all)]
 fn list_child(
     alloc: Global,
-    run: &mut PathSet,
+    run: &mut Runs,
     calls: &mut PathSet,
     space: &Space,
     path: &Path,
@@ -58,9 +63,10 @@ fn list_child(
 ) -> Result<(), AllocError>
     requires sound { IsSoundSomewhere levels space.now }
     requires deep { length path.now.items + levels ≡ 8 }
-    ensures run { HasAll run.new run.old }
-    ensures calls { HasAll calls.new calls.old }
-    ensures child { OnOk result (HasEnabledBelow run.new path.now.items levels number space.now × HasEnabledBelow calls.new path.now.items levels number space.now) }
+    ensures places { run.new.places ≡ run.old.places }
+    ensures run { HasAllLists run.new run.old }
+    ensures calls { HasAll (Has calls.new) (Has calls.old) }
+    ensures child { OnOk result (HasEnabledBelow (HasRun run.new) path.now.items levels number space.now × HasEnabledBelow (Has calls.new) path.now.items levels number space.now) }
 {
     let Some(child) = space.children.get(number) else {
         return Ok(());
@@ -70,20 +76,20 @@ fn list_child(
 }
 
 impl Board {
-    /// A board over a sound tree, which is the tree that it begins with and the tree that it has, on so many nodes (one so far): no job is out, and nothing
-    /// has happened. The one error is want of memory.
+    /// A board over a sound tree, which is the tree that it begins with and the tree that it has, on so many nodes, 1 to 64: each space stands at home, no job is
+    /// out, and nothing has happened. The one error is want of memory.
     pub fn begin(alloc: Global, mut space: Space, nodes: u32) -> Result<Board, AllocError>
         requires sound { IsSound space }
-        requires nodes { nodes ≡ 1 }
+        requires nodes { (1 ≤ nodes) × (nodes ≤ 64) }
         ensures { IfOk result (λ b. b ≡ begun space nodes) }
     {
-        let mut run = PathSet::new(alloc);
+        let mut run = Runs::new(alloc, nodes)?;
+        let pages = Nodes::new(alloc, nodes)?;
         let mut calls = PathSet::new(alloc);
         list_all(alloc, &mut run, &mut calls, &space, &Path::new(), 8)?;
         Ok(Board {
             alloc,
             boot: Boot::of(copy_tree(alloc, &mut space)?),
-            nodes,
             tree: space,
             history: Vec::new(alloc),
             out: Slab::new(alloc),
@@ -94,6 +100,7 @@ impl Board {
                 run,
                 calls,
                 news: Vec::new(alloc),
+                pages,
             },
         })
     }

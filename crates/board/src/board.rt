@@ -8,12 +8,12 @@ use std::alloc::Global;
 use std::marker::Model;
 
 /// A tree of spaces whose local events workers do, job by job, with the history that leads to it from the tree it began with. Contracts see both
-/// trees, the history, the jobs that are out, the number of the next ticket and how many jobs are owed; beside these it keeps where to look for the next job and the next call.
+/// trees, the history, the node on which each space stands, the jobs that are out, the number of the next ticket and how many jobs are owed; beside these it keeps
+/// where to look for the next job and the next call, and the pages of each node.
 #[derive(Drop)]
 pub struct Board {
     pub(crate) alloc: Global,
     pub(crate) boot: Boot,
-    pub(crate) nodes: u32,
     pub(crate) tree: Space,
     pub(crate) history: Vec<Entry>,
     pub(crate) out: Slab<Out>,

@@ -1,10 +1,12 @@
-ghost use Rattle.std.specs.Prelude.{◌≡◌, ℕ, ◌+◌, ◌<◌, ◌≤◌, ◌++◌, [], ◌∷◌, IfOk, OnOk, take, length, vec_len, vec_capacity};
+ghost use Rattle.std.specs.Prelude.{◌≡◌, ℕ, ◌+◌, ◌<◌, ◌≤◌, ◌++◌, [], ◌∷◌, IfOk, IfSome, IsNone, OnOk, take, length, vec_len, vec_capacity};
 ghost use Rattle.space_model.specs.Space.{Space};
 ghost use Rattle.path_set.specs.Paths.{Has, paths_in};
+ghost use Rattle.board.specs.Runs.{HasAllLists, HasAtHome, HasRun};
 ghost use Rattle.board.specs.Jobs.{Slots};
 ghost use Rattle.board.specs.Listed.{HasAll, HasAwaited, HasWay, IsListed};
 ghost use Rattle.space_model.specs.Meeting.{awaits};
 
+use crate::runs::Runs;
 use path_set::PathSet;
 use space_step::AcceptedCall;
 use space_tree::Path;
@@ -12,12 +14,13 @@ use std::alloc::AllocError;
 use trap_ret::awaits;
 
 /// Lists a path among the spaces that may run and among the calls that may meet their children.
-pub(crate) fn list(run: &mut PathSet, calls: &mut PathSet, path: &Path) -> Result<(), AllocError>
-    ensures run { HasAll run.new run.old }
-    ensures calls { HasAll calls.new calls.old }
-    ensures there { OnOk result (Has run.new path.now.items × Has calls.new path.now.items) }
+pub(crate) fn list(run: &mut Runs, calls: &mut PathSet, path: &Path) -> Result<(), AllocError>
+    ensures places { run.new.places ≡ run.old.places }
+    ensures run { HasAllLists run.new run.old }
+    ensures calls { HasAll (Has calls.new) (Has calls.old) }
+    ensures there { OnOk result (HasRun run.new path.now.items × Has calls.new path.now.items) }
 {
-    run.insert(path.clone()?)?;
+    run.list(path)?;
     calls.insert(path.clone()?)
 }
 
@@ -26,6 +29,14 @@ pub(crate) fn one_more(count: usize) -> Result<usize, AllocError>
     ensures { IfOk result (λ n. n ≡ count + 1) }
 {
     count.checked_add(1).ok_or(AllocError)
+}
+
+/// How many entries of the history there may be once a call has met its children, so many of which come home, and so many jobs have come back: the error stands for want of memory.
+pub(crate) fn with_moves(jobs: usize, away: usize) -> Result<usize, AllocError>
+    ensures { IfOk result (λ n. n ≡ jobs + (away + 2)) }
+{
+    let moves = away.checked_add(2).ok_or(AllocError)?;
+    jobs.checked_add(moves).ok_or(AllocError)
 }
 
 /// A path that is equal.
@@ -57,8 +68,8 @@ fn beginning(path: &Path, length: usize) -> Result<Path, AllocError>
 // Puts a path into a set, and all that stand on the way to it.
 #[tactic(auto, using(crate::proofs::Ways::none_shorter))]
 fn put_way(paths: &mut PathSet, path: &Path) -> Result<(), AllocError>
-    ensures all { HasAll paths.new paths.old }
-    ensures way { OnOk result (HasWay paths.new path.now.items) }
+    ensures all { HasAll (Has paths.new) (Has paths.old) }
+    ensures way { OnOk result (HasWay (Has paths.new) path.now.items) }
 {
     for length in 0..path.len() + 1 {
         let above = beginning(path, length)?;
@@ -67,58 +78,85 @@ fn put_way(paths: &mut PathSet, path: &Path) -> Result<(), AllocError>
     Ok(())
 }
 
-/// Lists a path, and all that stand on the way to it.
-pub(crate) fn list_way(
-    run: &mut PathSet,
-    calls: &mut PathSet,
-    path: &Path,
-) -> Result<(), AllocError>
-    ensures run { HasAll run.new run.old }
-    ensures calls { HasAll calls.new calls.old }
-    ensures way { OnOk result (HasWay run.new path.now.items × HasWay calls.new path.now.items) }
+// Lists all that stand on the way to a path among the spaces that may run.
+#[tactic(auto, using(crate::proofs::Ways::none_shorter))]
+fn list_way_to_run(run: &mut Runs, path: &Path) -> Result<(), AllocError>
+    ensures places { run.new.places ≡ run.old.places }
+    ensures all { HasAllLists run.new run.old }
+    ensures way { OnOk result (HasWay (HasRun run.new) path.now.items) }
 {
-    put_way(run, path)?;
+    for length in 0..path.len() + 1 {
+        let above = beginning(path, length)?;
+        run.list(&above)?;
+    }
+    Ok(())
+}
+
+/// Lists a path, and all that stand on the way to it.
+pub(crate) fn list_way(run: &mut Runs, calls: &mut PathSet, path: &Path) -> Result<(), AllocError>
+    ensures places { run.new.places ≡ run.old.places }
+    ensures run { HasAllLists run.new run.old }
+    ensures calls { HasAll (Has calls.new) (Has calls.old) }
+    ensures way { OnOk result (HasWay (HasRun run.new) path.now.items × HasWay (Has calls.new) path.now.items) }
+{
+    list_way_to_run(run, path)?;
     put_way(calls, path)
 }
 
 // Lists a path that is news: its space may run, and so may each call on the way to it meet its children.
-fn list_one_of_news(run: &mut PathSet, calls: &mut PathSet, path: &Path) -> Result<(), AllocError>
-    ensures run { HasAll run.new run.old }
-    ensures calls { HasAll calls.new calls.old }
-    ensures there { OnOk result (Has run.new path.now.items × HasWay calls.new path.now.items) }
+fn list_one_of_news(run: &mut Runs, calls: &mut PathSet, path: &Path) -> Result<(), AllocError>
+    ensures places { run.new.places ≡ run.old.places }
+    ensures run { HasAllLists run.new run.old }
+    ensures calls { HasAll (Has calls.new) (Has calls.old) }
+    ensures there { OnOk result (HasRun run.new path.now.items × HasWay (Has calls.new) path.now.items) }
 {
-    run.insert(path.clone()?)?;
+    run.list(path)?;
     put_way(calls, path)
 }
 
-// Lists a child of the space at a path, where a space can stand there.
+/// The path of a child of the space at a path, where a space can stand there.
+pub(crate) fn path_below(path: &Path, number: u16) -> Result<Option<Path>, AllocError>
+    ensures some { IfOk result (λ o. IfSome o (λ p. (p.items ≡ path.now.items ++ number ∷ []) × (length path.now.items < 8))) }
+    ensures none { IfOk result (λ o. IsNone o → 8 ≤ length path.now.items) }
+{
+    let mut child = path.clone()?;
+    if child.try_push(number).is_err() {
+        return Ok(None);
+    }
+    Ok(Some(child))
+}
+
+// Lists a child of the space at a path, where a space can stand there: among the spaces that may run for its home.
 fn list_child(
-    run: &mut PathSet,
+    run: &mut Runs,
     calls: &mut PathSet,
     path: &Path,
     number: u16,
 ) -> Result<(), AllocError>
-    ensures run { HasAll run.new run.old }
-    ensures calls { HasAll calls.new calls.old }
-    ensures there { OnOk result (length path.now.items < 8 → Has run.new (path.now.items ++ number ∷ []) × Has calls.new (path.now.items ++ number ∷ [])) }
+    ensures places { run.new.places ≡ run.old.places }
+    ensures run { HasAllLists run.new run.old }
+    ensures calls { HasAll (Has calls.new) (Has calls.old) }
+    ensures there { OnOk result (length path.now.items < 8 → HasAtHome run.new (path.now.items ++ number ∷ []) × Has calls.new (path.now.items ++ number ∷ [])) }
 {
-    let mut child = path.clone()?;
-    if child.try_push(number).is_err() {
+    let Some(child) = path_below(path, number)? else {
         return Ok(());
-    }
-    list(run, calls, &child)
+    };
+    let home = run.places.home(&child);
+    run.list_on(&child, home)?;
+    calls.insert(child)
 }
 
-/// Lists the children of the space at a path that its call awaits.
+/// Lists the children of the space at a path that its call awaits, for their homes.
 pub(crate) fn list_awaited(
-    run: &mut PathSet,
+    run: &mut Runs,
     calls: &mut PathSet,
     path: &Path,
     call: AcceptedCall,
 ) -> Result<(), AllocError>
-    ensures run { HasAll run.new run.old }
-    ensures calls { HasAll calls.new calls.old }
-    ensures awaited { OnOk result (HasAwaited run.new (awaits call) path.now.items × HasAwaited calls.new (awaits call) path.now.items) }
+    ensures places { run.new.places ≡ run.old.places }
+    ensures run { HasAllLists run.new run.old }
+    ensures calls { HasAll (Has calls.new) (Has calls.old) }
+    ensures awaited { OnOk result (HasAwaited (HasAtHome run.new) (awaits call) path.now.items × HasAwaited (Has calls.new) (awaits call) path.now.items) }
 {
     let all = awaits(call.call());
     for index in 0..all.len() {
@@ -130,10 +168,11 @@ pub(crate) fn list_awaited(
 
 /// Brings the lists up to date: the news are listed, as are the calls on the way to them, and no news are left.
 pub(crate) fn list_news(
-    run: &mut PathSet,
+    run: &mut Runs,
     calls: &mut PathSet,
     news: &mut Vec<Path>,
 ) -> Result<(), AllocError>
+    ensures places { run.new.places ≡ run.old.places }
     ensures listed { (tree : Space) (out : Slots) → IsListed tree run.old calls.old (paths_in news.old.items) out → IsListed tree run.new calls.new (paths_in news.new.items) out }
     ensures none { OnOk result (news.new.items ≡ []) }
     ensures fewer { vec_len news.new ≤ vec_len news.old }

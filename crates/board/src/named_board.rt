@@ -52,14 +52,14 @@ impl<J: Naming> NamedBoard<J> {
     }
 
     /// A worker's turn, as `Board::next_turn` says, whose job has a name.
-    pub(crate) fn next_turn(&mut self) -> Result<Turn<NamedJob<J>>, AllocError>
-        ensures is { IfOk result (λ t. IsTurn self.old (bare (λ (j : _). j.job) t) self.new) }
+    pub(crate) fn next_turn(&mut self, worker: usize) -> Result<Turn<NamedJob<J>>, AllocError>
+        ensures is { IfOk result (λ t. IsTurn worker self.old (bare (λ (j : _). j.job) t) self.new) }
         ensures over { IsFinished self.old → IfOk result (λ t. is_over (bare (λ (j : _). j.job) t) ≡ true) }
         ensures idle { IsIdle self.old → IfOk result (λ t. is_idle t ≡ true) }
         ensures err { OnErr result (self.new ≡ self.old) }
     {
         self.board.jobs_go_on();
-        match self.board.next_turn()? {
+        match self.board.next_turn(worker)? {
             Turn::Job(job) => {
                 let name = self.names.name(&job.top);
                 keep(&mut self.starts, job.slot, again(&name));

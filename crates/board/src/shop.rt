@@ -22,8 +22,7 @@ impl<J: Naming + Send> Shop for NamedBoard<J> {
     ghost idle = { turns.IsIdle };
 
     fn turn(&mut self, worker: usize) -> Result<Turn<NamedJob<J>>, AllocError> {
-        let _ = worker;
-        self.next_turn()
+        self.next_turn(worker)
     }
 
     fn has_more(&mut self) -> bool {

@@ -4,15 +4,19 @@ ghost use Rattle.space_model.specs.Space.{Space, top_of};
 ghost use Rattle.space_model.specs.Event.{next};
 ghost use Rattle.run_model.specs.Schedule.{is_local, is_local_at};
 ghost use Rattle.path_set.specs.Paths.{Has, IsFirst, Paths};
-ghost use Rattle.board.specs.Jobs.{MayBeTaken, Slots};
+ghost use Rattle.node_places.specs.Places.{place_of};
+ghost use Rattle.board.specs.Jobs.{MayBeTaken, MayBeTakenOn, Slots};
 ghost use Rattle.board.specs.Listed.{AreOut, IsListed};
+ghost use Rattle.board.specs.Runs.{list_on};
 ghost use Rattle.board.specs.Steps.{IsLeast, IsPutOut, Takes};
 
 use crate::board::Board;
 use crate::job::{Job, Out};
 use crate::listing::{copy_path, list_news, one_more};
+use crate::runs::Runs;
 use crate::slots::put_in;
 use det_core::Entry;
+use node_places::Places;
 use path_set::PathSet;
 use space_step::{Next, peek};
 use space_tree::{Path, Space, at, copy_top_at};
@@ -52,21 +56,35 @@ fn may_be_taken(tree: &Space, at_work: &PathSet, path: &Path) -> bool
     !at_work.contains(path)
 }
 
-// The first of those listed that may be taken, where these are at work; those before it are listed no more.
+// Whether the space at a path stands on a node and may be taken, where these are at work.
+fn may_be_taken_on(tree: &Space, places: &Places, at_work: &PathSet, path: &Path, node: u32) -> bool
+    ensures yes { result ≡ true → (place_of places.now path.now.items ≡ node) × ((out : Slots) → AreOut at_work.now out → MayBeTaken tree.now out path.now.items) }
+    ensures no { result ≡ false → place_of places.now path.now.items ≡ node → is_local_at path.now.items greatest_depth tree.now ≡ true → Has at_work.now path.now.items }
+{
+    if places.place(path) != node {
+        return false;
+    }
+    may_be_taken(tree, at_work, path)
+}
+
+// The first of those listed for a node that may be taken, where these are at work; those before it are listed there no more.
 fn find_first(
     tree: &Space,
-    run: &mut PathSet,
+    run: &mut Runs,
     at_work: &PathSet,
+    node: u32,
 ) -> Result<Option<Path>, AllocError>
+    requires { node < run.old.places.nodes }
+    ensures places { run.new.places ≡ run.old.places }
     ensures listed { (calls : Paths) (out : Slots) → AreOut at_work.now out → IsListed tree.now run.old calls [] out → IsListed tree.now run.new calls [] out }
-    ensures some { IfOk result (λ o. IfSome o (λ p. IsFirst p.items run.new × ((out : Slots) → AreOut at_work.now out → MayBeTaken tree.now out p.items))) }
-    ensures none { IfOk result (λ o. IsNone o → run.new ≡ []) }
+    ensures some { IfOk result (λ o. IfSome o (λ p. IsFirst p.items (list_on run.new node) × (place_of run.new.places p.items ≡ node) × ((out : Slots) → AreOut at_work.now out → MayBeTaken tree.now out p.items))) }
+    ensures none { IfOk result (λ o. IsNone o → list_on run.new node ≡ []) }
 {
-    while let Some(first) = run.first() {
-        if may_be_taken(tree, at_work, first) {
+    while let Some(first) = run.first_on(node) {
+        if may_be_taken_on(tree, &run.places, at_work, first, node) {
             return Ok(Some(copy_path(first)?));
         }
-        run.pop_first();
+        run.drop_first_on(node);
     }
     Ok(None)
 }
@@ -90,18 +108,19 @@ fn make_places(
 }
 
 impl Board {
-    /// The least space that may be taken. Those that were listed before it and may not be are listed no more.
-    pub(crate) fn to_take(&mut self) -> Result<Option<Path>, AllocError>
+    /// The least space on a node that may be taken. Those that were listed before it and may not be are listed there no more.
+    pub(crate) fn to_take(&mut self, node: u32) -> Result<Option<Path>, AllocError>
+        requires { node < self.old.places.nodes }
         ensures same { self.new ≡ self.old }
-        ensures some { IfOk result (λ o. IfSome o (λ p. IsLeast (MayBeTaken self.old.tree self.old.out) p.items)) }
-        ensures none { IfOk result (λ o. IsNone o → (p : List ℕ) → MayBeTaken self.old.tree self.old.out p → ⊥) }
+        ensures some { IfOk result (λ o. IfSome o (λ p. IsLeast (MayBeTakenOn self.old.places node self.old.tree self.old.out) p.items)) }
+        ensures none { IfOk result (λ o. IsNone o → (p : List ℕ) → MayBeTakenOn self.old.places node self.old.tree self.old.out p → ⊥) }
     {
         list_news(
             &mut self.lists.run,
             &mut self.lists.calls,
             &mut self.lists.news,
         )?;
-        find_first(&self.tree, &mut self.lists.run, &self.lists.at_work)
+        find_first(&self.tree, &mut self.lists.run, &self.lists.at_work, node)
     }
 
     // Puts out a job for a space that may be taken, with a copy of its state and the next ticket.
@@ -131,16 +150,15 @@ impl Board {
         })
     }
 
-    /// Puts a job out: the least space that has a local event next and is not out, on that node (there is one so far), with an equal copy of its
-    /// state and the next ticket. None exactly where there is no such space. The one error is want of memory, and then nothing has changed.
+    /// Puts a job out: the least space on that node that has a local event next and is not out, with an equal copy of its state and the next ticket. None
+    /// exactly where there is no such space. The one error is want of memory, and then nothing has changed.
     pub fn take(&mut self, node: u32) -> Result<Option<Job>, AllocError>
-        requires { node < self.old.nodes }
-        ensures some { IfOk result (λ o. IfSome o (λ job. Takes self.old job self.new)) }
-        ensures none { IfOk result (λ o. IsNone o → (self.new ≡ self.old) × ((p : List ℕ) → MayBeTaken self.old.tree self.old.out p → ⊥)) }
+        requires { node < self.old.places.nodes }
+        ensures some { IfOk result (λ o. IfSome o (λ job. Takes node self.old job self.new)) }
+        ensures none { IfOk result (λ o. IsNone o → (self.new ≡ self.old) × ((p : List ℕ) → MayBeTakenOn self.old.places node self.old.tree self.old.out p → ⊥)) }
         ensures err { OnErr result (self.new ≡ self.old) }
     {
-        let _ = node;
-        match self.to_take()? {
+        match self.to_take(node)? {
             Some(path) => Ok(Some(self.put_out(path)?)),
             None => Ok(None),
         }

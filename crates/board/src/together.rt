@@ -30,7 +30,7 @@ pub fn run_together<R: Threads + Wait + Sync, G: Gate>(
 ) -> Result<Closed, AllocError>
     requires new { (accepted board ≡ 0) × (board.owed ≡ 0) }
     requires some { (0 < workers) × (workers < 65) }
-    ensures legal { IfOk result (λ c. IsSound c.boot × Legal c.boot c.history.items c.tree) }
+    ensures legal { IfOk result (λ c. IsSound c.boot × Legal c.nodes c.boot c.history.items c.tree) }
     ensures end { IfOk result (λ c. is_settled c.tree ≡ true → c.tree ≡ settle_tree c.boot) }
 {
     run_named::<Brand, G, R>(rt, board, NewBook::open(), workers, gate)
@@ -70,7 +70,7 @@ fn run_named<J: Naming + Send, G: Gate, R: Threads + Wait + Sync>(
     requires book { book.seen.book ≡ J.book }
     requires new { (accepted board ≡ 0) × (board.owed ≡ 0) }
     requires some { (0 < workers) × (workers < 65) }
-    ensures legal { IfOk result (λ c. IsSound c.boot × Legal c.boot c.history.items c.tree) }
+    ensures legal { IfOk result (λ c. IsSound c.boot × Legal c.nodes c.boot c.history.items c.tree) }
     ensures end { IfOk result (λ c. is_settled c.tree ≡ true → c.tree ≡ settle_tree c.boot) }
 {
     NamedBoard::<J>::may_be_sent();

@@ -1,8 +1,8 @@
-ghost use Rattle.std.specs.Prelude.{◌≡◌, ℕ, ◌<◌, ◌^◌, List, true, IfOk, IfSome, IsNone, OnErr};
+ghost use Rattle.std.specs.Prelude.{◌≡◌, ℕ, ◌<◌, ◌≤◌, ◌%◌, ◌^◌, List, true, IfOk, IfSome, IsNone, OnErr};
 ghost use Rattle.worker_pool.specs.Turns.{is_idle};
-ghost use Rattle.board.specs.Jobs.{MayBeTaken};
+ghost use Rattle.board.specs.Jobs.{MayBeTaken, MayBeTakenOn};
 ghost use Rattle.board.specs.Names.{IsKnown};
-ghost use Rattle.board.specs.Turns.{accepted, HandsIn, HandsOut, IsFinished, IsIdle, IsTurn, is_over};
+ghost use Rattle.board.specs.Turns.{accepted, HandsIn, HandsOut, HandsOutAmong, HandsOutFrom, IsFinished, IsIdle, IsTurn, NoneAmong, is_over};
 
 use crate::board::Board;
 use crate::done::Done;
@@ -12,25 +12,56 @@ use std::alloc::AllocError;
 use worker_pool::Turn;
 
 impl Board {
-    // Takes a job, which is owed from then on. None exactly where no space may be taken.
-    fn hand_out(&mut self) -> Result<Option<Job>, AllocError>
-        ensures some { IfOk result (λ o. IfSome o (λ job. HandsOut self.old job self.new)) }
-        ensures none { IfOk result (λ o. IsNone o → (self.new ≡ self.old) × ((p : List ℕ) → MayBeTaken self.old.tree self.old.out p → ⊥)) }
+    // Takes a job on a node, which is owed from then on. None exactly where no space there may be taken.
+    fn hand_out(&mut self, node: u32) -> Result<Option<Job>, AllocError>
+        requires { node < self.old.places.nodes }
+        ensures some { IfOk result (λ o. IfSome o (λ job. HandsOut node self.old job self.new)) }
+        ensures none { IfOk result (λ o. IsNone o → (self.new ≡ self.old) × ((p : List ℕ) → MayBeTakenOn self.old.places node self.old.tree self.old.out p → ⊥)) }
         ensures err { OnErr result (self.new ≡ self.old) }
     {
         let owed = self.owed.checked_add(1).ok_or(AllocError)?;
-        let Some(job) = self.take(0)? else {
+        let Some(job) = self.take(node)? else {
             return Ok(None);
         };
         self.owed = owed;
         Ok(Some(job))
     }
 
-    /// A worker's turn. `Met` where a call may meet its children: the least one has met them. Else the job of the least space that may be taken. Where
-    /// there is neither, nothing changes: `Over` exactly where no job is out and no space runs, and `Rest` else, while a job is out. The one error is want
-    /// of memory, and then nothing has changed.
-    pub fn next_turn(&mut self) -> Result<Turn<Job>, AllocError>
-        ensures is { IfOk result (λ t. IsTurn self.old t self.new) }
+    // Takes a job on one of the nodes from one on to another, on the first that has any. None exactly where no space on any of them may be taken.
+    fn hand_out_among(&mut self, from: u32, to: u32) -> Result<Option<Job>, AllocError>
+        requires { (from ≤ to) × (to ≤ self.old.places.nodes) }
+        ensures some { IfOk result (λ o. IfSome o (λ job. HandsOutAmong from to self.old job self.new)) }
+        ensures none { IfOk result (λ o. IsNone o → (self.new ≡ self.old) × NoneAmong self.old from to) }
+        ensures err { OnErr result (self.new ≡ self.old) }
+    {
+        for node in from..to {
+            if let Some(job) = self.hand_out(node)? {
+                return Ok(Some(job));
+            }
+        }
+        Ok(None)
+    }
+
+    // Takes a job on the first node from one on that has any, where the nodes are gone through in a ring.
+    fn hand_out_from(&mut self, first: u32) -> Result<Option<Job>, AllocError>
+        requires { first < self.old.places.nodes }
+        ensures some { IfOk result (λ o. IfSome o (λ job. HandsOutFrom first self.old job self.new)) }
+        ensures none { IfOk result (λ o. IsNone o → (self.new ≡ self.old) × ((p : List ℕ) → MayBeTaken self.old.tree self.old.out p → ⊥)) }
+        ensures err { OnErr result (self.new ≡ self.old) }
+    {
+        let nodes = self.nodes();
+        self.places_are_nodes();
+        if let Some(job) = self.hand_out_among(first, nodes)? {
+            return Ok(Some(job));
+        }
+        self.hand_out_among(0, first)
+    }
+
+    /// The turn of a worker. `Met` where a call may meet its children: the least one has met them. Else the job of a space that may be taken: the least on the first
+    /// node that has any, from the node of the worker's number on. Where there is neither, nothing changes: `Over` exactly where no job is out and no space runs, and
+    /// `Rest` else, while a job is out. The one error is want of memory, and then nothing has changed.
+    pub fn next_turn(&mut self, worker: usize) -> Result<Turn<Job>, AllocError>
+        ensures is { IfOk result (λ t. IsTurn worker self.old t self.new) }
         ensures over { IsFinished self.old → IfOk result (λ t. is_over t ≡ true) }
         ensures idle { IsIdle self.old → IfOk result (λ t. is_idle t ≡ true) }
         ensures err { OnErr result (self.new ≡ self.old) }
@@ -38,7 +69,8 @@ impl Board {
         if let Some(_) = self.meet()? {
             return Ok(Turn::Met);
         }
-        if let Some(job) = self.hand_out()? {
+        let first = self.node_of_worker(worker);
+        if let Some(job) = self.hand_out_from(first)? {
             return Ok(Turn::Job(job));
         }
         if self.out.is_empty() {
@@ -47,15 +79,28 @@ impl Board {
         Ok(Turn::Rest)
     }
 
+    // The node on which a worker looks first.
+    fn node_of_worker(&self, worker: usize) -> u32
+        ensures is { result ≡ worker % self.now.places.nodes }
+        ensures below { result < self.now.places.nodes }
+    {
+        let nodes = self.nodes();
+        (worker % nodes as usize) as u32
+    }
+
     /// Whether another worker's turn may now be a job: a hint. What is listed before the next space that may be taken is dropped on the way, so a list that is not
     /// empty has one. True, too, where there is no memory to tell.
     pub(crate) fn has_more(&mut self) -> bool
         ensures { self.new ≡ self.old }
     {
-        match self.to_take() {
-            Ok(next) => next.is_some(),
-            Err(_) => true,
+        let nodes = self.nodes();
+        for node in 0..nodes {
+            match self.to_take(node) {
+                Ok(None) => {}
+                Ok(Some(_)) | Err(_) => return true,
+            }
         }
+        false
     }
 
     // Fewer results are in the history than a number has values.

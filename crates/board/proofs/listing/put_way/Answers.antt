@@ -10,7 +10,7 @@ loop-length-preserved c =
     let q = c.args.path.now.items in
     let n = c.loop-length.length in (
       λ p has. c.insert.ensures.others p (so_far.0 p has),
-      one_longer c.loop-length.paths c.insert.new.self q n so_far.1 c.insert.ensures.others (subst (Has c.insert.new.self) above c.in_ok-insert.ensures.there),
+      one_longer (Has c.loop-length.paths) (Has c.insert.new.self) q n so_far.1 c.insert.ensures.others (subst (Has c.insert.new.self) above c.in_ok-insert.ensures.there),
     )
 
 pub returns-clause-way : goal.returns-clause-way
@@ -20,4 +20,4 @@ returns-clause-way c =
     let n = c.loop-length.length in
     let end = c.len-length-end.ensures.value in
     let past = c.loop-length-test.false in
-    whole_way c.loop-length.paths q n (omega (arith, end, past)) so_far.1
+    whole_way (Has c.loop-length.paths) q n (omega (arith, end, past)) so_far.1

@@ -2,6 +2,7 @@ use Rattle.std.proofs.Common.{◌≡◌, ◌++◌, ◌∷◌, [], Some, None, sy
 use Rattle.space_model.specs.Path.{with_top}
 use Rattle.det_core.specs.declared.entry.Entry.TheVariants.{Ran}
 use Rattle.path_set.specs.Paths.{paths_in}
+use Rattle.node_places.specs.Places.{all_home}
 use Rattle.board.specs.declared.job.Out.{Out}
 use Rattle.board.specs.Jobs.{out_at, Sets}
 use Rattle.board.specs.Listed.{IsListed}
@@ -44,9 +45,10 @@ invariant_of-self c =
     let items : c.push_reserved-2.new.self.items ≡ b.history.items ++ Ran done.path c.ran-events.result ∷ [] = c.push_reserved-2.ensures.items in
     record {
       nodes = kept.nodes;
+      pages = kept.pages;
       sound = kept.sound;
       at_work = c.take_out-out.ensures.work;
-      legal = ran_legal b.boot b.tree c.swap_top.new.space b.history.items c.push_reserved-2.new.self.items done.path done.run top c.ran-events.result kept.legal c.leads.ensures.run done.deep of.start.start goes
+      legal = ran_legal b.boot b.tree c.swap_top.new.space (all_home b.lists.run.places.nodes) b.lists.run.places b.history.items c.push_reserved-2.new.self.items done.path done.run top c.ran-events.result kept.legal c.leads.ensures.run done.deep of.start.start goes
           c.into_parts-top.ensures.top c.ran-events.ensures now items;
       listed = subst (λ ns. IsListed c.swap_top.new.space b.lists.run b.lists.calls ns c.take_out-out.new.out.slots) (sym news)
           (subst (λ s. IsListed s b.lists.run b.lists.calls (paths_in b.lists.news.items ++ out.path.items ∷ []) c.take_out-out.new.out.slots) put

@@ -20,6 +20,7 @@ invariant_of-self c =
     let news = ap paths_in c.push_reserved.ensures.items ∙ paths-append b.lists.news.items out.path in
     record {
       nodes = kept.nodes;
+      pages = kept.pages;
       sound = kept.sound;
       at_work = c.take_out-out.ensures.work;
       legal = kept.legal;

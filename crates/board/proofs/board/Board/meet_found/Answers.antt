@@ -1,70 +1,75 @@
-use Rattle.std.proofs.Common.{◌≡◌, ◌∷◌, [], ◌++◌, refl, sym, ap, ◌∙◌, subst, arith}
-use Rattle.std.specs.Prelude.{Some}
+use Rattle.std.proofs.Common.{◌≡◌, ◌+◌, ◌<◌, ◌≤◌, refl, sym, ap, ◌∙◌, subst, arith}
+use Rattle.std.specs.Prelude.{Some, vec_len, vec_capacity}
+use Rattle.slab.specs.Slab.{slab_len}
+use Rattle.space_model.specs.Meeting.{awaits}
 use Rattle.run_model.specs.Schedule.{call_at}
-use Rattle.det_core.specs.declared.entry.Entry.TheVariants.{Met}
-use Rattle.det_core.specs.Legal.{Legal}
+use Rattle.det_core.specs.Legal.{Leads}
+use Rattle.node_places.specs.Places.{Places, all_home}
 use Rattle.path_set.specs.Paths.{paths_in}
-use Rattle.board.specs.Listed.{IsListed}
-use Rattle.board.specs.Value.{Shown}
+use Rattle.board.specs.Gathering.{AreAway, HasMetBy, MeetsOn}
+use Rattle.board.specs.Listed.{AreOut, IsListed}
+use Rattle.board.specs.Runs.{Runs}
 use Rattle.board.specs.Steps.{HasMet}
-use Rattle.board.proofs.Kept.{more_listed, met_listed}
-use Rattle.board.proofs.Histories.{legal_sound, met_legal, met_now, shown_of, met_shown}
+use Rattle.board.specs.Value.{Shown}
+use Rattle.board.proofs.Assembled.{IsGatheredIn, gathered_legal, gathered_listed, met_from, together_legal, together_listed, together_shown}
+use Rattle.board.proofs.Histories.{legal_sound, shown_of}
 use Rattle.board.proofs.board.Board.meet_found.Goals as goal
+
+pub invariant_of-self : goal.invariant_of-self
+invariant_of-self c =
+    let b = c.self.inside in
+    let kept = c.self.invariant in
+    let g = c.gather.ensures in
+    let nodes = ap (λ (ps : Places). ps.nodes) g.places in
+    record {
+      nodes = subst (λ n. 0 < n) (sym nodes) kept.nodes;
+      pages = g.pages ∙ kept.pages ∙ sym nodes;
+      sound = kept.sound;
+      at_work = subst (λ w. AreOut w b.out.slots) (sym g.work) kept.at_work;
+      legal = gathered_legal b.boot b.tree c.gather.new.tree b.lists.run.places c.gather.new.lists.run.places b.history.items b.history.items kept.legal g.tree g.places refl;
+      listed = gathered_listed b.tree c.gather.new.tree b.lists.run c.gather.new.lists.run b.lists.calls c.gather.new.lists.calls (paths_in b.lists.news.items) (paths_in c.gather.new.lists.news.items) b.out.slots kept.listed g.tree g.places g.run g.calls
+          (ap (λ ns. paths_in ns.items) g.news);
+      places = kept.places;
+      news_places = let few = kept.news_places in subst (λ ns. vec_len ns + slab_len b.out ≤ vec_capacity ns) (sym g.news) few;
+    }
+
+pub invariant_of-self-in_err-count : goal.invariant_of-self-in_err-count
+invariant_of-self-in_err-count c =
+    let b = c.self.inside in
+    let kept = c.self.invariant in
+    let g = c.gather.ensures in
+    let nodes = ap (λ (ps : Places). ps.nodes) g.places in
+    record {
+      nodes = subst (λ n. 0 < n) (sym nodes) kept.nodes;
+      pages = g.pages ∙ kept.pages ∙ sym nodes;
+      sound = kept.sound;
+      at_work = subst (λ w. AreOut w b.out.slots) (sym g.work) kept.at_work;
+      legal = gathered_legal b.boot b.tree c.gather.new.tree b.lists.run.places c.gather.new.lists.run.places b.history.items b.history.items kept.legal g.tree g.places refl;
+      listed = gathered_listed b.tree c.gather.new.tree b.lists.run c.gather.new.lists.run b.lists.calls c.gather.new.lists.calls (paths_in b.lists.news.items) (paths_in c.gather.new.lists.news.items) b.out.slots kept.listed g.tree g.places g.run g.calls
+          (ap (λ ns. paths_in ns.items) g.news);
+      places = kept.places;
+      news_places = let few = kept.news_places in subst (λ ns. vec_len ns + slab_len b.out ≤ vec_capacity ns) (sym g.news) few;
+    }
 
 pub invariant_of-self-in_err-reserve : goal.invariant_of-self-in_err-reserve
 invariant_of-self-in_err-reserve c =
     let b = c.self.inside in
     let kept = c.self.invariant in
+    let g = c.gather.ensures in
+    let nodes = ap (λ (ps : Places). ps.nodes) g.places in
     let places = kept.places in
     let len = c.reserve.ensures.len in
     let capacity = c.reserve.ensures.capacity in
     record {
-      nodes = kept.nodes;
+      nodes = subst (λ n. 0 < n) (sym nodes) kept.nodes;
+      pages = g.pages ∙ kept.pages ∙ sym nodes;
       sound = kept.sound;
-      at_work = kept.at_work;
-      legal = subst (λ es. Legal b.boot es b.tree) (sym c.reserve.ensures.items) kept.legal;
-      listed = more_listed b.tree b.lists.run b.lists.calls c.list_awaited.new.run c.list_awaited.new.calls (paths_in b.lists.news.items) b.out.slots kept.listed
-          (λ p has. c.list_awaited.ensures.run p (c.list_way.ensures.run p has)) (λ p has. c.list_awaited.ensures.calls p (c.list_way.ensures.calls p has));
+      at_work = subst (λ w. AreOut w b.out.slots) (sym g.work) kept.at_work;
+      legal = gathered_legal b.boot b.tree c.gather.new.tree b.lists.run.places c.gather.new.lists.run.places b.history.items c.reserve.new.self.items kept.legal g.tree g.places c.reserve.ensures.items;
+      listed = gathered_listed b.tree c.gather.new.tree b.lists.run c.gather.new.lists.run b.lists.calls c.gather.new.lists.calls (paths_in b.lists.news.items) (paths_in c.gather.new.lists.news.items) b.out.slots kept.listed g.tree g.places g.run g.calls
+          (ap (λ ns. paths_in ns.items) g.news);
       places = omega (arith, places, len, capacity);
-      news_places = kept.news_places;
-    }
-
-pub invariant_of-self-in_err-copy_path : goal.invariant_of-self-in_err-copy_path
-invariant_of-self-in_err-copy_path c =
-    let b = c.self.inside in
-    let kept = c.self.invariant in
-    let places = kept.places in
-    let len = c.reserve.ensures.len in
-    let capacity = c.reserve.ensures.capacity in
-    record {
-      nodes = kept.nodes;
-      sound = kept.sound;
-      at_work = kept.at_work;
-      legal = subst (λ es. Legal b.boot es b.tree) (sym c.reserve.ensures.items) kept.legal;
-      listed = more_listed b.tree b.lists.run b.lists.calls c.list_awaited.new.run c.list_awaited.new.calls (paths_in b.lists.news.items) b.out.slots kept.listed
-          (λ p has. c.list_awaited.ensures.run p (c.list_way.ensures.run p has)) (λ p has. c.list_awaited.ensures.calls p (c.list_way.ensures.calls p has));
-      places = omega (arith, places, len, capacity);
-      news_places = kept.news_places;
-    }
-
-pub invariant_of-self-in_err-meet : goal.invariant_of-self-in_err-meet
-invariant_of-self-in_err-meet c =
-    let b = c.self.inside in
-    let kept = c.self.invariant in
-    let places = kept.places in
-    let len = c.reserve.ensures.len in
-    let capacity = c.reserve.ensures.capacity in
-    let same : c.meet.new.space ≡ b.tree = c.in_err-meet.ensures.err in
-    let listed = more_listed b.tree b.lists.run b.lists.calls c.list_awaited.new.run c.list_awaited.new.calls (paths_in b.lists.news.items) b.out.slots kept.listed
-    (λ p has. c.list_awaited.ensures.run p (c.list_way.ensures.run p has)) (λ p has. c.list_awaited.ensures.calls p (c.list_way.ensures.calls p has)) in
-    record {
-      nodes = kept.nodes;
-      sound = kept.sound;
-      at_work = kept.at_work;
-      legal = subst (λ s. Legal b.boot c.reserve.new.self.items s) (sym same) (subst (λ es. Legal b.boot es b.tree) (sym c.reserve.ensures.items) kept.legal);
-      listed = subst (λ s. IsListed s c.list_awaited.new.run c.list_awaited.new.calls (paths_in b.lists.news.items) b.out.slots) (sym same) listed;
-      places = omega (arith, places, len, capacity);
-      news_places = kept.news_places;
+      news_places = let few = kept.news_places in subst (λ ns. vec_len ns + slab_len b.out ≤ vec_capacity ns) (sym g.news) few;
     }
 
 pub invariant_of-self-2 : goal.invariant_of-self-2
@@ -73,34 +78,41 @@ invariant_of-self-2 c =
     let kept = c.self.invariant in
     let path = c.args.found.path in
     let q = path.items in
-    let len = c.reserve.ensures.len in
+    let k = c.args.found.call in
+    let g = c.gather.ensures in
+    let gathered = c.in_ok-gathered.gathered in
+    let node = gathered.node in
+    let ok = c.in_ok-gathered.ensures in
+    let ps = c.run.inside.places in
+    let mid : Runs = record { places = ps; lists = c.run.inside.lists.items } in
+    let qs = c.meet_gathered.new.places in
+    let t = c.meet_gathered.new.tree in
+    let fs = c.meet_gathered.new.history.items in
+    let same : ps ≡ b.lists.run.places = ap (λ (r : Runs). r.places) c.run.view_is ∙ g.places in
+    let may : call_at q 8 b.tree ≡ Some k = ap (λ (s : Shown). call_at q 8 s.tree) c.self.view_is ∙ c.requires in
+    let sound = legal_sound b.history.items b.boot b.tree (all_home b.lists.run.places.nodes) b.lists.run.places kept.legal kept.sound in
+    let met : HasMetBy path k node c.gather.new.tree ps c.reserve.new.self.items t qs fs = c.in_ok-meet_gathered.ensures.met k (ap (call_at q 8) g.tree ∙ may) (subst (λ x. MeetsOn x q (awaits k) node) (sym same) ok.node.1) (subst (λ x. AreAway x q (awaits k) gathered.away) (sym same) ok.away) ok.replaced in
+    let nodes : qs.nodes ≡ b.lists.run.places.nodes = c.meet_gathered.ensures.nodes ∙ ap (λ (x : Places). x.nodes) same in
+    let lists = subst (λ r. IsGatheredIn b.lists.run r c.gather.new.lists.calls (awaits k) q node) (sym c.run.view_is) (g.places, g.run, ok.here, ok.way, ok.awaited) in
+    let reserved = c.reserve.ensures.len in
     let room = c.in_ok-reserve.ensures.ok in
-    let more = c.push_reserved.ensures.len in
-    let same_room = c.push_reserved.ensures.capacity in
     let count = c.in_ok-count.ensures in
     let jobs = c.len.ensures in
-    let may : call_at q 8 b.tree ≡ Some c.args.found.call = ap (λ (s : Shown). call_at q 8 s.tree) c.self.view_is ∙ c.requires in
-    let sound = legal_sound b.history.items b.boot b.tree kept.legal kept.sound in
-    let way = c.in_ok-list_way.ensures.way in
-    let awaited = c.in_ok-list_awaited.ensures.awaited in
-    let met = c.in_ok-meet.ensures.met in
-    let pushed : c.push_reserved.new.self.items ≡ c.reserve.new.self.items ++ Met c.in_ok-copy_path.field-0 ∷ [] = c.push_reserved.ensures.items in
-    let copied : c.in_ok-copy_path.field-0 ≡ path = c.in_ok-copy_path.ensures in
-    let reserved : c.reserve.new.self.items ≡ b.history.items = c.reserve.ensures.items in
-    let items = pushed ∙ ap (λ p. c.reserve.new.self.items ++ Met p ∷ []) copied ∙ ap (λ es. es ++ Met path ∷ []) reserved in
-    let listed = more_listed b.tree b.lists.run b.lists.calls c.list_awaited.new.run c.list_awaited.new.calls (paths_in b.lists.news.items) b.out.slots kept.listed
-    (λ p has. c.list_awaited.ensures.run p (c.list_way.ensures.run p has)) (λ p has. c.list_awaited.ensures.calls p (c.list_way.ensures.calls p has)) in
-    let now = met_now b.tree c.meet.new.space path c.args.found.call may met in
+    let away = c.len-2.ensures in
+    let more = c.meet_gathered.ensures.len in
+    let capacity = c.meet_gathered.ensures.capacity in
     record {
-      nodes = kept.nodes;
+      nodes = subst (λ n. 0 < n) (sym nodes) kept.nodes;
+      pages = g.pages ∙ kept.pages ∙ sym nodes;
       sound = kept.sound;
-      at_work = kept.at_work;
-      legal = subst (λ es. Legal b.boot es c.meet.new.space) (sym items) (met_legal b.boot b.tree c.meet.new.space b.history.items path c.args.found.call kept.legal may met);
-      listed = subst (λ s. IsListed s c.list_awaited.new.run c.list_awaited.new.calls (paths_in b.lists.news.items) b.out.slots) (sym now)
-          (met_listed b.tree sound.0 c.list_awaited.new.run c.list_awaited.new.calls (paths_in b.lists.news.items) b.out.slots q c.args.found.call sound.1.2 listed may
-          (λ p on. c.list_awaited.ensures.run p (way.0 p on)) (λ p on. c.list_awaited.ensures.calls p (way.1 p on)) awaited.0 awaited.1);
-      places = omega (arith, room, more, same_room, len, count, jobs);
-      news_places = kept.news_places;
+      at_work = subst (λ w. AreOut w b.out.slots) (sym g.work) kept.at_work;
+      legal = subst (λ n. Leads b.boot (all_home n) fs t qs) (sym nodes) (together_legal b.boot b.tree t (all_home b.lists.run.places.nodes) b.lists.run.places qs b.history.items fs path k node kept.legal
+          (met_from path k node b.tree c.gather.new.tree t b.lists.run.places ps qs b.history.items c.reserve.new.self.items fs g.tree same c.reserve.ensures.items met));
+      listed = subst (λ ns. IsListed t (record { places = qs; lists = mid.lists }) c.gather.new.lists.calls ns b.out.slots) (sym (ap (λ ns. paths_in ns.items) g.news))
+          (together_listed b.tree t sound.0 b.lists.run mid qs b.lists.calls c.gather.new.lists.calls (paths_in b.lists.news.items) b.out.slots path k node b.history.items fs sound.1.2 kept.listed may g.calls lists
+          (met_from path k node b.tree c.gather.new.tree t ps ps qs b.history.items c.reserve.new.self.items fs g.tree refl c.reserve.ensures.items met));
+      places = omega (arith, reserved, room, count, jobs, away, more, capacity);
+      news_places = let few = kept.news_places in subst (λ ns. vec_len ns + slab_len b.out ≤ vec_capacity ns) (sym g.news) few;
     }
 
 pub returns-clause-ok : goal.returns-clause-ok
@@ -108,10 +120,20 @@ returns-clause-ok c =
     let b = c.self.inside in
     let path = c.args.found.path in
     let q = path.items in
-    let may : call_at q 8 b.tree ≡ Some c.args.found.call = ap (λ (s : Shown). call_at q 8 s.tree) c.self.view_is ∙ c.requires in
-    let pushed : c.push_reserved.new.self.items ≡ c.reserve.new.self.items ++ Met c.in_ok-copy_path.field-0 ∷ [] = c.push_reserved.ensures.items in
-    let copied : c.in_ok-copy_path.field-0 ≡ path = c.in_ok-copy_path.ensures in
-    let reserved : c.reserve.new.self.items ≡ b.history.items = c.reserve.ensures.items in
-    let items = pushed ∙ ap (λ p. c.reserve.new.self.items ++ Met p ∷ []) copied ∙ ap (λ es. es ++ Met path ∷ []) reserved in
-    let now = met_now b.tree c.meet.new.space path c.args.found.call may c.in_ok-meet.ensures.met in
-    (refl, subst (λ (s : Shown). HasMet s path (shown_of b.boot b.nodes c.meet.new.space c.push_reserved.new.self.items b.out.slots b.next_ticket b.owed)) c.self.view_is (record { may = (c.args.found.call, may); others = met_shown b.boot b.nodes b.tree c.meet.new.space b.history.items c.push_reserved.new.self.items b.out.slots b.next_ticket b.owed path now items }))
+    let k = c.args.found.call in
+    let g = c.gather.ensures in
+    let gathered = c.in_ok-gathered.gathered in
+    let node = gathered.node in
+    let ok = c.in_ok-gathered.ensures in
+    let ps = c.run.inside.places in
+    let qs = c.meet_gathered.new.places in
+    let t = c.meet_gathered.new.tree in
+    let fs = c.meet_gathered.new.history.items in
+    let same : ps ≡ b.lists.run.places = ap (λ (r : Runs). r.places) c.run.view_is ∙ g.places in
+    let may : call_at q 8 b.tree ≡ Some k = ap (λ (s : Shown). call_at q 8 s.tree) c.self.view_is ∙ c.requires in
+    let met : HasMetBy path k node c.gather.new.tree ps c.reserve.new.self.items t qs fs = c.in_ok-meet_gathered.ensures.met k (ap (call_at q 8) g.tree ∙ may) (subst (λ x. MeetsOn x q (awaits k) node) (sym same) ok.node.1) (subst (λ x. AreAway x q (awaits k) gathered.away) (sym same) ok.away) ok.replaced in (
+      refl,
+      subst (λ (s : Shown). HasMet s path (shown_of b.boot t qs fs b.out.slots b.next_ticket b.owed)) c.self.view_is
+          (together_shown b.boot b.tree t b.lists.run.places qs b.history.items fs b.out.slots b.next_ticket b.owed path k node may
+          (met_from path k node b.tree c.gather.new.tree t b.lists.run.places ps qs b.history.items c.reserve.new.self.items fs g.tree same c.reserve.ensures.items met)),
+    )

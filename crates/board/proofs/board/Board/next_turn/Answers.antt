@@ -1,9 +1,10 @@
 use Rattle.std.proofs.Common.{sym, ap, ◌∙◌, subst}
 use Rattle.std.specs.Prelude.{IfSome, is_some}
 use Rattle.space_model.specs.Sound.{IsSound}
+use Rattle.node_places.specs.Places.{all_home}
 use Rattle.board.specs.Jobs.{IsNoneOut}
 use Rattle.board.specs.Steps.{Meets}
-use Rattle.board.specs.Turns.{HandsOut, IsFinished, IsSomeOut}
+use Rattle.board.specs.Turns.{HandsOutFrom, IsFinished, IsSomeOut}
 use Rattle.board.specs.Value.{Shown}
 use Rattle.board.proofs.Histories.{legal_sound}
 use Rattle.board.proofs.Outs.{empty_none, some_there, none_and_some}
@@ -21,8 +22,8 @@ pub returns-in-Some-2-clause-over : goal.returns-in-Some-2-clause-over
 returns-in-Some-2-clause-over c =
     λ finished.
     let quiet = c.in_ok-meet.ensures.none (ap is_some c.in_default.is) in
-    let hands = subst (λ o. IfSome o (λ job. HandsOut c.meet.new.self job c.hand_out.new.self)) c.in-Some-2.is c.in_ok-job.ensures.some in
-    absurd (finished_hands_none c.meet.new.self c.hand_out.new.self c.in-Some-2.job (subst IsFinished (sym quiet.0) finished) hands)
+    let hands = subst (λ o. IfSome o (λ job. HandsOutFrom c.node_of_worker-first.result c.meet.new.self job c.hand_out_from.new.self)) c.in-Some-2.is c.in_ok-job.ensures.some in
+    absurd (finished_hands_none hands.node c.meet.new.self c.hand_out_from.new.self c.in-Some-2.job (subst IsFinished (sym quiet.0) finished) hands.hands)
 
 pub returns-then-is_empty-clause-is : goal.returns-then-is_empty-clause-is
 returns-then-is_empty-clause-is c =
@@ -32,7 +33,7 @@ returns-then-is_empty-clause-is c =
     let quiet = c.in_ok-meet.ensures.none (ap is_some c.in_default.is) in
     let still = c.in_ok-job.ensures.none (ap is_some c.in_default-2.is) in
     let same = still.0 ∙ quiet.0 in
-    let sound = subst (λ (s : Shown). IsSound s.tree) (c.self.view_is ∙ same) (legal_sound b.history.items b.boot b.tree kept.legal kept.sound) in
+    let sound = subst (λ (s : Shown). IsSound s.tree) (c.self.view_is ∙ same) (legal_sound b.history.items b.boot b.tree (all_home b.lists.run.places.nodes) b.lists.run.places kept.legal kept.sound) in
     let none = subst (λ (s : Shown). IsNoneOut s.out) (c.self.view_is ∙ same) (empty_none b.out.slots c.is_empty.result c.is_empty.ensures c.if-is_empty.true) in
     ((none, idle_settled now.tree now.out sound none quiet.1 (none_taken_before now c.meet.new.self quiet.0 still.1)), same)
 

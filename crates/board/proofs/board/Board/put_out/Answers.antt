@@ -1,7 +1,9 @@
-use Rattle.std.proofs.Common.{◌≡◌, ◌≢◌, ℕ, List, Some, true, sym, ap, ◌∙◌, subst, arith}
+use Rattle.std.proofs.Common.{◌≡◌, ◌≢◌, ◌<◌, length, ℕ, List, Some, true, sym, ap, ◌∙◌, subst, arith}
 use Rattle.run_model.specs.Schedule.{is_local_at}
-use Rattle.det_core.specs.Legal.{Legal}
-use Rattle.path_set.specs.Paths.{Has, paths_in}
+use Rattle.det_core.specs.Legal.{IsHistory}
+use Rattle.node_places.specs.Places.{all_home}
+use Rattle.board.specs.Runs.{HasRun}
+use Rattle.path_set.specs.Paths.{paths_in}
 use Rattle.arrayvec.specs.ArrayVec.{ArrayVec}
 use Rattle.det_laws.specs.Tops.{top_at}
 use Rattle.board.specs.declared.job.Out.{Out}
@@ -23,7 +25,7 @@ invariant_of-result c =
     let b = c.self.inside in
     let kept = c.self.invariant in
     let stood : top_at c.args.path.items b.tree ≡ Some c.in-Some.top = sym c.in_ok-top.ensures.equal ∙ c.in-Some.is in
-    record { sound = alone_sound c.args.path.items b.tree c.in-Some.top (legal_sound b.history.items b.boot b.tree kept.legal kept.sound) stood }
+    record { sound = alone_sound c.args.path.items b.tree c.in-Some.top (legal_sound b.history.items b.boot b.tree (all_home b.lists.run.places.nodes) b.lists.run.places kept.legal kept.sound) stood }
 
 pub invariant_of-self-2 : goal.invariant_of-self-2
 invariant_of-self-2 c =
@@ -33,7 +35,7 @@ invariant_of-self-2 c =
     let may : MayBeTaken b.tree b.out.slots c.args.path.items = subst (λ (s : Shown). MayBeTaken s.tree s.out c.args.path.items) (sym c.self.view_is) c.requires in
     let may_out : MayBeTaken b.tree b.out.slots o.path.items = subst (λ (p : ArrayVec ℕ). MayBeTaken b.tree b.out.slots p.items) (sym c.in_ok-copy_path.ensures) may in
     let sets : Sets c.in_ok-slot.slot (Some o) b.out.slots c.put_in.new.out.slots = c.in_ok-slot.ensures.sets in
-    let fewer = λ (q : List ℕ) (other : q ≢ o.path.items) (has : Has b.lists.run q). c.remove.ensures.others q (λ e. other (e ∙ sym (ap (λ (p : ArrayVec ℕ). p.items) c.in_ok-copy_path.ensures))) has in
+    let fewer = λ (q : List ℕ) (other : q ≢ o.path.items) (has : HasRun b.lists.run q). c.remove.ensures.others q (λ e. other (e ∙ sym (ap (λ (p : ArrayVec ℕ). p.items) c.in_ok-copy_path.ensures))) has in
     let listed = put_out_listed b.tree b.lists.run c.remove.new.self b.lists.calls (paths_in b.lists.news.items) b.out.slots c.put_in.new.out.slots c.in_ok-slot.slot o kept.listed may_out c.in_ok-slot.ensures.vacant sets fewer in
     let tree = c.in_ok-top.ensures.same in
     let places = c.in_ok-make_places.ensures.places in
@@ -43,10 +45,13 @@ invariant_of-self-2 c =
     let jobs = c.len.ensures in
     let more = c.in_ok-slot.ensures.len in
     record {
-      nodes = kept.nodes;
+      nodes = subst (λ ps. 0 < (let places = ps in places.nodes)) (sym c.remove.ensures.places) kept.nodes;
+      pages = subst (λ ps. length b.lists.pages ≡ (let places = ps in places.nodes)) (sym c.remove.ensures.places) kept.pages;
       sound = kept.sound;
       at_work = c.put_in.ensures.work;
-      legal = subst (λ s. Legal b.boot c.make_places.new.history.items s) (sym tree) (subst (λ es. Legal b.boot es b.tree) (sym c.make_places.ensures.history) kept.legal);
+      legal = subst (λ ps. IsHistory (let places = ps in places.nodes) b.boot c.make_places.new.history.items c.copy_top_at.new.space ps) (sym c.remove.ensures.places)
+          (subst (λ s. IsHistory b.lists.run.places.nodes b.boot c.make_places.new.history.items s b.lists.run.places) (sym tree)
+          (subst (λ es. IsHistory b.lists.run.places.nodes b.boot es b.tree b.lists.run.places) (sym c.make_places.ensures.history) kept.legal));
       listed = subst (λ s. IsListed s c.remove.new.self b.lists.calls (paths_in c.make_places.new.news.items) c.put_in.new.out.slots) (sym tree)
           (subst (λ ns. IsListed b.tree c.remove.new.self b.lists.calls (paths_in ns) c.put_in.new.out.slots) (sym c.make_places.ensures.news) listed);
       places = omega (arith, room, count, jobs, more);
@@ -59,6 +64,6 @@ returns-in_err-slot-clause-err c =
     let items = c.make_places.new.history.items in
     let slots = c.put_in.new.out.slots in
     on_err c.from_residual-in_err-slot.result _
-    ((ap (λ s. shown_of b.boot b.nodes s items slots b.next_ticket b.owed) c.in_ok-top.ensures.same ∙ ap (λ es. shown_of b.boot b.nodes b.tree es slots b.next_ticket b.owed) c.make_places.ensures.history
-    ∙ ap (λ xs. shown_of b.boot b.nodes b.tree b.history.items xs b.next_ticket b.owed) c.in_err-slot.ensures.err)
+    ((ap (λ s. shown_of b.boot s b.lists.run.places items slots b.next_ticket b.owed) c.in_ok-top.ensures.same ∙ ap (λ es. shown_of b.boot b.tree b.lists.run.places es slots b.next_ticket b.owed) c.make_places.ensures.history
+    ∙ ap (λ xs. shown_of b.boot b.tree b.lists.run.places b.history.items xs b.next_ticket b.owed) c.in_err-slot.ensures.err)
     ∙ c.self.view_is)

@@ -1,8 +1,9 @@
-use Rattle.std.proofs.Common.{◌≡◌, [], sym, subst, arith, List, ℕ}
+use Rattle.std.proofs.Common.{◌≡◌, ◌<◌, length, ◌≡◌, [], sym, subst, arith, List, ℕ}
 use Rattle.std.specs.Prelude.{Some, None, IfOk, IfSome, IsNone}
 use Rattle.std.proofs.lemmas.Result.{IfOk-weaker}
 use Rattle.run_model.specs.Schedule.{call_at}
 use Rattle.path_set.specs.Paths.{paths_in}
+use Rattle.det_core.specs.Legal.{IsHistory}
 use Rattle.board.specs.Listed.{IsListed}
 use Rattle.board.specs.Value.{Shown}
 use Rattle.board.specs.Steps.{IsLeast, MayMeet}
@@ -18,10 +19,11 @@ invariant_of-self c =
     let fewer = c.list_news.ensures.fewer in
     let capacity = c.list_news.ensures.capacity in
     record {
-      nodes = kept.nodes;
+      nodes = subst (λ ps. 0 < (let places = ps in places.nodes)) (sym c.list_news.ensures.places) kept.nodes;
+      pages = subst (λ ps. length b.lists.pages ≡ (let places = ps in places.nodes)) (sym c.list_news.ensures.places) kept.pages;
       sound = kept.sound;
       at_work = kept.at_work;
-      legal = kept.legal;
+      legal = subst (λ ps. IsHistory (let places = ps in places.nodes) b.boot b.history.items b.tree ps) (sym c.list_news.ensures.places) kept.legal;
       listed = c.list_news.ensures.listed b.tree b.out.slots kept.listed;
       places = kept.places;
       news_places = omega (arith, news_places, fewer, capacity);
@@ -37,10 +39,11 @@ invariant_of-self-2 c =
     let none = c.in_ok-list_news.ensures.none in
     let before = subst (λ ns. IsListed b.tree c.list_news.new.run c.list_news.new.calls (paths_in ns) b.out.slots) none (c.list_news.ensures.listed b.tree b.out.slots kept.listed) in
     record {
-      nodes = kept.nodes;
+      nodes = subst (λ ps. 0 < (let places = ps in places.nodes)) (sym c.list_news.ensures.places) kept.nodes;
+      pages = subst (λ ps. length b.lists.pages ≡ (let places = ps in places.nodes)) (sym c.list_news.ensures.places) kept.pages;
       sound = kept.sound;
       at_work = kept.at_work;
-      legal = kept.legal;
+      legal = subst (λ ps. IsHistory (let places = ps in places.nodes) b.boot b.history.items b.tree ps) (sym c.list_news.ensures.places) kept.legal;
       listed = subst (λ ns. IsListed b.tree c.list_news.new.run c.find_first.new.calls (paths_in ns) b.out.slots) (sym none) (c.find_first.ensures.listed c.list_news.new.run b.out.slots before);
       places = kept.places;
       news_places = omega (arith, news_places, fewer, capacity);
