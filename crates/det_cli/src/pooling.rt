@@ -38,7 +38,7 @@ fn settle_alone<R: Wait>(rt: &R, alloc: Global, root: Space) -> Result<Space, Al
     Ok(tree)
 }
 
-// What a root settles to, by so many workers. What comes out of the lock is known by its type alone: a board with a legal history of the tree that it began
+// What a root settles to, by so many workers on so many nodes. What comes out of the lock is known by its type alone: a board with a legal history of the tree that it began
 // with. That this tree is the root, and that the board came to its end, is looked at, by a copy of the root that shares its pages.
 fn settle_by_workers<R: Threads + Wait + Sync, G: Gate>(
     rt: &R,
@@ -53,7 +53,7 @@ fn settle_by_workers<R: Threads + Wait + Sync, G: Gate>(
 {
     let mut root = root;
     let copy = copy_tree(alloc, &mut root)?;
-    let board = Board::begin(alloc, root, 1)?;
+    let board = Board::begin(alloc, root, staff.nodes)?;
     let closed = run_together(rt, board, staff.workers, gate)?;
     match end_from(closed, &copy) {
         Some(end) => Ok(end),
