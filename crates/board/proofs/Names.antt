@@ -35,7 +35,7 @@ met_stands starts old new path sound runs met stands slot v o named is =
     ap (λ (b : Shown). top_at o.path.items b.tree) met.others ∙ (stays ∙ stands slot v o named before)
 
 -- a job is put out: its name stands for its state
-pub put_stands : (starts starts' : Starts) (old new : Shown) (job : Job) (name : Option (Option Top)) → ((v : Option Top) → name ≡ Some v → v ≡ Some job.top) → IsKeptAt job.slot name starts starts' → IsPutOut old job new
+pub put_stands : (starts starts' : Starts) (old new : Shown) (job : Job) (name : Option (Option Top)) → ((v : Option Top) → name ≡ Some v → v ≡ Some job.top.value) → IsKeptAt job.slot name starts starts' → IsPutOut old job new
     → StartsStand starts old → StartsStand starts' new
 put_stands starts starts' old new job name is_top kept put stands slot v o named is = go (cases_eq slot job.slot)
   where
@@ -51,7 +51,7 @@ put_stands starts starts' old new job name is_top kept put stands slot v o named
         tree ∙ (ap (λ (x : Out). top_at x.path.items old.tree) (sym one) ∙ (put.top ∙ sym (is_top v its)))
     go (inr ne) = tree ∙ stands slot v o (sym (kept.others slot ne) ∙ named) (sym (put.out.others slot ne) ∙ is)
 
-pub handed_out_stands : (node : ℕ) (starts starts' : Starts) (old new : Shown) (job : Job) (name : Option (Option Top)) → ((v : Option Top) → name ≡ Some v → v ≡ Some job.top) → IsKeptAt job.slot name starts starts'
+pub handed_out_stands : (node : ℕ) (starts starts' : Starts) (old new : Shown) (job : Job) (name : Option (Option Top)) → ((v : Option Top) → name ≡ Some v → v ≡ Some job.top.value) → IsKeptAt job.slot name starts starts'
     → HandsOut node old job new → StartsStand starts old → StartsStand starts' new
 handed_out_stands node starts starts' old new job name is_top kept hands stands =
     let taken = hands.0 in

@@ -33,7 +33,7 @@ pub record IsLeast (P : List ℕ → Type 0) (p : List ℕ) : Type 0 where
 
 -- a job is put out: its space as it stands in the tree, with the next ticket, in a slot in which nothing was
 pub record IsPutOut (old : Shown) (job : Job) (new : Shown) : Type 0 where
-  pub top : top_at job.path.items old.tree ≡ Some job.top
+  pub top : top_at job.path.items old.tree ≡ Some job.top.value
   pub ticket : job.ticket ≡ old.next_ticket
   pub vacant : out_at old.out job.slot ≡ None
   pub out : Sets job.slot (Some (record { ticket = job.ticket; path = job.path })) old.out new.out

@@ -122,7 +122,7 @@ pub record IsFor (job : Job) (d : Done) : Type 0 where
   pub slot : d.slot ≡ job.slot
   pub ticket : d.ticket ≡ job.ticket
   pub path : d.path ≡ job.path
-  pub start : (let run = d.run in run.start) ≡ job.top
+  pub start : (let run = d.run in run.start) ≡ job.top.value
 
 -- at most so many events, and fewer only where what is next is no local event
 abbrev pub HasHad : ℕ → Done → Type 0

@@ -15,6 +15,6 @@ pub struct Job {
     pub slot: usize,
     pub ticket: u64,
     pub path: Path,
-    pub top: Top,
-    pub ghost sound: { IsSoundAlone path.items top },
+    pub top: Box<Top>,
+    pub ghost sound: { IsSoundAlone path.items top.value },
 }

@@ -15,7 +15,7 @@ use worker_pool::Worked;
 pub struct NamedJob<J: Naming> {
     pub(crate) job: Job,
     pub(crate) name: Start<J>,
-    pub(crate) ghost named: { ForSome name (λ n. n ≡ Some job.top) },
+    pub(crate) ghost named: { ForSome name (λ n. n ≡ Some job.top.value) },
 }
 
 /// What became of such a job, with the name for the state that it began with.

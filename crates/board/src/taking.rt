@@ -134,6 +134,7 @@ impl Board {
         let Some(top) = copy_top_at(&mut self.tree, &path)? else {
             unreachable!()
         };
+        let top = Box::new(self.alloc, top)?;
         let ticket = self.next_ticket;
         let out = Out {
             ticket,

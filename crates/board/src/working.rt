@@ -23,7 +23,7 @@ pub fn begin(cache: &mut DecodeCache, job: Job) -> Result<Worked<Done>, AllocErr
         path,
         top,
     } = job;
-    let mut run = run_local(top, path.len() as u8, FIRST_EVENTS, cache)?;
+    let mut run = run_local(Box::into_inner(top), path.len() as u8, FIRST_EVENTS, cache)?;
     let lasts = run.ran() == FIRST_EVENTS;
     if !lasts {
         run.freeze()?;

@@ -24,8 +24,8 @@ pub invariant_of-result : goal.invariant_of-result
 invariant_of-result c =
     let b = c.self.inside in
     let kept = c.self.invariant in
-    let stood : top_at c.args.path.items b.tree ≡ Some c.in-Some.top = sym c.in_ok-top.ensures.equal ∙ c.in-Some.is in
-    record { sound = alone_sound c.args.path.items b.tree c.in-Some.top (legal_sound b.history.items b.boot b.tree (all_home b.lists.run.places.nodes) b.lists.run.places kept.legal kept.sound) stood }
+    let stood : top_at c.args.path.items b.tree ≡ Some c.in_ok-top-2.top.value = sym c.in_ok-top.ensures.equal ∙ (c.in-Some.is ∙ ap Some (sym c.in_ok-top-2.ensures.ok)) in
+    record { sound = alone_sound c.args.path.items b.tree c.in_ok-top-2.top.value (legal_sound b.history.items b.boot b.tree (all_home b.lists.run.places.nodes) b.lists.run.places kept.legal kept.sound) stood }
 
 pub invariant_of-self-2 : goal.invariant_of-self-2
 invariant_of-self-2 c =
