@@ -1,0 +1,12 @@
+//! Quanta for threads that share a memory without joins: a start gives each thread that waits a copy and a quantum, a commit takes over what each wrote.
+#![tactic(auto)]
+
+mod commit;
+mod prepared;
+mod start;
+#[cfg(test)]
+mod tests;
+mod threads;
+
+pub use commit::qcommit;
+pub use start::qstart;
