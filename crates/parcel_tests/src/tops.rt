@@ -2,6 +2,7 @@ ghost use Rattle.std.specs.Prelude.{◌≡◌, IfOk, None};
 ghost use Rattle.space_mem.specs.Held.{all_pages};
 
 use fault_model::Fault;
+use memory_model::PAGES;
 use node_parcel::{Residents, pack, pack_to_send, unpack};
 use space_tree::{Cause, Mem, Pages, Status, Top, same_top};
 use std::alloc::{AllocError, Global};
@@ -252,5 +253,33 @@ fn pages_that_only_a_snapshot_has_are_dirty(rt: HostRuntime) -> Result<(), Fail>
 fn a_top_of_four_pages_comes_back(rt: HostRuntime) -> Result<(), Fail> {
     let top = top_of_four(rt.alloc())?;
     assert!(rt; comes_back(rt.alloc(), &top)?);
+    Ok(())
+}
+
+// A top with a memory.
+fn top_over(alloc: Global, memory: Mem) -> Top
+    ensures { result.devices ≡ None }
+{
+    let mut top = Top::fresh(alloc, 100);
+    top.memory = memory;
+    top
+}
+
+// A memory without bytes, whose pages all have a permission.
+fn memory_of_permissions(alloc: Global) -> Result<Mem, AllocError> {
+    let mut memory = Mem::new(alloc);
+    let all = Pages {
+        first: 0,
+        count: PAGES,
+    };
+    memory.set_perm(all, 6)?;
+    Ok(memory)
+}
+
+#[test]
+fn all_permissions_come_back(rt: HostRuntime) -> Result<(), Fail> {
+    let top = top_over(rt.alloc(), memory_of_permissions(rt.alloc())?);
+    let known = Residents::new(rt.alloc());
+    assert!(rt; is_read_over(rt.alloc(), &top, &known)?);
     Ok(())
 }
