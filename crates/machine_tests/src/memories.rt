@@ -114,6 +114,27 @@ fn own_pages(rt: HostRuntime) -> Result<(), Fail> {
     Ok(())
 }
 
+// A memory that may be read and written and has bytes in page 100 alone.
+fn with_one_page(alloc: Global) -> Result<Mem, AllocError> {
+    let mut mem = Mem::new(alloc);
+    let all = Pages {
+        first: 0,
+        count: PAGES,
+    };
+    mem.set_perm(all, 3)?;
+    mem.write(0x6_4000, 7)?;
+    Ok(mem)
+}
+
+#[test]
+fn bare_pages(rt: HostRuntime) -> Result<(), Fail> {
+    let mem = with_one_page(rt.alloc())?;
+    let ends = [mem.bare_end(0), mem.bare_end(64), mem.bare_end(100)];
+    assert_eq!(rt; ends, [64, 100, 100]);
+    assert_eq!(rt; [mem.bare_end(101), mem.bare_end(8192)], [128, 16_384]);
+    Ok(())
+}
+
 // A memory of which seven pages are dirty, one more than stand in a list.
 fn with_seven_dirty(alloc: Global) -> Result<Mem, AllocError> {
     let mut mem = Mem::new(alloc);

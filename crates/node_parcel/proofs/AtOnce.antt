@@ -57,7 +57,7 @@ same_permission known m n first permission number k q out = elim (cases_lt q fir
 
 -- ---- pages without bytes
 
-byte_none : (known : List (List ℕ)) (m : Memory) (first permission k a : ℕ) → byte_at (with_run known m first permission None k) a ≡ byte_at m a
+pub byte_none : (known : List (List ℕ)) (m : Memory) (first permission k a : ℕ) → byte_at (with_run known m first permission None k) a ≡ byte_at m a
 unfolding with_run number_after content_by with_content
 byte_none known m first permission zero a = refl
 byte_none known m first permission (suc k) a = byte_none known m first permission k a
@@ -70,7 +70,7 @@ without_bytes known m first permission k =
 
 -- ---- pages with the bytes of resident ones
 
-byte_before : (known : List (List ℕ)) (m : Memory) (first permission n k a : ℕ) → a < page_size * first → byte_at (with_run known m first permission (Some n) k) a ≡ byte_at m a
+pub byte_before : (known : List (List ℕ)) (m : Memory) (first permission n k a : ℕ) → a < page_size * first → byte_at (with_run known m first permission (Some n) k) a ≡ byte_at m a
 unfolding with_run number_after content_by with_content
 byte_before known m first permission n zero a low = refl
 byte_before known m first permission n (suc k) a low =

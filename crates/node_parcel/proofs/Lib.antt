@@ -8,5 +8,7 @@ pub mod Marks
 pub mod Written
 pub mod Found
 pub mod Bounds
-mod AtOnce
+pub mod AtOnce
 mod Kept
+pub mod InRows
+pub mod OneNumber

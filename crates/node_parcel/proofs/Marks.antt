@@ -1,6 +1,6 @@
 -- Whether two memories have the same bytes in a page, told by what they keep of it.
 use Rattle.std.proofs.Common.{◌≡◌, ℕ, ◌+◌, ◌<◌, ◌≤◌, Bool, List, sym, ap, subst, ◌∙◌, arith, inl, inr}
-use Rattle.std.specs.Prelude.{slice_index, IsTrue}
+use Rattle.std.specs.Prelude.{slice_index, max, IsTrue}
 use Rattle.std.proofs.lemmas.Bool.{cases_lt}
 use Rattle.std.proofs.lemmas.Grind.{same_number_lists}
 use Rattle.std.proofs.lemmas.List.{get_or_past}
@@ -10,6 +10,8 @@ use Rattle.memory_model.proofs.Rows.{value_at-put_same, value_at-put_other}
 use Rattle.memory_model.specs.Memory.{Memory}
 use Rattle.memory_model.specs.Ranges.{IsPageOf, IsZeroPage}
 use Rattle.space_mem.specs.Held.{Held, IsClean, SamePage, AllZero, Covers}
+use Rattle.node_parcel.specs.declared.spans.Span.{Span}
+use Rattle.node_parcel.specs.OneNumber.{AreAlike, ShareNumber}
 
 pub same_bytes : (m n : Memory) (page : ℕ) (a b : List ℕ) (r : Bool) → IsPageOf m page a → IsPageOf n page b → (IsTrue r → a ≡ b) × (a ≡ b → IsTrue r) → (IsTrue r → SamePage m n page) × (SamePage m n page → IsTrue r)
 same_bytes m n page a b r ha hb h = (
@@ -51,14 +53,14 @@ none_marked h snapshot e = record {
   clean = λ q le. ap (λ (t : Sparse). value_at t q) e ∙ value_at-no_values q;
 }
 
--- one page more that is the same
-pub passes_same : (h : Held) (snapshot : Memory) (from page : ℕ) → from ≤ page → AllZero h.memory from page → AllZero snapshot from page → SamePage h.memory snapshot page → IsMarked h snapshot from → IsMarked h snapshot (page + 1)
-passes_same h snapshot from page le hm hn same marked = record {
+-- pages more that are the same
+pub passes_same : (h : Held) (snapshot : Memory) (from page next : ℕ) → from ≤ page → page ≤ next → AllZero h.memory from page → AllZero snapshot from page → ((q : ℕ) → page ≤ q → q < next → SamePage h.memory snapshot q) → IsMarked h snapshot from → IsMarked h snapshot next
+passes_same h snapshot from page next le after hm hn same marked = record {
   covers = λ q lt c. elim (cases_lt q from) [
     | inl low ↦ marked.covers q low c
     | inr high ↦ elim (cases_lt q page) [
       | inl before ↦ zero_same h.memory snapshot from page q hm hn high before
-      | inr there ↦ let is : page ≡ q = omega arith in subst (λ (p : ℕ). SamePage h.memory snapshot p) is same
+      | inr there ↦ same q there lt
     ]
   ];
   exact = λ q lt s. elim (cases_lt q from) [
@@ -67,6 +69,20 @@ passes_same h snapshot from page le hm hn same marked = record {
   ];
   clean = λ q above. marked.clean q (omega arith);
 }
+
+-- pages that have one number in both are the same
+pub known_same : (m before n : Memory) (ours theirs : List Span) (page end : ℕ) → AreAlike before n ours theirs → m ≡ before → ((q : ℕ) → page ≤ q → q < end → ShareNumber ours theirs q) → (q : ℕ) → page ≤ q → q < end → SamePage m n q
+known_same m before n ours theirs page end alike is one q low high = subst (λ (x : Memory). SamePage x n q) (sym is) (alike q (one q low high))
+
+pub one_behind : (page end next : ℕ) → end ≤ page → next ≡ max end (page + 1) → page + 1 ≡ next
+one_behind page end next le is = omega (arith, le, is)
+
+-- so are they up to where they are known to be, or the one that was looked at
+pub all_same : (m n : Memory) (page end next : ℕ) → ((q : ℕ) → page ≤ q → q < end → SamePage m n q) → SamePage m n page → next ≡ max end (page + 1) → (q : ℕ) → page ≤ q → q < next → SamePage m n q
+all_same m n page end next known here is q low high = elim (cases_lt q end) [
+  | inl before ↦ known q low before
+  | inr behind ↦ let e : page ≡ q = omega (arith, is, high, behind) in subst (λ (p : ℕ). SamePage m n p) e here
+]
 
 -- one page more that differs, and is marked
 pub marks_one : (h g : Held) (snapshot : Memory) (from page : ℕ) → from ≤ page → AllZero h.memory from page → AllZero snapshot from page → (SamePage h.memory snapshot page → ⊥) → g ≡ record h { dirty = put h.dirty page 1 } → IsMarked h snapshot from → IsMarked g snapshot (page + 1)

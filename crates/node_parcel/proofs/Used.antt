@@ -28,7 +28,7 @@ has_nothing m page e =
     let u = both_true (eqb (permission_at m page) 0) (is_zero (page_bytes m page)) e in
     (eqb-true _ _ u.0, λ k lt. sym (byte-page_bytes m page k lt) ∙ sym (all_zero (page_bytes m page) u.1 k))
 
-used_by : (m : Memory) (page : ℕ) (b : Bool) → is_unused m page ≡ b → IsUsed m page → b ≡ false
+pub used_by : (m : Memory) (page : ℕ) (b : Bool) → is_unused m page ≡ b → IsUsed m page → b ≡ false
 used_by m page true e h = absurd (h (has_nothing m page e))
 used_by m page false e h = refl
 
@@ -46,7 +46,7 @@ skip known m from (suc count) n none =
     let step : entries_from known m from (suc (count + n)) ≡ entries_from known m (from + 1) (count + n) = rw here refl in
     ap (entries_from known m from) e ∙ step ∙ skip known m (from + 1) count n (λ q le lt. none q (omega arith) (omega arith)) ∙ ap (λ (k : ℕ). entries_from known m k n) f
 
-skip_to : (known : List (List ℕ)) (m : Memory) (from to : ℕ) → from ≤ to → to ≤ pages → NoneUsed m from to → entries_from known m from (pages - from) ≡ entries_from known m to (pages - to)
+pub skip_to : (known : List (List ℕ)) (m : Memory) (from to : ℕ) → from ≤ to → to ≤ pages → NoneUsed m from to → entries_from known m from (pages - from) ≡ entries_from known m to (pages - to)
 skip_to known m from to le within none =
     let e : from + (to - from) ≡ to = omega arith in
     let f : pages - from ≡ (to - from) + (pages - to) = omega arith in

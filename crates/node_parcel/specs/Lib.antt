@@ -1,3 +1,5 @@
 pub mod Meant
 pub mod Numbers
 pub mod AtOnce
+pub mod Bare
+pub mod OneNumber

@@ -31,6 +31,7 @@ pub(crate) fn u8_at(at: u64, bytes: &[u8]) -> Result<(u8, &[u8]), ParcelFault>
 pub(crate) fn page_of(least: u32, at: u64, bytes: &[u8]) -> Result<(u32, &[u8]), ParcelFault>
     ensures read { Gives (λ x. (x.0, x.1.now)) result (reading.page_at least at bytes.now) }
     ensures below { IfOk result (λ x. x.0 < pages) }
+    ensures least { IfOk result (λ x. least ≤ x.0) }
 {
     let (page, rest) = u32_at(at, bytes)?;
     if page < least {

@@ -19,6 +19,7 @@ mod placing;
 mod resident;
 mod residents;
 mod runs;
+mod spans;
 mod unpacking;
 
 pub use fault::ParcelFault;

@@ -1,7 +1,10 @@
-ghost use Rattle.std.specs.Prelude.{◌≡◌, ◌↔◌, ℕ, ◌<◌, ◌≤◌, IfSome, IsNone, IsTrue, OnOk};
+ghost use Rattle.std.specs.Prelude.{◌≡◌, ◌↔◌, ℕ, ◌<◌, ◌≤◌, false, IfSome, IsNone, IsTrue, OnOk};
 ghost use Rattle.memory_model.specs.Sizes.{pages};
 ghost use Rattle.space_mem.specs.Held.{AllZero, Covers, CoversIn, IsClean, SamePage};
+ghost use Rattle.node_parcel.specs.OneNumber.{held_in, AreAlike, AreAlikeIn};
 
+use crate::runs::Placed;
+use crate::spans::{Span, past, same_end};
 use memory_model::PAGES;
 use space_mem::Mem;
 use std::alloc::AllocError;
@@ -39,8 +42,28 @@ fn has_same_bytes(memory: &Mem, snapshot: &Mem, page: u32) -> bool
     }
 }
 
-// Marks exactly the pages in which a memory differs from its snapshot; no page of it is owned then. The one error is want of memory.
-fn mark_differences(memory: &mut Mem, snapshot: &Mem) -> Result<(), AllocError>
+// Whether two memories differ in a page; before `end` they are known not to, and no byte is looked at.
+fn differ(memory: &Mem, snapshot: &Mem, page: u32, end: u32) -> bool
+    requires { page < end → SamePage memory.now.memory snapshot.now.memory page }
+    ensures differs { IsTrue result → SamePage memory.now.memory snapshot.now.memory page → ⊥ }
+    ensures same { result ≡ false → SamePage memory.now.memory snapshot.now.memory page }
+    ensures here { IsTrue result → end ≤ page }
+{
+    if page < end {
+        return false;
+    }
+    !has_same_bytes(memory, snapshot, page)
+}
+
+// Marks exactly the pages in which a memory differs from its snapshot; no page of it is owned then. Where the spans tell that pages of both
+// have one number, they are passed at once. The one error is want of memory.
+fn mark_differences(
+    memory: &mut Mem,
+    ours: &[Span],
+    snapshot: &Mem,
+    theirs: &[Span],
+) -> Result<(), AllocError>
+    requires { AreAlike memory.old.memory snapshot.now.memory ours.now theirs.now }
     ensures same { OnOk result (memory.new.memory ≡ memory.old.memory) }
     ensures covers { OnOk result (Covers memory.new snapshot.now.memory) }
     ensures exact { OnOk result ((page : ℕ) → page < pages → SamePage memory.new.memory snapshot.now.memory page → IsClean memory.new page) }
@@ -48,22 +71,32 @@ fn mark_differences(memory: &mut Mem, snapshot: &Mem) -> Result<(), AllocError>
     memory.freeze()?;
     memory.clean();
     let mut from = 0;
+    let mut our = 0;
+    let mut their = 0;
     while let Some(page) = next_kept(memory, snapshot, from) {
-        if !has_same_bytes(memory, snapshot, page) {
+        our = past(ours, our, page);
+        their = past(theirs, their, page);
+        let end = same_end(ours, our, theirs, their, page);
+        if differ(memory, snapshot, page, end) {
             memory.mark(page)?;
         }
-        from = page + 1;
+        from = end.max(page + 1);
     }
     Ok(())
 }
 
 /// Marks exactly the pages in which a memory differs from its snapshot, where there is one. The one error is want of memory.
-pub(crate) fn mark(memory: &mut Mem, snapshot: &Option<Mem>) -> Result<(), AllocError>
+pub(crate) fn mark(
+    memory: &mut Mem,
+    spans: &[Span],
+    snapshot: &Option<Placed>,
+) -> Result<(), AllocError>
+    requires { AreAlikeIn memory.old.memory spans.now snapshot.now }
     ensures same { OnOk result (memory.new.memory ≡ memory.old.memory) }
-    ensures covers { OnOk result (CoversIn memory.new snapshot.now) }
+    ensures covers { OnOk result (CoversIn memory.new (held_in snapshot.now)) }
 {
     match snapshot {
-        Some(snapshot) => mark_differences(memory, snapshot),
+        Some(snapshot) => mark_differences(memory, spans, &snapshot.memory, &snapshot.spans),
         None => Ok(()),
     }
 }

@@ -1,11 +1,14 @@
-ghost use Rattle.std.specs.Prelude.{◌≡◌, ◌++◌, ◌∷◌, ◌+◌, ◌*◌, ◌<◌, ◌^◌, ℕ, List, [], length, slice_index, IfOk, OnOk, None};
+ghost use Rattle.std.specs.Prelude.{◌≡◌, ◌++◌, ◌∷◌, ◌+◌, ◌-◌, ◌*◌, ◌<◌, ◌≤◌, ◌^◌, ℕ, false, List, [], length, slice_index, IfOk, OnOk, None};
 ghost use Rattle.std.specs.Int.{w32, to_le_bytes};
 ghost use Rattle.std.specs.List.{flat_map};
+ghost use Rattle.memory_model.specs.Ranges.{IsUsed};
+ghost use Rattle.memory_model.specs.Sizes.{pages};
 ghost use Rattle.page_store.specs.Bytes.{bytes_of};
 ghost use Rattle.space_model.specs.Block.{block_of};
 ghost use Rattle.space_mem.specs.Held as held;
 ghost use Rattle.parcel_model.specs.Parcel.{block_spelling, content_spelling, entry_spelling, is_there, memory_spelling, snapshot_spelling, TopOf};
-ghost use Rattle.parcel_model.specs.Packing.{content_of, entries_of, entry_of, number_of, numbered, page_bytes, parcel_bytes, parcel_of, snapshot_entries, IsBoundedIn, IsPackable};
+ghost use Rattle.parcel_model.specs.Packing.{content_of, entries_from, entries_of, entry_of, is_unused, number_of, numbered, page_bytes, parcel_bytes, parcel_of, snapshot_entries, IsBoundedIn, IsPackable};
+ghost use Rattle.node_parcel.specs.Bare.{bare_entries, bare_entry};
 ghost use Rattle.parcel_model.specs.Sent.{page_of_entry, pages_sent, whole_page, whole_pages, whole_pages_in};
 
 use crate::resident::{ResidentPage, is_zero_page};
@@ -147,6 +150,35 @@ fn put_entry(
     put_content(alloc, out, whole, near, memory, page, known)
 }
 
+// Adds a page that has a permission, and of which no byte is looked for.
+fn put_bare_entry(out: &mut Vec<u8>, page: u32, permission: u8) -> Result<(), AllocError>
+    ensures { OnOk result (out.new.items ≡ out.old.items ++ entry_spelling (bare_entry permission page)) }
+{
+    put_u32(out, page)?;
+    out.extend_from_slice(&[permission, 0])
+}
+
+// Adds the pages from one to before another, each with this permission and with no bytes.
+fn put_bare(out: &mut Vec<u8>, permission: u8, first: u32, end: u32) -> Result<(), AllocError>
+    ensures { OnOk result (out.new.items ≡ out.old.items ++ flat_map entry_spelling (bare_entries permission first (end - first))) }
+{
+    for page in first..end {
+        put_bare_entry(out, page, permission)?;
+    }
+    Ok(())
+}
+
+// Where pages in a row end that are used, from one that is used on: those of which no bytes are kept are found at once.
+fn used_end(memory: &Mem, page: u32) -> u32
+    requires page { page < pages }
+    requires used { IsUsed memory.now.memory page }
+    ensures above { page < result }
+    ensures below { result ≤ pages }
+    ensures used { (q : ℕ) → page ≤ q → q < result → is_unused memory.now.memory q ≡ false }
+{
+    memory.bare_end(page).max(page + 1)
+}
+
 // How many pages have a permission or a byte other than 0.
 fn count_pages(memory: &Mem) -> u32
     ensures { (known : List (List ℕ)) → result ≡ length (entries_of known memory.now.memory) }
@@ -154,10 +186,36 @@ fn count_pages(memory: &Mem) -> u32
     let mut count = 0;
     let mut from = 0;
     while let Some(page) = memory.next_page(from) {
-        count += 1;
-        from = page + 1;
+        from = used_end(memory, page);
+        count += from - page;
     }
     count
+}
+
+// Adds a page that is used, with the pages behind it that are like it where no bytes are kept of them: the page behind those.
+fn put_row(
+    alloc: Global,
+    out: &mut Vec<u8>,
+    whole: &mut Vec<ResidentPage>,
+    near: &mut u32,
+    memory: &Mem,
+    page: u32,
+    known: &Residents,
+) -> Result<u32, AllocError>
+    requires page { page < pages }
+    requires used { IsUsed memory.now.memory page }
+    ensures above { IfOk result (λ end. page < end) }
+    ensures below { IfOk result (λ end. end ≤ pages) }
+    ensures written { IfOk result (λ end. out.new.items ≡ out.old.items ++ flat_map entry_spelling (entries_from known.now memory.now.memory page (end - page))) }
+    ensures whole { IfOk result (λ end. whole.new.items ≡ whole.old.items ++ whole_pages (entries_from known.now memory.now.memory page (end - page))) }
+{
+    let end = memory.bare_end(page);
+    if page < end {
+        put_bare(out, memory.perm(page), page, end)?;
+        return Ok(end);
+    }
+    put_entry(alloc, out, whole, near, memory, page, known)?;
+    Ok(page + 1)
 }
 
 // Adds the count of a memory's pages, and each of them.
@@ -175,8 +233,7 @@ fn put_memory(
     let mut near = 0;
     let mut from = 0;
     while let Some(page) = memory.next_page(from) {
-        put_entry(alloc, out, whole, &mut near, memory, page, known)?;
-        from = page + 1;
+        from = put_row(alloc, out, whole, &mut near, memory, page, known)?;
     }
     Ok(())
 }

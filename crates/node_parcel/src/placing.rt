@@ -4,16 +4,17 @@ ghost use Rattle.memory_model.specs.Sizes.{greatest_permission, pages};
 ghost use Rattle.space_mem.specs.Held as held;
 ghost use Rattle.parcel_model.specs.Parcel.{is_zero, resident};
 ghost use Rattle.parcel_model.specs.Reading as reading;
+ghost use Rattle.std.specs.List.{All};
 ghost use Rattle.node_parcel.specs.AtOnce.{meant, IsRun};
+ghost use Rattle.node_parcel.specs.OneNumber.{held_in, ArePut, AreSpansIn, HasSpan};
 ghost use Rattle.node_parcel.specs.Meant.{put_content, content_in, entry_in, pages_in, memory_in, snapshot_in};
 
 use crate::fault::{ParcelFault, bad};
 use crate::fields::{page_of, permission_of, u8_at, u32_at};
 use crate::residents::Residents;
-use crate::runs::Placing;
+use crate::runs::{Placed, Placing};
 use memory_model::PAGE_SIZE;
 use parcel_model::ParcelErrorKind;
-use space_mem::Mem;
 use std::alloc::Global;
 
 const SIZE: usize = PAGE_SIZE as usize;
@@ -29,11 +30,13 @@ fn empty_into<'a>(
     bytes: &'a [u8],
 ) -> Result<(u64, &'a [u8]), ParcelFault>
     requires run { IsRun known.now placing.old.run }
+    requires put { ArePut known.now placing.old page }
     requires page { page < pages }
     requires permission { permission ≤ greatest_permission }
     requires place { at < 2 ^ 62 }
     ensures read { Gives (λ x. (meant known.now placing.new, x.0, x.1.now)) result (put_content known.now (meant known.now placing.old) page permission (at + 1) (reading.empty_at permission at bytes.now)) }
     ensures run { OnOk result (IsRun known.now placing.new.run) }
+    ensures put { OnOk result (ArePut known.now placing.new (page + 1)) }
 {
     if permission == 0 {
         return Err(bad(at, ParcelErrorKind::Zero));
@@ -72,11 +75,13 @@ fn resident_into<'a>(
     bytes: &'a [u8],
 ) -> Result<(u64, &'a [u8]), ParcelFault>
     requires run { IsRun known.now placing.old.run }
+    requires put { ArePut known.now placing.old page }
     requires page { page < pages }
     requires permission { permission ≤ greatest_permission }
     requires place { at < 2 ^ 62 }
     ensures read { Gives (λ x. (meant known.now placing.new, x.0, x.1.now)) result (put_content known.now (meant known.now placing.old) page permission at (reading.resident_at known.now at bytes.now)) }
     ensures run { OnOk result (IsRun known.now placing.new.run) }
+    ensures put { OnOk result (ArePut known.now placing.new (page + 1)) }
 {
     let (number, rest) = resident_at(known, at, bytes)?;
     placing.add(known, page, permission, Some(number))?;
@@ -93,11 +98,13 @@ fn whole_into<'a>(
     bytes: &'a [u8],
 ) -> Result<(u64, &'a [u8]), ParcelFault>
     requires run { IsRun known.now placing.old.run }
+    requires put { ArePut known.now placing.old page }
     requires page { page < pages }
     requires permission { permission ≤ greatest_permission }
     requires place { at < 2 ^ 62 }
     ensures read { Gives (λ x. (meant known.now placing.new, x.0, x.1.now)) result (put_content known.now (meant known.now placing.old) page permission at (reading.whole_at at bytes.now)) }
     ensures run { OnOk result (IsRun known.now placing.new.run) }
+    ensures put { OnOk result (ArePut known.now placing.new (page + 1)) }
     ensures end { IfOk result (λ x. x.0 ≡ at + 4096) }
 {
     if bytes.len() < SIZE {
@@ -129,11 +136,13 @@ fn content_into<'a>(
     bytes: &'a [u8],
 ) -> Result<(u64, &'a [u8]), ParcelFault>
     requires run { IsRun known.now placing.old.run }
+    requires put { ArePut known.now placing.old page }
     requires page { page < pages }
     requires permission { permission ≤ greatest_permission }
     requires place { at < 2 ^ 61 }
     ensures read { Gives (λ x. (meant known.now placing.new, x.0, x.1.now)) result (content_in known.now (meant known.now placing.old) page permission at bytes.now) }
     ensures run { OnOk result (IsRun known.now placing.new.run) }
+    ensures put { OnOk result (ArePut known.now placing.new (page + 1)) }
     ensures near { IfOk result (λ x. x.0 ≤ at + 4097) }
 {
     let (form, rest) = u8_at(at, bytes)?;
@@ -155,9 +164,11 @@ fn entry_into<'a>(
     bytes: &'a [u8],
 ) -> Result<(u32, u64, &'a [u8]), ParcelFault>
     requires run { IsRun known.now placing.old.run }
+    requires put { ArePut known.now placing.old least }
     requires place { at < 2 ^ 60 }
     ensures read { Gives (λ x. (meant known.now placing.new, x.0, x.1, x.2.now)) result (entry_in known.now (meant known.now placing.old) least at bytes.now) }
     ensures run { OnOk result (IsRun known.now placing.new.run) }
+    ensures put { IfOk result (λ x. ArePut known.now placing.new x.0) }
     ensures near { IfOk result (λ x. x.1 ≤ at + 4102) }
 {
     let (page, rest) = page_of(least, at, bytes)?;
@@ -173,9 +184,10 @@ fn pages_of<'a>(
     count: u32,
     start: u64,
     bytes: &'a [u8],
-) -> Result<(Mem, u64, &'a [u8]), ParcelFault>
+) -> Result<(Placed, u64, &'a [u8]), ParcelFault>
     requires { start < 2 ^ 59 }
-    ensures read { Gives (λ x. (x.0.memory, x.1, x.2.now)) result (pages_in known.now count start bytes.now) }
+    ensures read { Gives (λ x. (x.0.memory.memory, x.1, x.2.now)) result (pages_in known.now count start bytes.now) }
+    ensures spans { IfOk result (λ x. All (HasSpan known.now x.0.memory.memory) x.0.spans.items) }
     ensures near { IfOk result (λ x. x.1 ≤ start + 4102 * count) }
 {
     let mut placing = Placing::new(alloc, known);
@@ -195,9 +207,10 @@ pub(crate) fn memory_of<'a>(
     known: &Residents,
     at: u64,
     bytes: &'a [u8],
-) -> Result<(Mem, u64, &'a [u8]), ParcelFault>
+) -> Result<(Placed, u64, &'a [u8]), ParcelFault>
     requires { at < 2 ^ 58 }
-    ensures read { Gives (λ x. (x.0.memory, x.1, x.2.now)) result (memory_in known.now at bytes.now) }
+    ensures read { Gives (λ x. (x.0.memory.memory, x.1, x.2.now)) result (memory_in known.now at bytes.now) }
+    ensures spans { IfOk result (λ x. All (HasSpan known.now x.0.memory.memory) x.0.spans.items) }
     ensures near { IfOk result (λ x. x.1 < at + 2 ^ 50) }
 {
     let (count, rest) = u32_at(at, bytes)?;
@@ -212,13 +225,14 @@ pub(crate) fn snapshot_of<'a>(
     flags: u8,
     at: u64,
     bytes: &'a [u8],
-) -> Result<(Option<Mem>, u64, &'a [u8]), ParcelFault>
+) -> Result<(Option<Placed>, u64, &'a [u8]), ParcelFault>
     requires { at < 2 ^ 58 }
-    ensures { Gives (λ x. (held.memory_in x.0, x.1, x.2.now)) result (snapshot_in known.now flags at bytes.now) }
+    ensures read { Gives (λ x. (held.memory_in (held_in x.0), x.1, x.2.now)) result (snapshot_in known.now flags at bytes.now) }
+    ensures spans { IfOk result (λ x. AreSpansIn known.now x.0) }
 {
     if flags.is_multiple_of(2) {
         return Ok((None, at, bytes));
     }
-    let (memory, end, rest) = memory_of(alloc, known, at, bytes)?;
-    Ok((Some(memory), end, rest))
+    let (placed, end, rest) = memory_of(alloc, known, at, bytes)?;
+    Ok((Some(placed), end, rest))
 }

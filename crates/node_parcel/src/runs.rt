@@ -1,11 +1,14 @@
-ghost use Rattle.std.specs.Prelude.{◌≡◌, ◌<◌, ◌≤◌, ◌+◌, length, IfOk, IsTrue, None, OnOk};
+ghost use Rattle.std.specs.Prelude.{◌≡◌, ◌<◌, ◌≤◌, ◌+◌, ◌++◌, ◌∷◌, ℕ, [], length, IfOk, IsTrue, None, Some, OnOk};
 ghost use Rattle.memory_model.specs.Memory.{no_memory};
 ghost use Rattle.memory_model.specs.Ranges.{with_page};
 ghost use Rattle.memory_model.specs.Sizes.{greatest_permission, page_size, pages};
 ghost use Rattle.parcel_model.specs.Parcel.{whole, with_entry};
-ghost use Rattle.node_parcel.specs.AtOnce.{entry_by, meant, number_after, AreThere, IsRun};
+ghost use Rattle.std.specs.List.{All};
+ghost use Rattle.node_parcel.specs.AtOnce.{entry_by, meant, number_after, with_run, AreThere, IsRun};
+ghost use Rattle.node_parcel.specs.OneNumber.{ArePut, EndsBy, HasSpan};
 
 use crate::residents::Residents;
+use crate::spans::Span;
 use memory_model::PAGE_SIZE;
 use space_mem::{Mem, Pages};
 use std::alloc::{AllocError, Global};
@@ -21,12 +24,12 @@ pub(crate) struct Run {
 }
 
 impl Run {
-    // No pages.
-    fn none() -> Run
-        ensures { result ≡ record { first = 0; count = 0; permission = 0; number = None } }
+    // No pages, at a page.
+    fn none(first: u32) -> Run
+        ensures { result ≡ record { first = first; count = 0; permission = 0; number = None } }
     {
         Run {
-            first: 0,
+            first,
             count: 0,
             permission: 0,
             number: None,
@@ -59,11 +62,20 @@ impl Run {
     }
 }
 
-/// A memory to which pages are added, of which the last ones may still be to be put.
+/// A memory to which pages are added by rising number, of which the last ones may still be to be put, with the spans of those that have the bytes
+/// of resident pages.
 #[derive(Drop)]
 pub(crate) struct Placing {
     pub memory: Mem,
+    pub spans: Vec<Span>,
     pub run: Run,
+}
+
+/// A memory, with the spans of its pages that have the bytes of resident pages, by rising page.
+#[derive(Drop)]
+pub(crate) struct Placed {
+    pub memory: Mem,
+    pub spans: Vec<Span>,
 }
 
 // Puts the bytes of a page.
@@ -81,24 +93,44 @@ impl Placing {
     pub fn new(alloc: Global, known: &Residents) -> Placing
         ensures means { meant known.now result ≡ no_memory }
         ensures run { IsRun known.now result.run }
+        ensures put { ArePut known.now result 0 }
     {
-        Placing {
-            memory: Mem::new(alloc),
-            run: Run::none(),
-        }
+        let memory = Mem::new(alloc);
+        let spans = Vec::new(alloc);
+        let run = Run::none(0);
+        Placing { memory, spans, run }
+    }
+
+    // Puts pages with the bytes of the resident pages from a number on.
+    fn put_span(
+        &mut self,
+        known: &Residents,
+        number: u32,
+        pages: Pages,
+    ) -> Result<(), AllocError>
+        requires there { number + pages.count ≤ length known.now }
+        requires permission { self.old.run.permission ≤ greatest_permission }
+        ensures memory { OnOk result (self.new.memory.memory ≡ with_run known.now self.old.memory.memory pages.first self.old.run.permission (Some number) pages.count) }
+        ensures spans { OnOk result (self.new.spans.items ≡ self.old.spans.items ++ record { pages = pages; number = number } ∷ []) }
+    {
+        known.place(&mut self.memory, number, pages, self.run.permission)?;
+        self.spans.push(Span { pages, number })?;
+        Ok(())
     }
 
     // Puts the pages that are still to be put.
     fn put_run(&mut self, known: &Residents) -> Result<(), AllocError>
-        requires { IsRun known.now self.old.run }
-        ensures { OnOk result (self.new.memory.memory ≡ meant known.now self.old) }
+        requires run { IsRun known.now self.old.run }
+        ensures memory { OnOk result (self.new.memory.memory ≡ meant known.now self.old) }
+        ensures held { OnOk result ((page : ℕ) → ArePut known.now self.old page → All (HasSpan known.now self.new.memory.memory) self.new.spans.items) }
+        ensures before { OnOk result ((page : ℕ) → ArePut known.now self.old page → All (EndsBy page) self.new.spans.items) }
     {
         let range = Pages {
             first: self.run.first,
             count: self.run.count,
         };
         match self.run.number {
-            Some(number) => known.place(&mut self.memory, number, range, self.run.permission),
+            Some(number) => self.put_span(known, number, range),
             None => self.memory.set_perm(range, self.run.permission),
         }
     }
@@ -115,8 +147,10 @@ impl Placing {
         requires page { page < pages }
         requires permission { permission ≤ greatest_permission }
         requires there { AreThere known.now number 1 }
+        requires put { ArePut known.now self.old page }
         ensures means { OnOk result (meant known.now self.new ≡ with_entry known.now (meant known.now self.old) (entry_by page permission number)) }
         ensures run { OnOk result (IsRun known.now self.new.run) }
+        ensures put { OnOk result (ArePut known.now self.new (page + 1)) }
     {
         if self.run.goes_on(known, page, permission, number) {
             self.run.count += 1;
@@ -144,11 +178,13 @@ impl Placing {
         requires page { page < pages }
         requires permission { permission ≤ greatest_permission }
         requires whole { length bytes.now ≡ page_size }
+        requires put { ArePut known.now self.old page }
         ensures means { OnOk result (meant known.now self.new ≡ with_entry known.now (meant known.now self.old) (record { page = page; permission = permission; content = whole bytes.now })) }
         ensures run { OnOk result (IsRun known.now self.new.run) }
+        ensures put { OnOk result (ArePut known.now self.new (page + 1)) }
     {
         self.put_run(known)?;
-        self.run = Run::none();
+        self.run = Run::none(page);
         put_bytes(&mut self.memory, page, bytes)?;
         let range = Pages {
             first: page,
@@ -158,11 +194,15 @@ impl Placing {
     }
 
     /// The memory, with all pages.
-    pub fn finish(mut self, known: &Residents) -> Result<Mem, AllocError>
+    pub fn finish(mut self, known: &Residents) -> Result<Placed, AllocError>
         requires { IsRun known.now self.run }
-        ensures { IfOk result (λ memory. memory.memory ≡ meant known.now self) }
+        ensures memory { IfOk result (λ placed. placed.memory.memory ≡ meant known.now self) }
+        ensures spans { IfOk result (λ placed. (page : ℕ) → ArePut known.now self page → All (HasSpan known.now placed.memory.memory) placed.spans.items) }
     {
         self.put_run(known)?;
-        Ok(self.memory)
+        Ok(Placed {
+            memory: self.memory,
+            spans: self.spans,
+        })
     }
 }

@@ -4,6 +4,7 @@ ghost use Rattle.space_model.specs.Space as model;
 ghost use Rattle.parcel_model.specs.Parcel.{TopOf};
 ghost use Rattle.parcel_model.specs.Reading.{top_at};
 ghost use Rattle.node_parcel.specs.Meant.{read_top};
+ghost use Rattle.node_parcel.specs.OneNumber.{held_in};
 
 use crate::fault::ParcelFault;
 use crate::fields::u32_at;
@@ -13,9 +14,21 @@ use crate::header::{
 use crate::marking::mark;
 use crate::placing::{memory_of, snapshot_of};
 use crate::residents::Residents;
+use crate::runs::Placed;
 use rv_exec::Regs;
+use space_mem::Mem;
 use space_tree::Top;
 use std::alloc::Global;
+
+// The memory, where there is one.
+fn memory_in(placed: Option<Placed>) -> Option<Mem>
+    ensures { result ≡ held_in placed }
+{
+    match placed {
+        Some(placed) => Some(placed.memory),
+        None => None,
+    }
+}
 
 #[tactic(auto, unfolding(crate::specs::Meant::read_top))]
 fn whole(alloc: Global, bytes: &[u8], known: &Residents) -> Result<Top, ParcelFault>
@@ -30,14 +43,15 @@ fn whole(alloc: Global, bytes: &[u8], known: &Residents) -> Result<Top, ParcelFa
     let (limit, rest) = limit_at(flags, 141, rest)?;
     let (fuel, rest) = u32_at(145, rest)?;
     let (used, rest) = used_at(fuel, 149, rest)?;
-    let (mut memory, at, rest) = memory_of(alloc, known, 153, rest)?;
+    let (placed, at, rest) = memory_of(alloc, known, 153, rest)?;
     let (snapshot, at, rest) = snapshot_of(alloc, known, flags, at, rest)?;
     ended(at, rest)?;
-    mark(&mut memory, &snapshot)?;
+    let mut memory = placed.memory;
+    mark(&mut memory, &placed.spans, &snapshot)?;
     Ok(Top {
         registers,
         memory,
-        snapshot,
+        snapshot: memory_in(snapshot),
         limit,
         fuel,
         used,

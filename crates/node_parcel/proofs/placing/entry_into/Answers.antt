@@ -1,3 +1,4 @@
+use Rattle.std.proofs.Common.{arith}
 use Rattle.std.proofs.lemmas.Result.{err_from_is_err_and}
 use Rattle.node_parcel.proofs.Placed.{entry_placed, entry_cut}
 use Rattle.node_parcel.proofs.placing.entry_into.Goals as goal
@@ -10,3 +11,10 @@ returns-in_err-end-clause-read c =
 pub returns-clause-read : goal.returns-clause-read
 returns-clause-read c =
     entry_placed c.args.known.now _ _ c.args.least c.in_ok-page.page c.in_ok-permission.permission c.args.at c.in_ok-end.end c.args.bytes.now _ _ c.in_ok-end.rest.now c.in_ok-page.ensures.read c.in_ok-permission.ensures.read c.in_ok-end.ensures.read
+
+pub content_into-requires-clause-put : goal.content_into-requires-clause-put
+content_into-requires-clause-put c = record {
+  held = c.requires.put.held;
+  before = c.requires.put.before;
+  behind = omega (arith, c.requires.put.behind, c.in_ok-page.ensures.least);
+}

@@ -22,4 +22,18 @@ returns-then-goes_on-clause-run c =
 pub returns-clause-means : goal.returns-clause-means
 returns-clause-means c =
     begins_with c.args.known.now c.put_run.new.self.memory.memory c.args.page c.args.permission c.args.number
-    ∙ ap (λ (m : Memory). with_entry c.args.known.now m (entry_by c.args.page c.args.permission c.args.number)) c.in_ok-put_run.ensures
+    ∙ ap (λ (m : Memory). with_entry c.args.known.now m (entry_by c.args.page c.args.permission c.args.number)) c.in_ok-put_run.ensures.memory
+
+pub returns-then-goes_on-clause-put : goal.returns-then-goes_on-clause-put
+returns-then-goes_on-clause-put c = record {
+  held = c.requires.put.held;
+  before = c.requires.put.before;
+  behind = omega (arith, c.if-goes_on.ensures.page refl);
+}
+
+pub returns-clause-put : goal.returns-clause-put
+returns-clause-put c = record {
+  held = c.in_ok-put_run.ensures.held c.args.page c.requires.put;
+  before = c.in_ok-put_run.ensures.before c.args.page c.requires.put;
+  behind = omega arith;
+}
