@@ -130,6 +130,6 @@ nothing_yet known p none run =
       behind = omega (arith, at, few);
     }
 
-pub both_ok : {X E : Type 0} (r : Result X E) {P Q : Type 0} → OnOk r P → OnOk r Q → OnOk r (P × Q)
-both_ok (Ok x) p q = (p, q)
-both_ok (Err e) p q = tt
+pub both_ok : {X E : Type 0} (r : Result X E) (P Q : Type 0) → OnOk r P → OnOk r Q → OnOk r (P × Q)
+both_ok (Ok x) P Q p q = (p, q)
+both_ok (Err e) P Q p q = tt

@@ -197,7 +197,8 @@ fn pages_of<'a>(
     for _ in 0..count {
         (least, at, rest) = entry_into(&mut placing, known, least, at, rest)?;
     }
-    Ok((placing.finish(known)?, at, rest))
+    let placed = placing.finish(known)?;
+    Ok((placed, at, rest))
 }
 
 // The memory that stands there, where it ends, and the bytes from there on.

@@ -102,12 +102,7 @@ impl Placing {
     }
 
     // Puts pages with the bytes of the resident pages from a number on.
-    fn put_span(
-        &mut self,
-        known: &Residents,
-        number: u32,
-        pages: Pages,
-    ) -> Result<(), AllocError>
+    fn put_span(&mut self, known: &Residents, number: u32, pages: Pages) -> Result<(), AllocError>
         requires there { number + pages.count ≤ length known.now }
         requires permission { self.old.run.permission ≤ greatest_permission }
         ensures memory { OnOk result (self.new.memory.memory ≡ with_run known.now self.old.memory.memory pages.first self.old.run.permission (Some number) pages.count) }

@@ -1,4 +1,4 @@
-ghost use Rattle.std.specs.Prelude.{◌≡◌, ◌+◌, ◌-◌, ◌<◌, ◌≤◌, ℕ, length, IsTrue};
+ghost use Rattle.std.specs.Prelude.{◌≡◌, ◌+◌, ◌-◌, ◌<◌, ◌≤◌, ℕ, IsTrue};
 ghost use Rattle.memory_model.specs.Sizes.{pages};
 ghost use Rattle.node_parcel.specs.OneNumber.{HasPage, HaveOneNumber, ShareNumber};
 
@@ -39,9 +39,7 @@ impl Span {
     fn has_one_number(&self, other: &Span, page: u32) -> bool
         ensures { IsTrue result → HaveOneNumber self.now other.now page }
     {
-        self.has_page(page)
-            && other.has_page(page)
-            && self.number_of(page) == other.number_of(page)
+        self.has_page(page) && other.has_page(page) && self.number_of(page) == other.number_of(page)
     }
 
     // Where the pages from one on end that have one number here and there; this page, where it has not.
@@ -60,35 +58,20 @@ impl Span {
     }
 }
 
-// Whether there is a span at a place, all of whose pages are before one.
-fn is_before(spans: &[Span], at: usize, page: u32) -> bool
-    ensures { IsTrue result → at < length spans.now }
-{
-    match spans.get(at) {
-        Some(span) => span.end() <= page,
-        None => false,
-    }
-}
-
 /// The place of the first span, from one on, that does not end before a page.
 pub(crate) fn past(spans: &[Span], from: usize, page: u32) -> usize
     ensures { from ≤ result }
 {
-    let mut at = from;
-    while is_before(spans, at, page) {
-        at += 1;
+    for at in from..spans.len() {
+        if page < spans[at].end() {
+            return at;
+        }
     }
-    at
+    from.max(spans.len())
 }
 
 /// Where the pages from one on end that have one number in the spans at these places; this page, where it has not.
-pub(crate) fn same_end(
-    ours: &[Span],
-    our: usize,
-    theirs: &[Span],
-    their: usize,
-    page: u32,
-) -> u32
+pub(crate) fn same_end(ours: &[Span], our: usize, theirs: &[Span], their: usize, page: u32) -> u32
     requires { page ≤ pages }
     ensures above { page ≤ result }
     ensures below { result ≤ pages }

@@ -3,11 +3,11 @@ use Rattle.node_parcel.proofs.InRows.{row_counted}
 use Rattle.node_parcel.proofs.Written.{all_counted}
 use Rattle.node_parcel.proofs.packing.count_pages.Goals as goal
 
-pub used_end-requires-clause-page : goal.used_end-requires-clause-page
-used_end-requires-clause-page c = c.in-Some.ensures.some.below
+pub used_end-from-requires-clause-page : goal.used_end-from-requires-clause-page
+used_end-from-requires-clause-page c = c.in-Some.ensures.some.below
 
-pub used_end-requires-clause-used : goal.used_end-requires-clause-used
-used_end-requires-clause-used c = c.in-Some.ensures.some.used
+pub used_end-from-requires-clause-used : goal.used_end-from-requires-clause-used
+used_end-from-requires-clause-used c = c.in-Some.ensures.some.used
 
 pub loop-page-preserved : goal.loop-page-preserved
 loop-page-preserved c =

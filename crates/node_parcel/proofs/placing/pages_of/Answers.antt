@@ -1,4 +1,4 @@
-use Rattle.std.proofs.Common.{arith}
+use Rattle.std.proofs.Common.{◌≡◌, arith}
 use Rattle.std.proofs.lemmas.Result.{err_from_is_err_and}
 use Rattle.node_parcel.specs.AtOnce.{meant}
 use Rattle.node_parcel.proofs.Placed.{begins, goes_on, ends, is_done}
@@ -21,7 +21,12 @@ loop-preserved c = record {
 }
 
 pub returns-clause-read : goal.returns-clause-read
-returns-clause-read c = rw c.in_ok-finish.ensures.memory (is_done c.args.known.now c.args.count c.loop.counter c.loop.least c.loop.at (meant c.args.known.now c.loop.placing) c.loop.rest.now _ c.loop-test.false c.loop.invariant.read)
+returns-clause-read c =
+    let e : c.in_ok-placed.placed.memory.memory ≡ meant c.args.known.now c.loop.placing = c.in_ok-placed.ensures.memory in
+    rw e (is_done c.args.known.now c.args.count c.loop.counter c.loop.least c.loop.at (meant c.args.known.now c.loop.placing) c.loop.rest.now _ c.loop-test.false c.loop.invariant.read)
 
 pub returns-clause-spans : goal.returns-clause-spans
-returns-clause-spans c = c.in_ok-finish.ensures.spans c.loop.least c.loop.invariant.put
+returns-clause-spans c = c.in_ok-placed.ensures.spans c.loop.least c.loop.invariant.put
+
+pub entry_into-requires-clause-put : goal.entry_into-requires-clause-put
+entry_into-requires-clause-put c = c.loop.invariant.put

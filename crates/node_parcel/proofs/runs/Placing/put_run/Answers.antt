@@ -29,7 +29,7 @@ pub returns-in-Some-clause-held : goal.returns-in-Some-clause-held
 returns-in-Some-clause-held c =
     on_ok c.put_span.result
     (λ h page put. more_held c.args.known.now c.args.self.now c.put_span.new.self.memory.memory c.put_span.new.self.spans.items _ page put h.1 h.0 refl)
-    (both_ok c.put_span.result c.put_span.ensures.memory c.put_span.ensures.spans)
+    (both_ok c.put_span.result _ _ c.put_span.ensures.memory c.put_span.ensures.spans)
 
 pub returns-in-Some-clause-before : goal.returns-in-Some-clause-before
 returns-in-Some-clause-before c = on_ok c.put_span.result (λ h page put. more_before c.args.known.now c.args.self.now c.put_span.new.self.spans.items _ page put h refl refl) c.put_span.ensures.spans
