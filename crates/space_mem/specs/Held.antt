@@ -4,7 +4,7 @@
 use Rattle.std.specs.Prelude.{◌≡◌, ℕ, ◌+◌, ◌*◌, ◌/◌, ◌<◌, ◌≤◌, ◌⊎◌, Option, Some, None, refl}
 use Rattle.std.specs.Coded.{Coded, coded×, code_by}
 use Rattle.memory_model.specs.Sparse.{Sparse, coded_sparse, no_values, put, value_at}
-use Rattle.memory_model.specs.Memory.{Memory, coded_memory, no_memory, byte_at, with_byte, with_number}
+use Rattle.memory_model.specs.Memory.{Memory, coded_memory, no_memory, byte_at, permission_at, with_byte, with_number}
 use Rattle.memory_model.specs.Ranges.{with_row}
 use Rattle.memory_model.specs.Sizes.{page_size, pages}
 use Rattle.memory_model.specs.declared.Width.{Width}
@@ -98,6 +98,10 @@ AllClean h n end = (q : ℕ) → n ≤ q → q < end → IsClean h q
 -- the pages from n on and before another have no byte other than 0
 abbrev pub AllZero : Memory → ℕ → ℕ → Type 0
 AllZero m n end = (q k : ℕ) → n ≤ q → q < end → k < page_size → byte_at m (page_size * q + k) ≡ 0
+
+-- the pages from one to before another have the permission of the first
+abbrev pub HaveOnePermission : Memory → ℕ → ℕ → Type 0
+HaveOnePermission m n end = (q : ℕ) → n ≤ q → q < end → permission_at m q ≡ permission_at m n
 
 -- the next page from one to before another of which bytes are kept
 pub record IsNextKept (m : Memory) (from end page : ℕ) : Type 0 where

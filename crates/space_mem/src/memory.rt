@@ -5,7 +5,7 @@ ghost use Rattle.memory_model.specs.Sizes.{greatest_permission};
 ghost use Rattle.memory_model.specs.Sparse.{no_values, put, value_at};
 ghost use Rattle.memory_model.specs.Ranges.{IsZeroPage, IsPageOf, IsBounded, IsNextPage, NoneUsed, with_copies, with_page, with_zeros};
 ghost use Rattle.page_store.specs.Bytes.{bytes_of};
-ghost use Rattle.space_mem.specs.Held.{Owns, KeepsMarksOutside, IsClean, Marks, IsNextDirty, AllClean, IsNextKept, AllZero, all_pages, nothing_held, owning, with_stored, with_written};
+ghost use Rattle.space_mem.specs.Held.{Owns, KeepsMarksOutside, IsClean, Marks, IsNextDirty, AllClean, IsNextKept, AllZero, HaveOnePermission, all_pages, nothing_held, owning, with_stored, with_written};
 
 use crate::layout::Pages;
 use crate::table::PageTable;
@@ -263,6 +263,18 @@ impl Mem {
         ensures none { IsNone result → AllZero self.now.memory from end }
     {
         self.table.next_kept(from, end)
+    }
+
+    /// Where the pages from one on, below 2^20, end that have its permission and no byte other than 0: the page itself where bytes are kept of
+    /// it. It may stop early, where a part of the table ends, and looks at 64 pages at most.
+    pub fn bare_end(&self, page: u32) -> u32
+        requires { page < 1048576 }
+        ensures above { page ≤ result }
+        ensures below { result ≤ 1048576 }
+        ensures zero { AllZero self.now.memory page result }
+        ensures permission { HaveOnePermission self.now.memory page result }
+    {
+        self.table.bare_end(page)
     }
 
     /// An equal memory, which no later write to this one changes; none of its pages is dirty. Both share all pages, and own none then. The one

@@ -4,7 +4,7 @@ ghost use Rattle.memory_model.specs.Ranges.{IsPageOf, IsZeroPage, IsBounded, IsN
 ghost use Rattle.memory_model.specs.declared.Width.TheVariants.{Four};
 ghost use Rattle.memory_model.specs.Sizes.{pages};
 ghost use Rattle.page_store.specs.Bytes.{bytes_of};
-ghost use Rattle.space_mem.specs.Held.{IsNextDirty, AllClean, IsNextKept, AllZero};
+ghost use Rattle.space_mem.specs.Held.{IsNextDirty, AllClean, IsNextKept, AllZero, HaveOnePermission};
 ghost use Rattle.space_mem.specs.Tables.{IsTable, held_of, memory_of};
 
 use crate::table::PageTable;
@@ -107,6 +107,17 @@ impl PageTable {
             Some(page) => Some(page as u32),
             None => None,
         }
+    }
+
+    // Where the pages from one on end that have its permission and keep no bytes. It may stop early, where a part of the tree ends.
+    pub fn bare_end(&self, page: u32) -> u32
+        requires { page < pages }
+        ensures above { page ≤ result }
+        ensures below { result ≤ pages }
+        ensures zero { AllZero (memory_of self.now.pages) page result }
+        ensures permission { HaveOnePermission (memory_of self.now.pages) page result }
+    {
+        self.pages.bare_end(page as usize) as u32
     }
 
     // The least dirty page from `n` on.
