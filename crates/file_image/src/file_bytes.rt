@@ -1,4 +1,4 @@
-ghost use Rattle.std.specs.Prelude.{◌≡◌, ℕ, ◌<◌, ◌≤◌, ◌+◌, ◌/◌, ◌%◌, ◌==◌, Bool, true, if◌then◌else◌, length};
+ghost use Rattle.std.specs.Prelude.{◌≡◌, ℕ, ◌<◌, ◌≤◌, ◌+◌, ◌/◌, ◌%◌, ◌==◌, Bool, true, if◌then◌else◌, length, IfSome};
 ghost use Rattle.file_model.specs.Sizes.{slot_count, slot_size, all_slots_size, content_offset};
 ghost use Rattle.file_model.specs.Slots.{bytes_from, with_bytes};
 
@@ -38,6 +38,15 @@ pub trait FileBytes {
         for (i, b) in out.iter_mut().enumerate() {
             *b = self.byte(offset + i as u32);
         }
+    }
+
+    /// So many bytes from an offset on, where they are kept as a slice; none: they are copied by `read_run`. They stand in one page of 4,096 bytes.
+    fn lent_run(&self, offset: u32, count: u32) -> Option<&[u8]>
+        requires within { offset < all_slots_size }
+        requires page { offset % content_offset + count ≤ content_offset }
+        ensures { IfSome result (λ run. run.now ≡ bytes_from (bytes self.now) offset count) }
+    {
+        None
     }
 
     /// Makes the bytes from an offset on those of `run`, one or more, of a slot that is ready, or of a header that may be written. They stand in

@@ -1,4 +1,4 @@
-ghost use Rattle.std.specs.Prelude.{◌≡◌, ◌<◌, ◌≤◌, ◌+◌, true};
+ghost use Rattle.std.specs.Prelude.{◌≡◌, ◌<◌, ◌≤◌, ◌+◌, ◌%◌, true};
 ghost use Rattle.file_model.specs.Sizes.{slot_count, slot_size, all_slots_size, content_offset};
 ghost use Rattle.file_model.specs.Slots.{slot_start, bytes_from, with_bytes, with_slot};
 ghost use Rattle.file_model.specs.Reconcile as reconciling;
@@ -7,11 +7,10 @@ ghost use Rattle.file_image.specs.Lookup.{file_in, HasFile};
 use crate::editing::next_version;
 use crate::fields::{length, length_at_base};
 use crate::file_bytes::FileBytes;
-use crate::header::{CONTENT, PAGE_SIZE, SLOT_SIZE};
-use crate::reading::read_bytes;
+use crate::header::{CONTENT, PAGE_SIZE, SLOT_SIZE, rest_of_page};
 use crate::writing::{read_header, write_bytes, write_header};
 
-// Copies at most a page of bytes of a child's slots into a slot of its parent.
+// Copies bytes of one page of a child's slots into a slot of its parent, where the child keeps them as a slice or else through a buffer.
 fn copy_piece<P: FileBytes, C: FileBytes>(
     parent: &mut P,
     slot: u32,
@@ -21,20 +20,25 @@ fn copy_piece<P: FileBytes, C: FileBytes>(
     count: u32,
 )
     requires slot { slot < slot_count }
-    requires short { count ≤ content_offset }
+    requires page { from % content_offset + count ≤ content_offset }
     requires within { offset + count ≤ slot_size }
-    requires from { from + count ≤ all_slots_size }
+    requires from { from < all_slots_size }
     requires ready { P.is_ready parent.old slot ≡ true }
     ensures bytes { P.bytes parent.new ≡ with_bytes (P.bytes parent.old) (slot_start slot + offset) (bytes_from (C.bytes child.now) from count) }
     ensures kept { P.keeps parent.old parent.new }
 {
-    let mut buffer = [0; PAGE_SIZE as usize];
-    let piece = &mut buffer[..count as usize];
-    read_bytes(child, from, piece);
-    write_bytes(parent, slot, offset, piece);
+    match child.lent_run(from, count) {
+        Some(run) => write_bytes(parent, slot, offset, run),
+        None => {
+            let mut buffer = [0; PAGE_SIZE as usize];
+            let piece = &mut buffer[..count as usize];
+            child.read_run(from, piece);
+            write_bytes(parent, slot, offset, piece);
+        }
+    }
 }
 
-// Copies bytes of a child's slots into a slot of its parent.
+// Copies bytes of a child's slots into a slot of its parent, page by page of the child.
 fn copy_bytes<P: FileBytes, C: FileBytes>(
     parent: &mut P,
     slot: u32,
@@ -53,8 +57,9 @@ fn copy_bytes<P: FileBytes, C: FileBytes>(
 {
     let mut done = 0;
     while done < count {
-        let piece = (count - done).min(PAGE_SIZE);
-        copy_piece(parent, slot, offset + done, child, from + done, piece);
+        let at = from + done;
+        let piece = (rest_of_page(at) as u32).min(count - done);
+        copy_piece(parent, slot, offset + done, child, at, piece);
         done += piece;
     }
 }

@@ -1,6 +1,6 @@
 -- Bytes of slots that are read or written at once.
-use Rattle.std.proofs.Common.{◌≡◌, ℕ, zero, suc, ◌+◌, ◌-◌, ◌*◌, ◌/◌, ◌%◌, ◌<◌, ◌≤◌, inl, inr, Bool, List, [], ◌∷◌, length, replicate, refl, sym, ◌∙◌, ap, arith}
-use Rattle.std.specs.Prelude.{slice_index}
+use Rattle.std.proofs.Common.{◌≡◌, ℕ, zero, suc, ◌+◌, ◌-◌, ◌*◌, ◌/◌, ◌%◌, ◌<◌, ◌≤◌, inl, inr, Bool, List, [], ◌∷◌, length, replicate, refl, sym, ◌∙◌, ap, arith, Option, Some, None, Bor}
+use Rattle.std.specs.Prelude.{slice_index, IfSome}
 use Rattle.std.proofs.lemmas.Bool.{cases_lt}
 use Rattle.std.proofs.lemmas.List.{get_or-replicate, length-replicate}
 use Rattle.memory_model.specs.Sparse.{value_at}
@@ -31,6 +31,11 @@ row_of_slots m offset zero = refl
 row_of_slots m offset (suc n) =
     let e : first_address + offset + 1 ≡ first_address + (offset + 1) = omega arith in
     ap (λ xs. byte_at m (first_address + offset) ∷ xs) (ap (λ a. bytes_from m a n) e ∙ row_of_slots m (offset + 1) n)
+
+-- the same of a slice, where there is one
+pub lent_of_slots : (r : Option (Bor (List ℕ))) (m : Memory) (offset n : ℕ) → IfSome r (λ run. run.now ≡ bytes_from m (first_address + offset) n) → IfSome r (λ run. run.now ≡ slots.bytes_from (file_bytes m) offset n)
+lent_of_slots None m offset n is = tt
+lent_of_slots (Some run) m offset n is = is ∙ row_of_slots m offset n
 
 -- ---- writing
 

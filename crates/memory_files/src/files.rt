@@ -3,7 +3,7 @@ ghost use Rattle.space_model.specs.Files.{file_bytes};
 ghost use Rattle.memory_files.specs.Files.{held_in, is_taken, has_taken_header, KeepsFiles};
 
 use crate::lent::Lent;
-use crate::runs::read_run;
+use crate::runs::{lent_run, read_run};
 use crate::slots::{FIRST_ADDRESS, Slots};
 use file_image::FileBytes;
 use space_mem::Mem;
@@ -53,6 +53,13 @@ impl FileBytes for Files<'_> {
         match self {
             Files::Lent(lent) => read_run(lent.memory, offset, out),
             Files::Taken(slots) => slots.read_run(offset, out),
+        }
+    }
+
+    fn lent_run(&self, offset: u32, count: u32) -> Option<&[u8]> {
+        match self {
+            Files::Lent(lent) => lent_run(lent.memory, offset, count),
+            Files::Taken(slots) => slots.lent_run(offset, count),
         }
     }
 

@@ -7,8 +7,10 @@ ghost use Rattle.page_store.specs.declared.PageRef.TheVariants.{Shared, Own};
 ghost use Rattle.memory_model.specs.Memory.{number_from, width_bytes};
 ghost use Rattle.memory_model.specs.Sizes.{page_size};
 
+mod counting;
 mod rights;
 
+pub use counting::{count_after, count_of};
 use memory_model::{PAGE_SIZE, Width};
 pub use rights::{may_execute, may_read, may_write};
 use std::alloc::{AllocError, AllocFailed, Global};

@@ -5,7 +5,8 @@ use Rattle.std.proofs.lemmas.Bool.{cases_lt}
 use Rattle.std.proofs.lemmas.List.{get_or_past, get_or_default, length-set}
 use Rattle.std.proofs.lemmas.List.Sums.{sum_by-cons, sum_by-set, get_or-le-sum_by}
 use Rattle.page_store.specs.declared.PageRef.{PageRef}
-use Rattle.page_tree.specs.Kept.{slot_in, kept_in, count_kept, IsCounted}
+use Rattle.page_store.specs.Kept.{kept_in}
+use Rattle.page_tree.specs.Kept.{slot_in, count_kept, IsCounted}
 
 pub kept_most : (o : Option PageRef) → kept_in o ≤ 1
 kept_most None = omega arith
@@ -33,10 +34,10 @@ pub count_set : (slots : List (Option PageRef)) (j : ℕ) (kept : Option PageRef
 count_set slots j kept below = sum_by-set kept_in slots j kept None below
 
 -- one slot is set
-pub counted_set : (slots : List (Option PageRef)) (j : ℕ) (x : Option PageRef) (count more less : ℕ) → IsCounted count slots → j < 64 → more ≡ kept_in x → less ≡ kept_in (slot_in slots j) → IsCounted (count + more - less) (slice_set slots j x)
-counted_set slots j x count more less counted below is was = record {
+pub counted_set : (slots : List (Option PageRef)) (j : ℕ) (x : Option PageRef) (count after : ℕ) → IsCounted count slots → j < 64 → after + kept_in (slot_in slots j) ≡ count + kept_in x → IsCounted after (slice_set slots j x)
+counted_set slots j x count after counted below is = record {
   sized = length-set slots j x ∙ counted.sized;
-  counted = let all = count_set slots j x (omega (arith, counted.sized, below)) in omega (arith, all, counted.counted, is, was);
+  counted = let all = count_set slots j x (omega (arith, counted.sized, below)) in omega (arith, all, counted.counted, is);
 }
 
 -- and keeps a page where it kept one

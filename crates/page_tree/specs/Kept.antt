@@ -1,17 +1,13 @@
 -- What is kept of pages in a row, and of how many anything is kept.
 -- Our choice: a restatement for proofs.
-use Rattle.std.specs.Prelude.{◌≡◌, ℕ, List, length, Option, Some, None, slice_index_or}
+use Rattle.std.specs.Prelude.{◌≡◌, ℕ, List, length, Option, None, slice_index_or}
 use Rattle.std.specs.List.{sum_by}
 use Rattle.page_store.specs.declared.PageRef.{PageRef}
+use Rattle.page_store.specs.Kept.{kept_in}
 
 -- what is kept of a page
 abbrev pub slot_in : List (Option PageRef) → ℕ → Option PageRef
 slot_in slots j = slice_index_or slots j None
-
--- 1 where a page is kept
-abbrev pub kept_in : Option PageRef → ℕ
-kept_in None = 0
-kept_in (Some page) = 1
 
 -- how many pages are kept
 abbrev pub count_kept : List (Option PageRef) → ℕ

@@ -3,11 +3,12 @@ ghost use Rattle.memory_model.specs.Memory.{width_bytes};
 ghost use Rattle.memory_model.specs.Sizes.{page_size};
 ghost use Rattle.page_store.specs.Bytes.{bytes_of, is_own, IsPage, with_number_in};
 ghost use Rattle.page_tree.specs.Blocks.{block_pages, byte_in, bytes_in, is_own_in, IsWhole};
-ghost use Rattle.page_tree.specs.Kept.{kept_in, slot_in};
+ghost use Rattle.page_store.specs.Kept.{kept_in};
+ghost use Rattle.page_tree.specs.Kept.{slot_in};
 
 use crate::block::BLOCK_PAGES;
 use memory_model::Width;
-use page_store::PageRef;
+use page_store::{PageRef, count_after, count_of};
 use std::alloc::{AllocError, AllocFailed, Global};
 use std::array::from_fn;
 use std::marker::Model;
@@ -76,10 +77,8 @@ impl Slots {
         ensures other { (i : ℕ) → (i ≡ j → ⊥) → slot_in self.new i ≡ slot_in self.old i }
         ensures slots { (i : ℕ) → slot_in self.new i ≡ cond (i == j) kept (slot_in self.old i) }
     {
-        let more = count_of(&kept);
-        let was = mem::replace(&mut self.slots[j], kept);
-        self.count = self.count + more - count_of(&was);
-        was
+        self.count = count_after(self.count, &self.slots[j], &kept);
+        mem::replace(&mut self.slots[j], kept)
     }
 
     /// Gives a page bytes of its holder's own. It takes no memory where it has such. The one error is want of memory: nothing has
@@ -127,16 +126,6 @@ impl Slots {
         ensures whole { IsWhole (slot_in self.old j) → IsWhole (slot_in self.new j) }
     {
         write_slot(&mut self.slots[j], at, width, value)
-    }
-}
-
-// 1 where a slot keeps a page.
-fn count_of(slot: &Option<PageRef>) -> usize
-    ensures { result ≡ kept_in slot.now }
-{
-    match slot {
-        Some(_) => 1,
-        None => 0,
     }
 }
 

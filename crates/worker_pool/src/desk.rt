@@ -149,11 +149,16 @@ impl<S: Shop, L: Ledger, M: Ledger> Desk<S, L, M> {
     /// Whether a worker is to sleep though there may be jobs: where the last ones were short, workers that come one after another to the lock for such do no
     /// more than one. Another is awake then, which comes back to the lock at once, or rings when it finds that its job lasts.
     pub(crate) fn is_crowded(&self) -> bool {
-        let others = self
+        self.short >= FEW_SHORT && self.is_beside_another()
+    }
+
+    /// Whether another worker is awake, and has no job that lasts: it comes back to the lock, or rings when it finds that its job lasts.
+    pub(crate) fn is_beside_another(&self) -> bool {
+        let awake = self
             .here
             .saturating_sub(self.asleep)
             .saturating_sub(self.lasting);
-        self.short >= FEW_SHORT && !self.failed && others > 1
+        !self.failed && awake > 1
     }
 
     /// Whom a worker with a job rings for: for one other where there may be more, and where nobody is on the way already.

@@ -1,12 +1,13 @@
 // What one worker does, from its first turn to its last.
 //
-// No worker sleeps for ever beside a job. A worker sleeps in `wait_for_turn`, where its own turn under the same lock was `Rest`, and in `hand_in` beside another
-// that is awake. Whoever changes the shop is awake and has the lock, and does not leave it to sleep before it has looked again, unless another is awake:
+// No worker sleeps for ever beside a job. A worker sleeps in `wait_for_turn`, where its own turn under the same lock was `Rest`, and in `hand_in` and `take_again`
+// beside another that is awake. Whoever changes the shop is awake and has the lock, and does not leave it to sleep before it has looked again, unless another is awake:
 // - A turn that is a job: the worker comes back with the result. If there may be more, it rings for one that sleeps: once it has left the lock, or, where
 //   the last jobs were short (`is_eager`), once it knows that this one lasts; if it does not, the worker is back soon, and looks again. The one that was rung for
 //   looks, and does the same in its turn, so one after another is woken for as long as there may be more. Nobody is rung for while one that
 //   was rung for is on its way to the lock (`rung`): that one looks at whatever there is by then. Whoever wakes takes the note away, rung for or not.
-// - A turn that met: the worker comes back at once.
+// - A turn that met: the worker comes back at once, and sleeps only beside another that is awake and has no job that lasts (`is_beside_another`): that one comes
+//   to the lock, too, or rings when it finds that its job lasts. So turns that meet, one after another, are one worker's, and no lock goes from hand to hand for each.
 // - A result that was handed in: the same worker takes its next turn under the same lock. Where the last jobs were short it sleeps first, but only beside
 //   another that is awake and has no job that lasts (`is_crowded`): that one comes back to the lock, or rings when it finds that its job lasts.
 // - A turn that is `Rest` changes nothing, so whatever it found wanting is wanting still; the shop answers it only while a job is out, and whoever
@@ -87,7 +88,7 @@ pub(crate) fn serve<S: Shop, L: Ledger, M: Ledger, G: Gate, R: Wait>(
             }
             Turn::Met => {
                 gate.pass(number, GateEvent::Met);
-                take(rt, desk, bell, number, &mut out)?
+                take_again(rt, desk, bell, number, &mut out)?
             }
             Turn::Rest => {
                 gate.pass(number, GateEvent::Resting);
@@ -125,6 +126,32 @@ fn take<S: Shop, L: Ledger, M: Ledger, R: Wait>(
     ensures amount { IfOk result (λ t. out.new.amount ≡ cond (is_job t) (out.old.amount + 1) out.old.amount) }
 {
     let mut guard = desk.lock(rt);
+    let turn = guard.turn(number, out);
+    let ring = guard.ring_after(&turn);
+    drop(guard);
+    ring.sound(bell);
+    turn
+}
+
+// The turn after one that met: beside another worker that is about to take its turn, this one sleeps first.
+fn take_again<S: Shop, L: Ledger, M: Ledger, R: Wait>(
+    rt: &R,
+    desk: &Mutex<Desk<S, L, M>>,
+    bell: &Condvar,
+    number: usize,
+    out: &mut Share<L>,
+) -> Result<Turn<S::Job>, AllocError>
+    requires { 0 < out.old.parts }
+    ensures parts { out.new.parts ≡ out.old.parts }
+    ensures amount { IfOk result (λ t. out.new.amount ≡ cond (is_job t) (out.old.amount + 1) out.old.amount) }
+{
+    let mut guard = desk.lock(rt);
+    if guard.is_beside_another() {
+        guard.asleep = guard.asleep.saturating_add(1);
+        guard = bell.wait(rt, guard);
+        guard.asleep = guard.asleep.saturating_sub(1);
+        guard.rung = false;
+    }
     let turn = guard.turn(number, out);
     let ring = guard.ring_after(&turn);
     drop(guard);
