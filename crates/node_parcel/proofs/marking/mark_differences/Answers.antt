@@ -21,13 +21,13 @@ loop-page-preserved c =
     let so_far = c.loop-page.invariant in
     elim c.if-differ.branch [
       | then-differ+in_ok-mark w ↦ rw w.memory-is (record {
-        within = omega (arith, next.below, c.same_end-end.ensures.below, c.max.ensures);
+        within = omega (arith, next.below, c.same_end-end.ensures.below, c.max-from.ensures);
         same = ap (λ (h : Held). h.memory) w.in_ok-mark.ensures.ok ∙ so_far.same;
-        marked = subst (λ (n : ℕ). IsMarked w.mark.new.self c.args.snapshot.now.memory n) (one_behind c.in-Some.page c.same_end-end.result _ (c.differ.ensures.here w.if-differ.true) c.max.ensures) (marks_one c.loop-page.memory w.mark.new.self c.args.snapshot.now.memory c.loop-page.from c.in-Some.page next.above next.zero.0 next.zero.1 (c.differ.ensures.differs w.if-differ.true) w.in_ok-mark.ensures.ok so_far.marked);
+        marked = subst (λ (n : ℕ). IsMarked w.mark.new.self c.args.snapshot.now.memory n) (one_behind c.in-Some.page c.same_end-end.result _ (c.differ.ensures.here w.if-differ.true) c.max-from.ensures) (marks_one c.loop-page.memory w.mark.new.self c.args.snapshot.now.memory c.loop-page.from c.in-Some.page next.above next.zero.0 next.zero.1 (c.differ.ensures.differs w.if-differ.true) w.in_ok-mark.ensures.ok so_far.marked);
       })
       | else-differ w ↦ rw w.memory-is (record {
-        within = omega (arith, next.below, c.same_end-end.ensures.below, c.max.ensures);
+        within = omega (arith, next.below, c.same_end-end.ensures.below, c.max-from.ensures);
         same = so_far.same;
-        marked = passes_same c.loop-page.memory c.args.snapshot.now.memory c.loop-page.from c.in-Some.page _ next.above (omega (arith, c.max.ensures)) next.zero.0 next.zero.1 (all_same c.loop-page.memory.memory c.args.snapshot.now.memory c.in-Some.page c.same_end-end.result _ (known_same c.loop-page.memory.memory _ c.args.snapshot.now.memory c.args.ours.now c.args.theirs.now c.in-Some.page c.same_end-end.result c.requires so_far.same c.same_end-end.ensures.same) (c.differ.ensures.same w.if-differ.false) c.max.ensures) so_far.marked;
+        marked = passes_same c.loop-page.memory c.args.snapshot.now.memory c.loop-page.from c.in-Some.page _ next.above (omega (arith, c.max-from.ensures)) next.zero.0 next.zero.1 (all_same c.loop-page.memory.memory c.args.snapshot.now.memory c.in-Some.page c.same_end-end.result _ (known_same c.loop-page.memory.memory _ c.args.snapshot.now.memory c.args.ours.now c.args.theirs.now c.in-Some.page c.same_end-end.result c.requires so_far.same c.same_end-end.ensures.same) (c.differ.ensures.same w.if-differ.false) c.max-from.ensures) so_far.marked;
       })
     ]
