@@ -15,7 +15,7 @@ use Rattle.node_parcel.specs.declared.runs.Placing.{Placing}
 use Rattle.node_parcel.specs.declared.runs.Run.{Run}
 use Rattle.node_parcel.specs.declared.spans.Span.{Span}
 use Rattle.node_parcel.specs.AtOnce.{number_after, content_by, with_run}
-use Rattle.node_parcel.specs.OneNumber.{HasPage, HaveOneNumber, ShareNumber, HasSpan, EndsBy, ArePut, AreAlike, AreAlikeIn, AreSpansIn}
+use Rattle.node_parcel.specs.OneNumber.{HasPage, HaveOneNumber, HasSpan, EndsBy, ArePut, AreAlike, AreAlikeIn, AreSpansIn}
 use Rattle.node_parcel.proofs.AtOnce.{byte_none, byte_before}
 
 -- ---- one number

@@ -26,7 +26,6 @@ fn next_kept(memory: &Mem, snapshot: &Mem, from: u32) -> Option<u32>
 }
 
 // Whether two memories have the same bytes in a page.
-
 fn has_same_bytes(memory: &Mem, snapshot: &Mem, page: u32) -> bool
     ensures { IsTrue result ↔ SamePage memory.now.memory snapshot.now.memory page }
 {

@@ -1,4 +1,4 @@
-use Rattle.std.proofs.Common.{◌++◌, ◌+◌, ◌∙◌, ap, refl, arith, List, ℕ}
+use Rattle.std.proofs.Common.{◌++◌, ◌∙◌, ap, refl, List, ℕ}
 use Rattle.parcel_model.specs.Parcel.{entry_spelling}
 use Rattle.parcel_model.specs.Sent.{page_of_entry}
 use Rattle.node_parcel.proofs.InRows.{row_written}

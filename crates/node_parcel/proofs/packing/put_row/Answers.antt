@@ -1,4 +1,3 @@
-use Rattle.std.proofs.Common.{arith}
 use Rattle.parcel_model.specs.Parcel.{entry_spelling}
 use Rattle.parcel_model.specs.Sent.{page_of_entry}
 use Rattle.node_parcel.proofs.InRows.{bare_written, bare_not_sent, one_written}
