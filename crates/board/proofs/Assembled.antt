@@ -76,15 +76,15 @@ pub together_legal : (boot tree t : Space) (start ps qs : Places) (es fs : List 
 together_legal boot tree t start ps qs es fs path k node legal met = subst (λ xs. Leads boot start xs t qs) (sym met.items) (leads-append es (met.moves ++ Met path ∷ []) boot tree t start ps qs legal met.led)
 
 -- and that is what contracts say of a meeting
-pub together_shown : (boot tree t : Space) (ps qs : Places) (es fs : List Entry) (out : Slots) (ticket owed : ℕ) (path : ArrayVec ℕ) (k : Call) (node : ℕ) → call_at path.items 8 tree ≡ Some k → HasMetBy path k node tree ps es t qs fs
-    → HasMet (shown_of boot tree ps es out ticket owed) path (shown_of boot t qs fs out ticket owed)
-together_shown boot tree t ps qs es fs out ticket owed path k node may met = record {
+pub together_shown : (boot tree t : Space) (ps qs : Places) (es fs : List Entry) (out : Slots) (ticket taken owed : ℕ) (path : ArrayVec ℕ) (k : Call) (node : ℕ) → call_at path.items 8 tree ≡ Some k → HasMetBy path k node tree ps es t qs fs
+    → HasMet (shown_of boot tree ps es out ticket taken owed) path (shown_of boot t qs fs out ticket taken owed)
+together_shown boot tree t ps qs es fs out ticket taken owed path k node may met = record {
   call = k;
   may = may;
   moves = met.moves;
   are = met.are;
   led = met.led;
-  others = ap (λ s. shown_of boot s qs fs out ticket owed) met.now ∙ ap (λ xs. shown_of boot (step path.items 8 tree) qs xs out ticket owed) met.items;
+  others = ap (λ s. shown_of boot s qs fs out ticket taken owed) met.now ∙ ap (λ xs. shown_of boot (step path.items 8 tree) qs xs out ticket taken owed) met.items;
 }
 
 -- a space that has gone nowhere yet: what is listed has more, and nothing else has changed

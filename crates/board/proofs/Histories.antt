@@ -87,8 +87,8 @@ pub met_now : (tree later : Space) (path : ArrayVec ℕ) (k : Call) → call_at 
 met_now tree later path k may met = met ∙ ap (λ o. where_some o (step path.items 8 tree) tree) may
 
 -- what contracts see of a board's fields
-abbrev pub shown_of : Space → Space → Places → List Entry → Slots → ℕ → ℕ → Shown
-shown_of boot tree places es out ticket owed = record { boot = boot; tree = tree; places = places; history = es; out = out; next_ticket = ticket; owed = owed }
+abbrev pub shown_of : Space → Space → Places → List Entry → Slots → ℕ → ℕ → ℕ → Shown
+shown_of boot tree places es out ticket taken owed = record { boot = boot; tree = tree; places = places; history = es; out = out; next_ticket = ticket; taken = taken; owed = owed }
 
 -- a space stands where a top is, and where a local event is next
 pub top_stands : (p : List ℕ) (tree : Space) (t : Top) → top_at p tree ≡ Some t → (c : Space) × (at p tree ≡ Some c)

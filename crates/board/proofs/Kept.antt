@@ -195,6 +195,35 @@ taken_listed tree run calls news old new slot o t listed was sets = record {
         go (inl way) = inr (q, last_news news q, way)
         go (inr away) = calls_still p (listed.meeting p k (sym (same_call p 8 tree after (others_stay p q t tree away)) ∙ may))
 
+-- a space that is not out has gone on where it stands: another top stands at its path
+pub gone_on_listed : (tree : Space) (run : Runs) (calls news : Paths) (out : Slots) (q : List ℕ) (t : Top) → IsListed tree run calls news out → (IsOut out q → ⊥) → IsListed (with_top q t tree) run calls (news ++ q ∷ []) out
+gone_on_listed tree run calls news out q t listed inside = record {
+  running = λ p goes. runs p goes (path_cases p q);
+  meeting = λ p k may. meets p k may (way_cases p q);
+  goes = λ p is. local_by_top p 8 tree after (top_other p q t tree (λ e. inside (subst (IsOut out) e is))) ∙ listed.goes p is;
+  apart = listed.apart;
+}
+  where
+    after : Space
+    after = with_top q t tree
+
+    more : (p : List ℕ) → HasRun run p ⊎ (Has news p ⊎ IsOut out p) → HasRun run p ⊎ (Has (news ++ q ∷ []) p ⊎ IsOut out p)
+    more p (inl has) = inl has
+    more p (inr (inl has)) = inr (inl (more_news news q p has))
+    more p (inr (inr is)) = inr (inr is)
+
+    runs : (p : List ℕ) → is_local_at p 8 after ≡ true → (p ≡ q) ⊎ (p ≡ q → ⊥) → HasRun run p ⊎ (Has (news ++ q ∷ []) p ⊎ IsOut out p)
+    runs p goes (inl e) = inr (inl (subst (Has (news ++ q ∷ [])) (sym e) (last_news news q)))
+    runs p goes (inr other) = more p (listed.running p (sym (local_by_top p 8 tree after (top_other p q t tree other)) ∙ goes))
+
+    calls_still : (p : List ℕ) → Has calls p ⊎ IsOnNews news p → Has calls p ⊎ IsOnNews (news ++ q ∷ []) p
+    calls_still p (inl has) = inl has
+    calls_still p (inr on) = inr (still_news news q p on)
+
+    meets : (p : List ℕ) (k : Call) → call_at p 8 after ≡ Some k → IsOnWay p q ⊎ (IsOnWay p q → ⊥) → Has calls p ⊎ IsOnNews (news ++ q ∷ []) p
+    meets p k may (inl way) = inr (q, last_news news q, way)
+    meets p k may (inr away) = calls_still p (listed.meeting p k (sym (same_call p 8 tree after (others_stay p q t tree away)) ∙ may))
+
 -- a result is not taken, and its job is out no longer
 pub stale_listed : (tree : Space) (run : Runs) (calls news : Paths) (old new : Slots) (slot : ℕ) (o : Out) → IsListed tree run calls news old → out_at old slot ≡ Some o → Sets slot None old new
     → IsListed tree run calls (news ++ o.path.items ∷ []) new

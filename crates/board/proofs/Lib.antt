@@ -8,6 +8,7 @@ pub mod Places
 pub mod Names
 pub mod Outs
 pub mod Histories
+pub mod Going
 pub mod Beginnings
 pub mod Stale
 pub mod Settling

@@ -17,7 +17,9 @@ use Rattle.board.specs.Jobs.{out_at, Sets}
 use Rattle.board.specs.Listed.{OutsRun, OutsApart}
 use Rattle.board.specs.Names.{Starts, named_at, StartsStand, IsKeptAt}
 use Rattle.board.specs.Steps.{IsPutOut, HasMet, IsTaken, IsDropped, Commits, its_top}
-use Rattle.board.specs.Turns.{handed_in, HandsIn, HandsOut}
+use Rattle.board.specs.GoingOn.{HasGoneOn}
+use Rattle.worker_pool.specs.declared.shop.Turn.TheVariants.{Job as Hands, Met}
+use Rattle.board.specs.Turns.{handed_in, HandsIn, HandsOut, GoesOnNode, IsTurn}
 use Rattle.board.specs.Value.{Shown}
 use Rattle.board.proofs.Kept.{not_both}
 
@@ -33,6 +35,19 @@ met_stands starts old new path sound runs met stands slot v o named is =
     let apart : o.path.items ≢ path.items = λ e. not_both path.items 8 old.tree k (ap (λ p. is_local_at p 8 old.tree) (sym e) ∙ goes) met.may in
     let stays = going_on_stays o.path.items path.items 8 true sound.0 old.tree k sound.1.2 apart (local_enabled o.path.items 8 old.tree goes) met.may in
     ap (λ (b : Shown). top_at o.path.items b.tree) met.others ∙ (stays ∙ stands slot v o named before)
+
+-- a space that is not out goes on where it stands: each that is out goes on as it was
+pub gone_stands : (starts : Starts) (old new : Shown) (path : ArrayVec ℕ) (events : ℕ) → HasGoneOn old path events new → StartsStand starts old → StartsStand starts new
+gone_stands starts old new path events gone stands slot v o named is =
+    let before : out_at old.out slot ≡ Some o = ap (λ (b : Shown). out_at b.out slot) (sym gone.others) ∙ is in
+    let away : o.path.items ≢ path.items = λ e. (let may = gone.may in may.inside) (slot, (o, before, e)) in
+    let runs = gone.runs in
+    ap (top_at o.path.items) runs.now ∙ (top_other o.path.items path.items runs.top old.tree away ∙ stands slot v o named before)
+
+-- what stood after a turn that met stands still
+pub met_turn_stands : (worker : ℕ) (starts : Starts) (old new : Shown) → IsSound old.tree → OutsRun old.tree old.out → IsTurn worker old Met new → StartsStand starts old → StartsStand starts new
+met_turn_stands worker starts old new sound runs (inl met) = met_stands starts old new met.0 sound runs (let is = met.1.is in is)
+met_turn_stands worker starts old new sound runs (inr goes) = let went = goes.1.goes in gone_stands starts old new went.0 went.1.events went.1.gone
 
 -- a job is put out: its name stands for its state
 pub put_stands : (starts starts' : Starts) (old new : Shown) (job : Job) (name : Option (Option Top)) → ((v : Option Top) → name ≡ Some v → v ≡ Some job.top.value) → IsKeptAt job.slot name starts starts' → IsPutOut old job new
@@ -52,11 +67,13 @@ put_stands starts starts' old new job name is_top kept put stands slot v o named
     go (inr ne) = tree ∙ stands slot v o (sym (kept.others slot ne) ∙ named) (sym (put.out.others slot ne) ∙ is)
 
 pub handed_out_stands : (node : ℕ) (starts starts' : Starts) (old new : Shown) (job : Job) (name : Option (Option Top)) → ((v : Option Top) → name ≡ Some v → v ≡ Some job.top.value) → IsKeptAt job.slot name starts starts'
-    → HandsOut node old job new → StartsStand starts old → StartsStand starts' new
-handed_out_stands node starts starts' old new job name is_top kept hands stands =
-    let taken = hands.0 in
-    let there = put_stands starts starts' old taken job name is_top kept hands.1.is stands in
-    subst (StartsStand starts') (sym hands.2) there
+    → GoesOnNode node old (Hands job) new → StartsStand starts old → StartsStand starts' new
+handed_out_stands node starts starts' old new job name is_top kept went stands =
+    let gone = went.0 in
+    let hands = went.1.1 in
+    let first = gone_stands starts old gone job.path went.1.0.events went.1.0.gone stands in
+    let there = put_stands starts starts' gone hands.put job name is_top kept hands.is first in
+    subst (StartsStand starts') (sym hands.owed) there
 
 -- a slot is emptied, and nothing stands elsewhere
 freed_stands : (starts : Starts) (old new : Shown) (slot : ℕ) → Sets slot None old.out new.out → ((other : ℕ) (o : Out) → (other ≡ slot → ⊥) → out_at old.out other ≡ Some o → top_at o.path.items new.tree ≡ top_at o.path.items old.tree)

@@ -4,9 +4,10 @@ use Rattle.std.specs.Prelude.{if◌then◌else◌}
 use Rattle.std.proofs.lemmas.Bool.{cases_eq}
 use Rattle.std.proofs.lemmas.Bool.Decides.{nat_tests}
 use Rattle.node_places.specs.Places.{place_of}
+use Rattle.worker_pool.specs.declared.shop.Turn.{Turn}
 use Rattle.board.specs.declared.job.Job.{Job}
 use Rattle.board.specs.Jobs.{MayBeTaken, MayBeTakenOn}
-use Rattle.board.specs.Turns.{HandsOutAmong, HandsOutFrom, NoneAmong, NoneBefore, distance}
+use Rattle.board.specs.Turns.{GoesOnAmong, GoesOnFrom, NoneAmong, NoneBefore, distance}
 use Rattle.board.specs.Value.{Shown}
 
 pub none_yet : (b : Shown) (from : ℕ) → NoneAmong b from from
@@ -29,8 +30,8 @@ ring_cases nodes first n = go (nat_lt n first) refl
     go false is = let more : first ≤ n = grind (arith, nat_tests) in inr (more, ap (λ b. if b then n + (nodes - first) else n - first) is)
 
 -- one of the nodes from the first on
-pub from_first : (first : ℕ) (old new : Shown) (job : Job) → HandsOutAmong first old.places.nodes old job new → HandsOutFrom first old job new
-from_first first old new job among = record { node = node; there = among.within.1; none = none; hands = among.hands }
+pub from_first : (first : ℕ) (old new : Shown) (t : Turn Job) → GoesOnAmong first old.places.nodes old t new → GoesOnFrom first old t new
+from_first first old new t among = record { node = node; there = among.within.1; none = none; goes = among.goes }
   where
     node : ℕ
     node = among.node
@@ -54,11 +55,11 @@ from_first first old new job among = record { node = node; there = among.within.
         go (inr more) (inr there) = let a = there.0 in let b = there.1 in let d = more.1 in among.none p a (omega (arith, near, a, b, d, low, high)) may
 
 -- or one of those before it, where none of the others has any
-pub behind_first : (first : ℕ) (old mid new : Shown) (job : Job) → first < old.places.nodes → ((p : List ℕ) → place_of old.places p < old.places.nodes) → mid ≡ old → NoneAmong old first old.places.nodes → HandsOutAmong 0 first mid job new → HandsOutFrom first old job new
-behind_first first old mid new job within are same others among = ring (subst (λ b. HandsOutAmong 0 first b job new) same among)
+pub behind_first : (first : ℕ) (old mid new : Shown) (t : Turn Job) → first < old.places.nodes → ((p : List ℕ) → place_of old.places p < old.places.nodes) → mid ≡ old → NoneAmong old first old.places.nodes → GoesOnAmong 0 first mid t new → GoesOnFrom first old t new
+behind_first first old mid new t within are same others among = ring (subst (λ b. GoesOnAmong 0 first b t new) same among)
   where
-    ring : HandsOutAmong 0 first old job new → HandsOutFrom first old job new
-    ring among = record { node = node; there = omega (arith, within, high); none = none; hands = among.hands }
+    ring : GoesOnAmong 0 first old t new → GoesOnFrom first old t new
+    ring among = record { node = node; there = omega (arith, within, high); none = none; goes = among.goes }
       where
         node : ℕ
         node = among.node

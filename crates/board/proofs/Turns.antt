@@ -1,13 +1,11 @@
 -- What turns and results do to what a shop counts, and to the one job that is out.
-use Rattle.std.proofs.Common.{◌≡◌, ℕ, ◌+◌, ◌≤◌, Bool, true, cond, true≢false, List, [], ◌∷◌, ◌++◌, length, Option, Some, None, ◌⊎◌, inl, inr, refl, sym, ap, ◌∙◌, subst, arith}
+use Rattle.std.proofs.Common.{◌≡◌, ℕ, ◌+◌, ◌≤◌, ◌%◌, Bool, true, cond, true≢false, List, [], ◌∷◌, ◌++◌, length, Option, Some, None, ◌⊎◌, inl, inr, refl, sym, ap, ◌∙◌, subst, arith}
 use Rattle.std.proofs.lemmas.Bool.{cases_eq}
 use Rattle.std.specs.Prelude.{Result, Ok, Err, IfOk, OnErr}
 use Rattle.std.specs.declared.alloc.AllocError.{AllocError}
 use Rattle.arrayvec.specs.ArrayVec.{ArrayVec}
 use Rattle.call_model.specs.declared.Call.{Call}
 use Rattle.run_model.specs.Schedule.{call_at}
-use Rattle.det_core.specs.declared.entry.Entry.{Entry}
-use Rattle.det_core.specs.declared.entry.Entry.TheVariants.{Ran, Moved, Met as MetEntry}
 use Rattle.worker_pool.specs.Turns.{is_idle}
 use Rattle.worker_pool.specs.declared.shop.Turn.{Turn}
 use Rattle.worker_pool.specs.declared.shop.Turn.TheVariants.{Job as Hands, Met, Rest, Over}
@@ -18,71 +16,34 @@ use Rattle.board.specs.declared.result.Commit.{Commit}
 use Rattle.board.specs.declared.result.Commit.TheVariants.{Taken, Stale}
 use Rattle.board.specs.Jobs.{Slots, out_at, IsNoneOut, MayBeTaken, Sets}
 use Rattle.board.specs.Value.{Shown}
-use Rattle.node_places.specs.Places.{Places}
-use Rattle.space_model.specs.declared.Await.{Await}
-use Rattle.space_model.specs.Meeting.{awaits}
-use Rattle.std.specs.List.{All}
-use Rattle.std.proofs.lemmas.List.Elements.{All-head, All-tail}
-use Rattle.board.specs.Steps.{Meets, IsTaken, IsStale, IsDropped, Commits, IsCallersMove, ComesHome, AreMoves}
-use Rattle.board.specs.Turns.{results_in, accepted, is_taken, IsFinished, IsIdle, IsTurn, IsOnlyOut, HandsOut, handed_in, HandsIn, bare}
+use Rattle.board.specs.Steps.{Meets, IsTaken, IsStale, IsDropped, Commits}
+use Rattle.board.specs.GoingOn.{HasGoneOn}
+use Rattle.board.specs.Turns.{accepted, is_taken, IsFinished, IsIdle, NoneMayMeet, IsTurn, IsOnlyOut, HandsOut, GoesOnNode, GoesOnFrom, handed_in, HandsIn, bare}
 use Rattle.board.proofs.Settling.{settled_meets_none, settled_takes_none}
 
--- a run is one more result
-pub results_after_run : (es : List Entry) (path : ArrayVec ℕ) (events : ℕ) → results_in (es ++ Ran path events ∷ []) ≡ results_in es + 1
-results_after_run [] path events = refl
-results_after_run (Ran p n ∷ es) path events = ap (λ k. k + 1) (results_after_run es path events)
-results_after_run (Moved p node ∷ es) path events = results_after_run es path events
-results_after_run (MetEntry p ∷ es) path events = results_after_run es path events
+-- a space that goes on where it stands leaves what is out as it was
+pub gone_leaves : (old new : Shown) (path : ArrayVec ℕ) (events : ℕ) → HasGoneOn old path events new → (new.out ≡ old.out) × (new.boot ≡ old.boot)
+gone_leaves old new path events gone = (ap (λ (b : Shown). b.out) gone.others, ap (λ (b : Shown). b.boot) gone.others)
 
--- of two lists, behind one another
-results_both : (es fs : List Entry) → results_in (es ++ fs) ≡ results_in es + results_in fs
-results_both [] fs = let none : results_in [] ≡ 0 = refl in omega (arith, none)
-results_both (Ran p n ∷ es) fs = let rest = results_both es fs in omega (arith, rest)
-results_both (Moved p node ∷ es) fs = results_both es fs
-results_both (MetEntry p ∷ es) fs = results_both es fs
-
--- moves are none
-home_none : (ps : Places) (p : List ℕ) (all : List Await) (es : List Entry) → All (ComesHome ps p all) es → results_in es ≡ 0
-home_none ps p all [] each = refl
-home_none ps p all (Ran q n ∷ es) each = absurd (All-head (ComesHome ps p all) (Ran q n) es each)
-home_none ps p all (Moved q node ∷ es) each = home_none ps p all es (All-tail (ComesHome ps p all) (Moved q node) es each)
-home_none ps p all (MetEntry q ∷ es) each = absurd (All-head (ComesHome ps p all) (MetEntry q) es each)
-
-caller_none : (ps : Places) (path : ArrayVec ℕ) (all : List Await) (es : List Entry) → IsCallersMove ps path all es → results_in es ≡ 0
-caller_none ps path [] es is = ap results_in is
-caller_none ps path (a ∷ others) es (inl stays) = ap results_in stays.1
-caller_none ps path (a ∷ others) es (inr goes) = ap results_in goes.1
-
-moves_none : (ps : Places) (path : ArrayVec ℕ) (all : List Await) (es : List Entry) → AreMoves ps path all es → results_in es ≡ 0
-moves_none ps path all es are =
-    let callers = caller_none ps path all are.callers are.caller in
-    let childrens = home_none ps path.items all are.childrens are.home in
-    let both = results_both are.callers are.childrens in
-    let is = ap results_in are.are in
-    omega (arith, callers, childrens, both, is)
-
--- and a meeting with its moves is none
-pub results_after_meeting : (es moves : List Entry) (ps : Places) (path : ArrayVec ℕ) (all : List Await) → AreMoves ps path all moves → results_in (es ++ (moves ++ MetEntry path ∷ [])) ≡ results_in es
-results_after_meeting es moves ps path all are =
-    let none = moves_none ps path all moves are in
-    let last : results_in (MetEntry path ∷ []) ≡ 0 = refl in
-    let inner = results_both moves (MetEntry path ∷ []) in
-    let outer = results_both es (moves ++ MetEntry path ∷ []) in
-    omega (arith, none, last, inner, outer)
-
-pub results_few : (es : List Entry) → results_in es ≤ length es
-results_few [] = omega arith
-results_few (Ran p n ∷ es) = let rest = results_few es in omega (arith, rest)
-results_few (Moved p node ∷ es) = let rest = results_few es in omega (arith, rest)
-results_few (MetEntry p ∷ es) = let rest = results_few es in omega (arith, rest)
+-- so does a turn that met
+pub met_leaves : (worker : ℕ) (old new : Shown) → IsTurn worker old Met new → (new.out ≡ old.out) × (new.boot ≡ old.boot)
+met_leaves worker old new (inl met) = let is = met.1.is in (ap (λ (b : Shown). b.out) is.others, ap (λ (b : Shown). b.boot) is.others)
+met_leaves worker old new (inr goes) = let went = goes.1.goes in gone_leaves old new went.0 went.1.events went.1.gone
 
 -- a job that is handed out where none was out is the only one
-pub only_out : (node : ℕ) (old new : Shown) (job : Job) → IsNoneOut old.out → HandsOut node old job new → IsOnlyOut new.out job
-only_out node old new job none hands =
-    let taken = hands.0 in
-    let sets = hands.1.is.out in
-    let same : taken.out ≡ new.out = sym (ap (λ (b : Shown). b.out) hands.2) in
-    subst (λ out. IsOnlyOut out job) same (record { there = (record { ticket = job.ticket; path = job.path }, sets.here, refl); others = λ slot other. sets.others slot other ∙ none slot })
+pub only_out : (node : ℕ) (old new : Shown) (job : Job) → IsNoneOut old.out → GoesOnNode node old (Hands job) new → IsOnlyOut new.out job × (new.boot ≡ old.boot)
+only_out node old new job none went =
+    let gone = went.0 in
+    let hands = went.1.1 in
+    let put = hands.put in
+    let left = gone_leaves old gone job.path went.1.0.events went.1.0.gone in
+    let sets = hands.is.out in
+    let same : put.out ≡ new.out = sym (ap (λ (b : Shown). b.out) hands.owed) in
+    let none_there : IsNoneOut gone.out = subst IsNoneOut (sym left.0) none in
+    let boot : new.boot ≡ old.boot = ap (λ (b : Shown). b.boot) hands.owed ∙ (ap (λ (b : Shown). b.boot) hands.is.others ∙ left.1) in (
+      subst (λ out. IsOnlyOut out job) same (record { there = (record { ticket = job.ticket; path = job.path }, sets.here, refl); others = λ slot other. sets.others slot other ∙ none_there slot }),
+      boot,
+    )
 
 -- and once its result was handed in, none is out
 none_left : (out out' : Slots) (job : Job) (slot : ℕ) → slot ≡ job.slot → IsOnlyOut out job → Sets slot None out out' → IsNoneOut out'
@@ -120,7 +81,7 @@ dropped_accepts (Some o) d old new cases is = go (cases o)
     go (inr ne) = (ap accepted (is.1 ne), ap (λ (b : Shown). b.owed) (is.1 ne))
 
 pub taken_accepts : (old new : Shown) (d : Done) → IsTaken old d new → (accepted new ≡ accepted old + 1) × (new.owed ≡ old.owed)
-taken_accepts old new d is = (ap accepted is.others ∙ results_after_run old.history d.path (let run = d.run in run.ran), ap (λ (b : Shown). b.owed) is.others)
+taken_accepts old new d is = (ap accepted is.others, ap (λ (b : Shown). b.owed) is.others)
 
 pub stale_accepts : (old new : Shown) (d : Done) (kept : Option ℕ) → IsStale old d kept new → (accepted new ≡ accepted old) × (new.owed ≡ old.owed)
 stale_accepts old new d kept is = dropped_accepts (out_at old.out d.slot) d old new (λ x. cases_eq x.ticket d.ticket) is.dropped
@@ -129,8 +90,11 @@ stale_accepts old new d kept is = dropped_accepts (out_at old.out d.slot) d old 
 pub finished_meets_none : (old new : Shown) (path : ArrayVec ℕ) → IsFinished old → Meets old path new → ⊥
 finished_meets_none old new path finished meets = settled_meets_none old.tree path.items meets.least.one.0 finished.1 meets.least.one.1
 
-pub finished_hands_none : (node : ℕ) (old new : Shown) (job : Job) → IsFinished old → HandsOut node old job new → ⊥
-finished_hands_none node old new job finished hands = settled_takes_none old.tree old.out job.path.items finished.1 (let one = hands.1.least.one in one.may)
+pub finished_goes_none : (node : ℕ) (old new : Shown) (t : Turn Job) → IsFinished old → GoesOnNode node old t new → ⊥
+finished_goes_none node old new Met finished went = settled_takes_none old.tree old.out went.0.items finished.1 (let one = went.1.least.one in one.may)
+finished_goes_none node old new (Hands job) finished went = settled_takes_none old.tree old.out job.path.items finished.1 (let one = went.1.0.least.one in one.may)
+finished_goes_none node old new Rest finished went = went
+finished_goes_none node old new Over finished went = went
 
 -- nor where it is idle
 pub idle_meets_none : (old new : Shown) (path : ArrayVec ℕ) → IsIdle old → Meets old path new → ⊥
@@ -139,13 +103,27 @@ idle_meets_none old new path idle meets =
     let here : call_at path.items 8 old.tree ≡ Some meets.least.one.0 = meets.least.one.1 in
     cc
 
-pub idle_hands_none : (node : ℕ) (old new : Shown) (job : Job) → IsIdle old → HandsOut node old job new → ⊥
-idle_hands_none node old new job idle hands = idle.1 job.path.items (let one = hands.1.least.one in one.may)
+pub idle_goes_none : (node : ℕ) (old new : Shown) (t : Turn Job) → IsIdle old → GoesOnNode node old t new → ⊥
+idle_goes_none node old new Met idle went = idle.1 went.0.items (let one = went.1.least.one in one.may)
+idle_goes_none node old new (Hands job) idle went = idle.1 job.path.items (let one = went.1.0.least.one in one.may)
+idle_goes_none node old new Rest idle went = went
+idle_goes_none node old new Over idle went = went
+
+-- and what goes on is a turn
+pub goes_turn : (worker : ℕ) (old new : Shown) (t : Turn Job) → NoneMayMeet old → GoesOnFrom (worker % old.places.nodes) old t new → IsTurn worker old t new
+goes_turn worker old new Met none went = inr (none, went)
+goes_turn worker old new (Hands job) none went = (none, went)
+goes_turn worker old new Rest none went = absurd went.goes
+goes_turn worker old new Over none went = absurd went.goes
 
 -- a turn leaves the results as they were
 pub turn_accepts : (worker : ℕ) (old new : Shown) (t : Turn Job) → IsTurn worker old t new → accepted new ≡ accepted old
-turn_accepts worker old new Met is = let met = is.1.is in ap accepted met.others ∙ results_after_meeting old.history met.moves old.places is.0 (awaits met.call) met.are
-turn_accepts worker old new (Hands job) is = let hands = is.1.hands in ap accepted hands.2 ∙ ap accepted hands.1.is.others
+turn_accepts worker old new Met (inl met) = let is = met.1.is in ap accepted is.others
+turn_accepts worker old new Met (inr goes) = let went = goes.1.goes in ap accepted (let gone = went.1.gone in gone.others)
+turn_accepts worker old new (Hands job) is =
+    let went = is.1.goes in
+    let hands = went.1.1 in
+    ap accepted hands.owed ∙ (ap accepted hands.is.others ∙ ap accepted (let gone = went.1.0.gone in gone.others))
 turn_accepts worker old new Rest is = ap accepted is.2
 turn_accepts worker old new Over is = ap accepted is.1
 

@@ -4,8 +4,10 @@ pub mod Runs
 pub mod Listed
 pub mod Names
 pub mod Value
+pub mod GoingOn
 pub mod View
 pub mod Steps
 pub mod Gathering
+pub mod GoingOn
 pub mod Turns
 pub mod Events

@@ -66,7 +66,7 @@ pub record IsTaken (old : Shown) (d : Done) (new : Shown) : Type 0 where
   pub job : Out
   pub is : IsOfJob old d job
   pub out : Sets d.slot None old.out new.out
-  pub others : new ≡ record old { tree = with_top d.path.items (its_top d) old.tree; history = old.history ++ ran d ∷ []; out = new.out }
+  pub others : new ≡ record old { tree = with_top d.path.items (its_top d) old.tree; history = old.history ++ ran d ∷ []; out = new.out; taken = old.taken + 1 }
 
 -- what came is of another job, or its start is another: where its ticket is that of the slot, the slot's job is out no longer
 abbrev pub IsDropped : Option Out → Done → Shown → Shown → Type 0

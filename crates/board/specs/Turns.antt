@@ -1,14 +1,13 @@
 -- What a turn of a board is, and what comes of a job that a worker does.
--- Our choice: calls that may meet their children come before jobs, and a board is over where nothing may happen any more and no job is out.
-use Rattle.std.specs.Prelude.{◌≡◌, ◌≢◌, ℕ, ◌+◌, ◌-◌, ◌%◌, ◌≤◌, ◌<◌, nat_lt, if◌then◌else◌, true, Bool, false, List, [], ◌∷◌, Some, None}
+-- Our choice: calls that may meet their children come before spaces that may be taken, which go on in their place before they are put out; and a board is over where nothing may happen any
+-- more and no job is out.
+use Rattle.std.specs.Prelude.{◌≡◌, ◌≢◌, ◌⊎◌, ℕ, ◌+◌, ◌-◌, ◌%◌, ◌≤◌, ◌<◌, nat_lt, if◌then◌else◌, true, Bool, false, List, [], ◌∷◌, Some, None}
 use Rattle.arrayvec.specs.ArrayVec.{ArrayVec}
 use Rattle.call_model.specs.Limits.{greatest_depth, levels_below}
 use Rattle.space_model.specs.Space.{is_settled}
 use Rattle.space_model.specs.Event.{next, IsNotLocal}
 use Rattle.run_model.specs.Schedule.{call_at}
-use Rattle.det_core.specs.declared.entry.Entry.{Entry}
 use Rattle.node_places.specs.Places.{place_of}
-use Rattle.det_core.specs.declared.entry.Entry.TheVariants.{Ran, Moved, Met as MetEntry}
 use Rattle.worker_pool.specs.declared.shop.Turn.{Turn}
 use Rattle.worker_pool.specs.declared.shop.Turn.TheVariants.{Job as Hands, Met, Rest, Over}
 use Rattle.worker_pool.specs.declared.shop.Worked.{Worked}
@@ -19,19 +18,14 @@ use Rattle.board.specs.declared.done.Done.{Done}
 use Rattle.board.specs.declared.result.Commit.{Commit}
 use Rattle.board.specs.declared.result.Commit.TheVariants.{Taken, Stale}
 use Rattle.board.specs.declared.working.TheConstants.{QUANTUM, FIRST_EVENTS}
-use Rattle.board.specs.Jobs.{Slots, out_at, IsNoneOut, MayBeTaken}
+use Rattle.board.specs.Jobs.{Slots, out_at, IsNoneOut, MayBeTaken, MayBeTakenOn}
 use Rattle.board.specs.Value.{Shown}
-use Rattle.board.specs.Steps.{Takes, Meets, Commits}
+use Rattle.board.specs.Steps.{IsLeast, IsPutOut, Meets, Commits}
+use Rattle.board.specs.GoingOn.{HasGoneOn}
 
--- how many results were taken: each is an entry of the history
-abbrev pub results_in : List Entry → ℕ
-results_in [] = 0
-results_in (Ran path events ∷ es) = results_in es + 1
-results_in (Moved path node ∷ es) = results_in es
-results_in (MetEntry path ∷ es) = results_in es
-
+-- how many results were taken
 abbrev pub accepted : Shown → ℕ
-accepted b = results_in b.history
+accepted b = b.taken
 
 -- no job is out, and no space runs
 abbrev pub IsFinished : Shown → Type 0
@@ -54,9 +48,25 @@ pub record IsOnlyOut (out : Slots) (job : Job) : Type 0 where
   pub there : (o : Out) × (out_at out job.slot ≡ Some o) × (o.ticket ≡ job.ticket)
   pub others : (slot : ℕ) → slot ≢ job.slot → out_at out slot ≡ None
 
--- a job is taken on a node, and is owed from then on
-abbrev pub HandsOut : ℕ → Shown → Job → Shown → Type 0
-HandsOut node old job new = (taken : Shown) × Takes node old job taken × (new ≡ record taken { owed = old.owed + 1 })
+-- a space that may be taken is put out as a job, which is owed from then on
+pub record HandsOut (old : Shown) (job : Job) (new : Shown) : Type 0 where
+  pub may : MayBeTaken old.tree old.out job.path.items
+  pub put : Shown
+  pub is : IsPutOut old job put
+  pub owed : new ≡ record put { owed = old.owed + 1 }
+
+-- the least space on a node that may be taken has gone on in its place
+pub record LeastGoesOn (node : ℕ) (old : Shown) (path : ArrayVec ℕ) (new : Shown) : Type 0 where
+  pub least : IsLeast (MayBeTakenOn old.places node old.tree old.out) path.items
+  pub events : ℕ
+  pub gone : HasGoneOn old path events new
+
+-- the least space on a node that may be taken has gone on in its place, and that is all, or it is handed out as it stands then
+abbrev pub GoesOnNode : ℕ → Shown → Turn Job → Shown → Type 0
+GoesOnNode node old Met new = (path : ArrayVec ℕ) × LeastGoesOn node old path new
+GoesOnNode node old (Hands job) new = (gone : Shown) × LeastGoesOn node old job.path gone × HandsOut gone job new
+GoesOnNode node old Rest new = ⊥
+GoesOnNode node old Over new = ⊥
 
 -- how far a node is from a first one, where they are gone through in a ring
 abbrev pub distance : ℕ → ℕ → ℕ → ℕ
@@ -71,25 +81,25 @@ NoneBefore b first node =
 abbrev pub NoneAmong : Shown → ℕ → ℕ → Type 0
 NoneAmong b from to = (p : List ℕ) → from ≤ place_of b.places p → place_of b.places p < to → MayBeTaken b.tree b.out p → ⊥
 
--- the least space that may be taken is handed out on the first of these nodes that has any
-pub record HandsOutAmong (from to : ℕ) (old : Shown) (job : Job) (new : Shown) : Type 0 where
+-- the least space that may be taken goes on, on the first of these nodes that has any
+pub record GoesOnAmong (from to : ℕ) (old : Shown) (t : Turn Job) (new : Shown) : Type 0 where
   pub node : ℕ
   pub within : (from ≤ node) × (node < to)
   pub none : NoneAmong old from node
-  pub hands : HandsOut node old job new
+  pub goes : GoesOnNode node old t new
 
--- the least space that may be taken on a node is handed out, on the first node from this one on that has any
-pub record HandsOutFrom (first : ℕ) (old : Shown) (job : Job) (new : Shown) : Type 0 where
+-- the least space that may be taken on a node goes on, on the first node from this one on that has any
+pub record GoesOnFrom (first : ℕ) (old : Shown) (t : Turn Job) (new : Shown) : Type 0 where
   pub node : ℕ
   pub there : node < old.places.nodes
   pub none : NoneBefore old first node
-  pub hands : HandsOut node old job new
+  pub goes : GoesOnNode node old t new
 
--- The least call that may meet its children has met them. Where there is none, a space that may be taken is handed out, from the node of the worker on. Where there is
--- none either, nothing changes: it is over where the board is finished, and a job is out else.
+-- The least call that may meet its children has met them. Where there is none, a space that may be taken goes on, from the node of the worker on, and is handed out where it
+-- has more events. Where there is none either, nothing changes: it is over where the board is finished, and a job is out else.
 abbrev pub IsTurn : ℕ → Shown → Turn Job → Shown → Type 0
-IsTurn worker old Met new = (path : ArrayVec ℕ) × Meets old path new
-IsTurn worker old (Hands job) new = NoneMayMeet old × HandsOutFrom (worker % old.places.nodes) old job new
+IsTurn worker old Met new = ((path : ArrayVec ℕ) × Meets old path new) ⊎ (NoneMayMeet old × GoesOnFrom (worker % old.places.nodes) old Met new)
+IsTurn worker old (Hands job) new = NoneMayMeet old × GoesOnFrom (worker % old.places.nodes) old (Hands job) new
 IsTurn worker old Rest new = IsIdle old × IsSomeOut old.out × (new ≡ old)
 IsTurn worker old Over new = IsFinished old × (new ≡ old)
 

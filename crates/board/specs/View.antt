@@ -10,10 +10,11 @@ use Rattle.board.specs.Value.{Shown}
 use Rattle.board.specs.Listed.{AreOut, IsListed}
 
 abbrev pub shown : Inside → Shown
-shown b = record { boot = b.boot; tree = b.tree; places = b.lists.run.places; history = b.history.items; out = b.out.slots; next_ticket = b.next_ticket; owed = b.owed }
+shown b = record { boot = b.boot; tree = b.tree; places = b.lists.run.places; history = b.history.items; out = b.out.slots; next_ticket = b.counts.next_ticket; taken = b.counts.taken; owed = b.counts.owed }
 
 -- There is a node, and the history leads from boot, which is sound, to the tree, with its spaces where they stand; each node has a list of pages; what may happen is listed, and so are the jobs that
--- are out; and for each job that is out there is a place in the history and in the news, so that its result takes no memory.
+-- are out; and for each job that is out there is a place in the history and in the news, so that its result takes no memory; and each result that
+-- was taken is an entry of the history.
 pub record Keeps (b : Inside) : Type 0 where
   pub nodes : 0 < b.lists.run.places.nodes
   pub pages : length b.lists.pages ≡ b.lists.run.places.nodes
@@ -23,3 +24,4 @@ pub record Keeps (b : Inside) : Type 0 where
   pub listed : IsListed b.tree b.lists.run b.lists.calls (paths_in b.lists.news.items) b.out.slots
   pub places : vec_len b.history + slab_len b.out ≤ vec_capacity b.history
   pub news_places : vec_len b.lists.news + slab_len b.out ≤ vec_capacity b.lists.news
+  pub counted : b.counts.taken ≤ vec_len b.history

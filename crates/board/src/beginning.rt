@@ -7,12 +7,14 @@ ghost use Rattle.board.specs.Value.{begun};
 
 use crate::board::Board;
 use crate::boot::Boot;
+use crate::counts::Counts;
 use crate::listing::{child_path, list};
 use crate::lists::Lists;
 use crate::runs::Runs;
 use node_store::Nodes;
 use path_set::PathSet;
 use slab::Slab;
+use space_step::DecodeCache;
 use space_tree::{Path, Space, copy_tree};
 use std::alloc::{AllocError, Global};
 
@@ -87,20 +89,25 @@ impl Board {
         let pages = Nodes::new(alloc, nodes)?;
         let mut calls = PathSet::new(alloc);
         list_all(alloc, &mut run, &mut calls, &space, &Path::new(), 8)?;
+        let cache = DecodeCache::new(alloc)?;
         Ok(Board {
             alloc,
             boot: Boot::of(copy_tree(alloc, &mut space)?),
             tree: space,
             history: Vec::new(alloc),
             out: Slab::new(alloc),
-            next_ticket: 0,
-            owed: 0,
+            counts: Counts {
+                next_ticket: 0,
+                taken: 0,
+                owed: 0,
+            },
             lists: Lists {
                 at_work: PathSet::new(alloc),
                 run,
                 calls,
                 news: Vec::new(alloc),
                 pages,
+                cache,
             },
         })
     }

@@ -31,6 +31,8 @@ impl Board {
         swap_top(&mut self.tree, &path, top);
         self.lists.news.push_reserved(out.path);
         self.history.push_reserved(Entry::Ran { path, events });
+        let _entries = self.history.len();
+        self.counts.taken += 1;
     }
 
     // The job of a slot is out no longer; its space stands in the tree as it did.

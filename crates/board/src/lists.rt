@@ -1,9 +1,10 @@
 use crate::runs::Runs;
 use node_store::Nodes;
 use path_set::PathSet;
+use space_step::DecodeCache;
 use space_tree::Path;
 
-/// Where a board looks for the next job and the next call, and what each node keeps. `run` and `calls` may have more than they have to, since each path is looked at before it is used.
+/// Where a board looks for the next job and the next call, what each node keeps, and with what a space goes on in its place. `run` and `calls` may have more than they have to, since each path is looked at before it is used.
 #[derive(Drop)]
 pub(crate) struct Lists {
     /// The paths of the jobs that are out, and no others.
@@ -16,4 +17,6 @@ pub(crate) struct Lists {
     pub(crate) news: Vec<Path>,
     /// The pages that each node keeps.
     pub(crate) pages: Nodes,
+    /// The decoded instructions of the space that went on in its place last.
+    pub(crate) cache: DecodeCache,
 }

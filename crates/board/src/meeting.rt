@@ -128,6 +128,7 @@ fn meet_gathered(
     ensures nodes { places.new.nodes ≡ places.old.nodes }
     ensures err { OnErr result ((tree.new ≡ tree.old) × (places.new ≡ places.old) × (history.new.items ≡ history.old.items)) }
     ensures len { vec_len history.new ≤ vec_len history.old + (length gathered.away + 2) }
+    ensures grows { vec_len history.old ≤ vec_len history.new }
     ensures capacity { vec_capacity history.new ≡ vec_capacity history.old }
 {
     let Gathered {

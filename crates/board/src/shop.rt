@@ -5,7 +5,7 @@ use std::alloc::{AllocError, Global};
 use value_names::Naming;
 use worker_pool::{Shop, Turn, Worked};
 
-/// A board as a shop: it has accepted as many results as its history has of jobs, and is idle where no call may meet its children and no space may be taken.
+/// A board as a shop: it has accepted as many results as it has taken, and is idle where no call may meet its children and no space may be taken.
 impl<J: Naming + Send> Shop for NamedBoard<J> {
     ghost use Rattle.board.specs.Turns as turns;
 

@@ -44,9 +44,9 @@ fn goes_at(tree: &Space, path: &Path) -> bool
     }
 }
 
-// Whether the space at a path may be taken, where these are at work.
+/// Whether the space at a path may be taken, where these are at work.
 #[tactic(auto, using(crate::proofs::Works::may_be_taken))]
-fn may_be_taken(tree: &Space, at_work: &PathSet, path: &Path) -> bool
+pub(crate) fn may_be_taken(tree: &Space, at_work: &PathSet, path: &Path) -> bool
     ensures yes { result ≡ true → (out : Slots) → AreOut at_work.now out → MayBeTaken tree.now out path.now.items }
     ensures no { result ≡ false → is_local_at path.now.items greatest_depth tree.now ≡ true → Has at_work.now path.now.items }
 {
@@ -89,8 +89,8 @@ fn find_first(
     Ok(None)
 }
 
-// A place in the history and in the news for so many more.
-fn make_places(
+/// A place in the history and in the news for so many more.
+pub(crate) fn make_places(
     history: &mut Vec<Entry>,
     news: &mut Vec<Path>,
     count: usize,
@@ -123,8 +123,8 @@ impl Board {
         find_first(&self.tree, &mut self.lists.run, &self.lists.at_work, node)
     }
 
-    // Puts out a job for a space that may be taken, with a copy of its state and the next ticket.
-    fn put_out(&mut self, path: Path) -> Result<Job, AllocError>
+    /// Puts out a job for a space that may be taken, with a copy of its state and the next ticket.
+    pub(crate) fn put_out(&mut self, path: Path) -> Result<Job, AllocError>
         requires { MayBeTaken self.old.tree self.old.out path.items }
         ensures ok { IfOk result (λ job. (job.path ≡ path) × IsPutOut self.old job self.new) }
         ensures err { OnErr result (self.new ≡ self.old) }
@@ -135,14 +135,14 @@ impl Board {
             unreachable!()
         };
         let top = Box::new(self.alloc, top)?;
-        let ticket = self.next_ticket;
+        let ticket = self.counts.next_ticket;
         let out = Out {
             ticket,
             path: copy_path(&path)?,
         };
         let slot = put_in(&mut self.out, &mut self.lists.at_work, out)?;
         self.lists.run.remove(&path);
-        self.next_ticket = ticket.wrapping_add(1);
+        self.counts.next_ticket = ticket.wrapping_add(1);
         Ok(Job {
             slot,
             ticket,

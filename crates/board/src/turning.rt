@@ -2,63 +2,81 @@ ghost use Rattle.std.specs.Prelude.{◌≡◌, ℕ, ◌<◌, ◌≤◌, ◌%◌,
 ghost use Rattle.worker_pool.specs.Turns.{is_idle};
 ghost use Rattle.board.specs.Jobs.{MayBeTaken, MayBeTakenOn};
 ghost use Rattle.board.specs.Names.{IsKnown};
-ghost use Rattle.board.specs.Turns.{accepted, HandsIn, HandsOut, HandsOutAmong, HandsOutFrom, IsFinished, IsIdle, IsTurn, NoneAmong, is_over};
+ghost use Rattle.board.specs.Turns.{accepted, GoesOnAmong, GoesOnFrom, GoesOnNode, HandsIn, HandsOut, IsFinished, IsIdle, IsTurn, NoneAmong, is_over};
 
 use crate::board::Board;
 use crate::done::Done;
 use crate::job::Job;
 use crate::result::Commit;
+use space_tree::Path;
 use std::alloc::AllocError;
 use worker_pool::Turn;
 
 impl Board {
-    // Takes a job on a node, which is owed from then on. None exactly where no space there may be taken.
-    fn hand_out(&mut self, node: u32) -> Result<Option<Job>, AllocError>
+    // Puts out a job for a space that may be taken, which is owed from then on.
+    fn hand_out(&mut self, path: Path) -> Result<Job, AllocError>
+        requires { MayBeTaken self.old.tree self.old.out path.items }
+        ensures ok { IfOk result (λ job. (job.path ≡ path) × HandsOut self.old job self.new) }
+        ensures err { OnErr result (self.new ≡ self.old) }
+    {
+        let owed = self.counts.owed.checked_add(1).ok_or(AllocError)?;
+        let job = self.put_out(path)?;
+        self.counts.owed = owed;
+        Ok(job)
+    }
+
+    // The least space on a node that may be taken goes on in its place, and is handed out as a job where it has more events. None exactly where no space there may be taken. Where
+    // there is no memory for the job, it has gone on all the same.
+    fn go_on(&mut self, node: u32) -> Result<Option<Turn<Job>>, AllocError>
         requires { node < self.old.places.nodes }
-        ensures some { IfOk result (λ o. IfSome o (λ job. HandsOut node self.old job self.new)) }
+        ensures some { IfOk result (λ o. IfSome o (λ t. GoesOnNode node self.old t self.new)) }
         ensures none { IfOk result (λ o. IsNone o → (self.new ≡ self.old) × ((p : List ℕ) → MayBeTakenOn self.old.places node self.old.tree self.old.out p → ⊥)) }
         ensures err { OnErr result (self.new ≡ self.old) }
     {
-        let owed = self.owed.checked_add(1).ok_or(AllocError)?;
-        let Some(job) = self.take(node)? else {
+        let Some(path) = self.to_take(node)? else {
             return Ok(None);
         };
-        self.owed = owed;
-        Ok(Some(job))
+        if self.go_on_at(&path)? {
+            if let Ok(job) = self.hand_out(path) {
+                return Ok(Some(Turn::Job(job)));
+            }
+        }
+        Ok(Some(Turn::Met))
     }
 
-    // Takes a job on one of the nodes from one on to another, on the first that has any. None exactly where no space on any of them may be taken.
-    fn hand_out_among(&mut self, from: u32, to: u32) -> Result<Option<Job>, AllocError>
+    // The least space that may be taken goes on, on the first of the nodes from one on to another that has any. None exactly where no space on any of them may be taken.
+    fn go_on_among(&mut self, from: u32, to: u32) -> Result<Option<Turn<Job>>, AllocError>
         requires { (from ≤ to) × (to ≤ self.old.places.nodes) }
-        ensures some { IfOk result (λ o. IfSome o (λ job. HandsOutAmong from to self.old job self.new)) }
+        ensures some { IfOk result (λ o. IfSome o (λ t. GoesOnAmong from to self.old t self.new)) }
         ensures none { IfOk result (λ o. IsNone o → (self.new ≡ self.old) × NoneAmong self.old from to) }
         ensures err { OnErr result (self.new ≡ self.old) }
     {
         for node in from..to {
-            if let Some(job) = self.hand_out(node)? {
-                return Ok(Some(job));
+            if let Some(turn) = self.go_on(node)? {
+                return Ok(Some(turn));
             }
         }
         Ok(None)
     }
 
-    // Takes a job on the first node from one on that has any, where the nodes are gone through in a ring.
-    fn hand_out_from(&mut self, first: u32) -> Result<Option<Job>, AllocError>
+    // The least space that may be taken goes on, on the first node from one on that has any, where the nodes are gone through in a ring.
+    fn go_on_from(&mut self, first: u32) -> Result<Option<Turn<Job>>, AllocError>
         requires { first < self.old.places.nodes }
-        ensures some { IfOk result (λ o. IfSome o (λ job. HandsOutFrom first self.old job self.new)) }
+        ensures some { IfOk result (λ o. IfSome o (λ t. GoesOnFrom first self.old t self.new)) }
         ensures none { IfOk result (λ o. IsNone o → (self.new ≡ self.old) × ((p : List ℕ) → MayBeTaken self.old.tree self.old.out p → ⊥)) }
         ensures err { OnErr result (self.new ≡ self.old) }
     {
         let nodes = self.nodes();
         self.places_are_nodes();
-        if let Some(job) = self.hand_out_among(first, nodes)? {
-            return Ok(Some(job));
+        if let Some(turn) = self.go_on_among(first, nodes)? {
+            return Ok(Some(turn));
         }
-        self.hand_out_among(0, first)
+        self.go_on_among(0, first)
     }
 
-    /// The turn of a worker. `Met` where a call may meet its children: the least one has met them. Else the job of a space that may be taken: the least on the first
-    /// node that has any, from the node of the worker's number on. Where there is neither, nothing changes: `Over` exactly where no job is out and no space runs, and
+    /// The turn of a worker. `Met` where a call may meet its children: the least one has met them. Else a space that may be taken goes on in its place, `EVENTS_IN_PLACE`
+    /// events at most: the least on the first node that has any, from the node of the worker's number on. Where it has more, it is a job, as it stands then; else, or where there is no memory
+    /// for the job, the turn is `Met`, too. Where there is neither, nothing changes: `Over` exactly where no job is out and no space runs, and
     /// `Rest` else, while a job is out. The one error is want of memory, and then nothing has changed.
     pub fn next_turn(&mut self, worker: usize) -> Result<Turn<Job>, AllocError>
         ensures is { IfOk result (λ t. IsTurn worker self.old t self.new) }
@@ -70,8 +88,8 @@ impl Board {
             return Ok(Turn::Met);
         }
         let first = self.node_of_worker(worker);
-        if let Some(job) = self.hand_out_from(first)? {
-            return Ok(Turn::Job(job));
+        if let Some(turn) = self.go_on_from(first)? {
+            return Ok(turn);
         }
         if self.out.is_empty() {
             return Ok(Turn::Over);
@@ -103,7 +121,7 @@ impl Board {
         false
     }
 
-    // Fewer results are in the history than a number has values.
+    // Fewer results were taken than a number has values.
     fn are_few(&self)
         ensures { accepted self.now < 2 ^ 64 }
     {
@@ -124,7 +142,7 @@ impl Board {
         ensures is { HandsIn self.old done result self.new }
         ensures small { accepted self.new < 2 ^ 64 }
     {
-        self.owed = self.owed.saturating_sub(1);
+        self.counts.owed = self.counts.owed.saturating_sub(1);
         let commit = self.commit_known(done, known);
         self.are_few();
         commit == Commit::Taken

@@ -55,4 +55,13 @@ invariant_of-self c =
           (taken_listed b.tree b.lists.run b.lists.calls (paths_in b.lists.news.items) b.out.slots c.take_out-out.new.out.slots done.slot out top kept.listed value sets));
       places = omega (arith, places, fewer, one_more, same_room);
       news_places = omega (arith, news_places, fewer, more, capacity);
+      counted = let was = kept.counted in omega (arith, was, one_more);
     }
+
+pub overflow_add-self : goal.overflow_add-self
+overflow_add-self c =
+    let was = c.self.invariant.counted in
+    let one_more = c.push_reserved-2.ensures.len in
+    let entries = c.len-_entries.ensures in
+    let fits = c.len-_entries.type_inv in
+    omega (arith, was, one_more, entries, fits)

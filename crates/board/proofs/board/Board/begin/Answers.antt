@@ -32,4 +32,5 @@ invariant_of-result c =
           (ap paths_in c.new-7.ensures.items) c.new-5.ensures.empty);
       places = omega (arith, len, empty);
       news_places = omega (arith, news_len, empty);
+      counted = omega (arith, len);
     }

@@ -28,4 +28,5 @@ invariant_of-self c =
           (stale_listed b.tree b.lists.run b.lists.calls (paths_in b.lists.news.items) b.out.slots c.take_out-out.new.out.slots c.args.slot out kept.listed c.take_out-out.ensures.value sets);
       places = omega (arith, places, fewer);
       news_places = omega (arith, news_places, fewer, more, capacity);
+      counted = kept.counted;
     }

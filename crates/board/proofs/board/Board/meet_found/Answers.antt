@@ -31,6 +31,7 @@ invariant_of-self c =
           (ap (λ ns. paths_in ns.items) g.news);
       places = kept.places;
       news_places = let few = kept.news_places in subst (λ ns. vec_len ns + slab_len b.out ≤ vec_capacity ns) (sym g.news) few;
+      counted = kept.counted;
     }
 
 pub invariant_of-self-in_err-count : goal.invariant_of-self-in_err-count
@@ -49,6 +50,7 @@ invariant_of-self-in_err-count c =
           (ap (λ ns. paths_in ns.items) g.news);
       places = kept.places;
       news_places = let few = kept.news_places in subst (λ ns. vec_len ns + slab_len b.out ≤ vec_capacity ns) (sym g.news) few;
+      counted = kept.counted;
     }
 
 pub invariant_of-self-in_err-reserve : goal.invariant_of-self-in_err-reserve
@@ -70,6 +72,7 @@ invariant_of-self-in_err-reserve c =
           (ap (λ ns. paths_in ns.items) g.news);
       places = omega (arith, places, len, capacity);
       news_places = let few = kept.news_places in subst (λ ns. vec_len ns + slab_len b.out ≤ vec_capacity ns) (sym g.news) few;
+      counted = let was = kept.counted in omega (arith, was, len);
     }
 
 pub invariant_of-self-2 : goal.invariant_of-self-2
@@ -113,6 +116,7 @@ invariant_of-self-2 c =
           (met_from path k node b.tree c.gather.new.tree t ps ps qs b.history.items c.reserve.new.self.items fs g.tree refl c.reserve.ensures.items met));
       places = omega (arith, reserved, room, count, jobs, away, more, capacity);
       news_places = let few = kept.news_places in subst (λ ns. vec_len ns + slab_len b.out ≤ vec_capacity ns) (sym g.news) few;
+      counted = let was = kept.counted in let grows = c.meet_gathered.ensures.grows in omega (arith, was, reserved, grows);
     }
 
 pub returns-clause-ok : goal.returns-clause-ok
@@ -133,7 +137,7 @@ returns-clause-ok c =
     let may : call_at q 8 b.tree ≡ Some k = ap (λ (s : Shown). call_at q 8 s.tree) c.self.view_is ∙ c.requires in
     let met : HasMetBy path k node c.gather.new.tree ps c.reserve.new.self.items t qs fs = c.in_ok-meet_gathered.ensures.met k (ap (call_at q 8) g.tree ∙ may) (subst (λ x. MeetsOn x q (awaits k) node) (sym same) ok.node.1) (subst (λ x. AreAway x q (awaits k) gathered.away) (sym same) ok.away) ok.replaced in (
       refl,
-      subst (λ (s : Shown). HasMet s path (shown_of b.boot t qs fs b.out.slots b.next_ticket b.owed)) c.self.view_is
-          (together_shown b.boot b.tree t b.lists.run.places qs b.history.items fs b.out.slots b.next_ticket b.owed path k node may
+      subst (λ (s : Shown). HasMet s path (shown_of b.boot t qs fs b.out.slots b.counts.next_ticket b.counts.taken b.counts.owed)) c.self.view_is
+          (together_shown b.boot b.tree t b.lists.run.places qs b.history.items fs b.out.slots b.counts.next_ticket b.counts.taken b.counts.owed path k node may
           (met_from path k node b.tree c.gather.new.tree t b.lists.run.places ps qs b.history.items c.reserve.new.self.items fs g.tree same c.reserve.ensures.items met)),
     )

@@ -31,7 +31,7 @@ pub invariant_of-self-2 : goal.invariant_of-self-2
 invariant_of-self-2 c =
     let b = c.self.inside in
     let kept = c.self.invariant in
-    let o : Out = record { ticket = b.next_ticket; path = c.in_ok-copy_path.field-0 } in
+    let o : Out = record { ticket = b.counts.next_ticket; path = c.in_ok-copy_path.field-0 } in
     let may : MayBeTaken b.tree b.out.slots c.args.path.items = subst (λ (s : Shown). MayBeTaken s.tree s.out c.args.path.items) (sym c.self.view_is) c.requires in
     let may_out : MayBeTaken b.tree b.out.slots o.path.items = subst (λ (p : ArrayVec ℕ). MayBeTaken b.tree b.out.slots p.items) (sym c.in_ok-copy_path.ensures) may in
     let sets : Sets c.in_ok-slot.slot (Some o) b.out.slots c.put_in.new.out.slots = c.in_ok-slot.ensures.sets in
@@ -56,6 +56,7 @@ invariant_of-self-2 c =
           (subst (λ ns. IsListed b.tree c.remove.new.self b.lists.calls (paths_in ns) c.put_in.new.out.slots) (sym c.make_places.ensures.news) listed);
       places = omega (arith, room, count, jobs, more);
       news_places = omega (arith, news_room, count, jobs, more);
+      counted = let was = kept.counted in let len = c.make_places.ensures.history_len in omega (arith, was, len);
     }
 
 pub returns-in_err-slot-clause-err : goal.returns-in_err-slot-clause-err
@@ -64,6 +65,6 @@ returns-in_err-slot-clause-err c =
     let items = c.make_places.new.history.items in
     let slots = c.put_in.new.out.slots in
     on_err c.from_residual-in_err-slot.result _
-    ((ap (λ s. shown_of b.boot s b.lists.run.places items slots b.next_ticket b.owed) c.in_ok-top.ensures.same ∙ ap (λ es. shown_of b.boot b.tree b.lists.run.places es slots b.next_ticket b.owed) c.make_places.ensures.history
-    ∙ ap (λ xs. shown_of b.boot b.tree b.lists.run.places b.history.items xs b.next_ticket b.owed) c.in_err-slot.ensures.err)
+    ((ap (λ s. shown_of b.boot s b.lists.run.places items slots b.counts.next_ticket b.counts.taken b.counts.owed) c.in_ok-top.ensures.same ∙ ap (λ es. shown_of b.boot b.tree b.lists.run.places es slots b.counts.next_ticket b.counts.taken b.counts.owed) c.make_places.ensures.history
+    ∙ ap (λ xs. shown_of b.boot b.tree b.lists.run.places b.history.items xs b.counts.next_ticket b.counts.taken b.counts.owed) c.in_err-slot.ensures.err)
     ∙ c.self.view_is)

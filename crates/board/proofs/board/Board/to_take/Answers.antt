@@ -27,6 +27,7 @@ invariant_of-self c =
       listed = c.list_news.ensures.listed b.tree b.out.slots kept.listed;
       places = kept.places;
       news_places = omega (arith, news_places, fewer, capacity);
+      counted = kept.counted;
     }
 
 pub invariant_of-self-2 : goal.invariant_of-self-2
@@ -47,6 +48,7 @@ invariant_of-self-2 c =
       listed = subst (λ ns. IsListed b.tree c.find_first.new.run c.list_news.new.calls (paths_in ns) b.out.slots) (sym none) (c.find_first.ensures.listed c.list_news.new.calls b.out.slots kept.at_work before);
       places = kept.places;
       news_places = omega (arith, news_places, fewer, capacity);
+      counted = kept.counted;
     }
 
 pub returns-clause-some : goal.returns-clause-some
