@@ -70,8 +70,8 @@ pub handed_out_stands : (node : ℕ) (starts starts' : Starts) (old new : Shown)
     → GoesOnNode node old (Hands job) new → StartsStand starts old → StartsStand starts' new
 handed_out_stands node starts starts' old new job name is_top kept went stands =
     let gone = went.0 in
-    let hands = went.1.1 in
-    let first = gone_stands starts old gone job.path went.1.0.events went.1.0.gone stands in
+    let hands = went.2 in
+    let first = gone_stands starts old gone job.path went.1.events went.1.gone stands in
     let there = put_stands starts starts' gone hands.put job name is_top kept hands.is first in
     subst (StartsStand starts') (sym hands.owed) there
 

@@ -14,11 +14,11 @@ use Rattle.board.specs.declared.job.Job.{Job}
 use Rattle.board.specs.declared.done.Done.{Done}
 use Rattle.board.specs.declared.result.Commit.{Commit}
 use Rattle.board.specs.declared.result.Commit.TheVariants.{Taken, Stale}
-use Rattle.board.specs.Jobs.{Slots, out_at, IsNoneOut, MayBeTaken, Sets}
+use Rattle.board.specs.Jobs.{Slots, out_at, IsNoneOut, MayBeTaken, MayBeTakenOn, Sets}
 use Rattle.board.specs.Value.{Shown}
-use Rattle.board.specs.Steps.{Meets, IsTaken, IsStale, IsDropped, Commits}
+use Rattle.board.specs.Steps.{IsLeast, Meets, IsTaken, IsStale, IsDropped, Commits}
 use Rattle.board.specs.GoingOn.{HasGoneOn}
-use Rattle.board.specs.Turns.{accepted, is_taken, IsFinished, IsIdle, NoneMayMeet, IsTurn, IsOnlyOut, HandsOut, GoesOnNode, GoesOnFrom, handed_in, HandsIn, bare}
+use Rattle.board.specs.Turns.{accepted, is_taken, IsFinished, IsIdle, NoneMayMeet, IsTurn, IsOnlyOut, HandsOut, HandsOn, LeastGoesOn, GoesOnNode, GoesOnFrom, handed_in, HandsIn, bare}
 use Rattle.board.proofs.Settling.{settled_meets_none, settled_takes_none}
 
 -- a space that goes on where it stands leaves what is out as it was
@@ -34,9 +34,9 @@ met_leaves worker old new (inr goes) = let went = goes.1.goes in gone_leaves old
 pub only_out : (node : ℕ) (old new : Shown) (job : Job) → IsNoneOut old.out → GoesOnNode node old (Hands job) new → IsOnlyOut new.out job × (new.boot ≡ old.boot)
 only_out node old new job none went =
     let gone = went.0 in
-    let hands = went.1.1 in
+    let hands = went.2 in
     let put = hands.put in
-    let left = gone_leaves old gone job.path went.1.0.events went.1.0.gone in
+    let left = gone_leaves old gone job.path went.1.events went.1.gone in
     let sets = hands.is.out in
     let same : put.out ≡ new.out = sym (ap (λ (b : Shown). b.out) hands.owed) in
     let none_there : IsNoneOut gone.out = subst IsNoneOut (sym left.0) none in
@@ -92,7 +92,7 @@ finished_meets_none old new path finished meets = settled_meets_none old.tree pa
 
 pub finished_goes_none : (node : ℕ) (old new : Shown) (t : Turn Job) → IsFinished old → GoesOnNode node old t new → ⊥
 finished_goes_none node old new Met finished went = settled_takes_none old.tree old.out went.0.items finished.1 (let one = went.1.least.one in one.may)
-finished_goes_none node old new (Hands job) finished went = settled_takes_none old.tree old.out job.path.items finished.1 (let one = went.1.0.least.one in one.may)
+finished_goes_none node old new (Hands job) finished went = settled_takes_none old.tree old.out job.path.items finished.1 (let one = went.1.least.one in one.may)
 finished_goes_none node old new Rest finished went = went
 finished_goes_none node old new Over finished went = went
 
@@ -105,9 +105,19 @@ idle_meets_none old new path idle meets =
 
 pub idle_goes_none : (node : ℕ) (old new : Shown) (t : Turn Job) → IsIdle old → GoesOnNode node old t new → ⊥
 idle_goes_none node old new Met idle went = idle.1 went.0.items (let one = went.1.least.one in one.may)
-idle_goes_none node old new (Hands job) idle went = idle.1 job.path.items (let one = went.1.0.least.one in one.may)
+idle_goes_none node old new (Hands job) idle went = idle.1 job.path.items (let one = went.1.least.one in one.may)
 idle_goes_none node old new Rest idle went = went
 idle_goes_none node old new Over idle went = went
+
+-- a space that is the least has gone on, and is handed out, or not
+pub least_goes : (node : ℕ) (old before new : Shown) (path : ArrayVec ℕ) (events : ℕ) → before ≡ old → IsLeast (MayBeTakenOn old.places node old.tree old.out) path.items → HasGoneOn before path events new → LeastGoesOn node old path new
+least_goes node old before new path events same least gone = record { least = least; events = events; gone = subst (λ s. HasGoneOn s path events new) same gone }
+
+pub goes_on_node : (node : ℕ) (old gone new : Shown) (path : ArrayVec ℕ) (t : Turn Job) → LeastGoesOn node old path gone → HandsOn gone path t new → GoesOnNode node old t new
+goes_on_node node old gone new path Met went hands = (path, subst (LeastGoesOn node old path) (sym hands) went)
+goes_on_node node old gone new path (Hands job) went hands = (gone, subst (λ p. LeastGoesOn node old p gone) (sym hands.0) went, hands.1)
+goes_on_node node old gone new path Rest went hands = absurd hands
+goes_on_node node old gone new path Over went hands = absurd hands
 
 -- and what goes on is a turn
 pub goes_turn : (worker : ℕ) (old new : Shown) (t : Turn Job) → NoneMayMeet old → GoesOnFrom (worker % old.places.nodes) old t new → IsTurn worker old t new
@@ -122,8 +132,8 @@ turn_accepts worker old new Met (inl met) = let is = met.1.is in ap accepted is.
 turn_accepts worker old new Met (inr goes) = let went = goes.1.goes in ap accepted (let gone = went.1.gone in gone.others)
 turn_accepts worker old new (Hands job) is =
     let went = is.1.goes in
-    let hands = went.1.1 in
-    ap accepted hands.owed ∙ (ap accepted hands.is.others ∙ ap accepted (let gone = went.1.0.gone in gone.others))
+    let hands = went.2 in
+    ap accepted hands.owed ∙ (ap accepted hands.is.others ∙ ap accepted (let gone = went.1.gone in gone.others))
 turn_accepts worker old new Rest is = ap accepted is.2
 turn_accepts worker old new Over is = ap accepted is.1
 

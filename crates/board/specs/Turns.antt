@@ -55,6 +55,13 @@ pub record HandsOut (old : Shown) (job : Job) (new : Shown) : Type 0 where
   pub is : IsPutOut old job put
   pub owed : new ≡ record put { owed = old.owed + 1 }
 
+-- that space is handed out, or it is not, and nothing has changed
+abbrev pub HandsOn : Shown → ArrayVec ℕ → Turn Job → Shown → Type 0
+HandsOn old path Met new = new ≡ old
+HandsOn old path (Hands job) new = (job.path ≡ path) × HandsOut old job new
+HandsOn old path Rest new = ⊥
+HandsOn old path Over new = ⊥
+
 -- the least space on a node that may be taken has gone on in its place
 pub record LeastGoesOn (node : ℕ) (old : Shown) (path : ArrayVec ℕ) (new : Shown) : Type 0 where
   pub least : IsLeast (MayBeTakenOn old.places node old.tree old.out) path.items

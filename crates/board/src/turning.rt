@@ -2,7 +2,7 @@ ghost use Rattle.std.specs.Prelude.{◌≡◌, ℕ, ◌<◌, ◌≤◌, ◌%◌,
 ghost use Rattle.worker_pool.specs.Turns.{is_idle};
 ghost use Rattle.board.specs.Jobs.{MayBeTaken, MayBeTakenOn};
 ghost use Rattle.board.specs.Names.{IsKnown};
-ghost use Rattle.board.specs.Turns.{accepted, GoesOnAmong, GoesOnFrom, GoesOnNode, HandsIn, HandsOut, IsFinished, IsIdle, IsTurn, NoneAmong, is_over};
+ghost use Rattle.board.specs.Turns.{accepted, GoesOnAmong, GoesOnFrom, GoesOnNode, HandsIn, HandsOn, HandsOut, IsFinished, IsIdle, IsTurn, NoneAmong, is_over};
 
 use crate::board::Board;
 use crate::done::Done;
@@ -25,8 +25,18 @@ impl Board {
         Ok(job)
     }
 
-    // The least space on a node that may be taken goes on in its place, and is handed out as a job where it has more events. None exactly where no space there may be taken. Where
-    // there is no memory for the job, it has gone on all the same.
+    // As `hand_out`; where there is no memory for the job, that is all, and the space has gone on all the same.
+    fn hand_on(&mut self, path: Path) -> Turn<Job>
+        requires { MayBeTaken self.old.tree self.old.out path.items }
+        ensures { HandsOn self.old path result self.new }
+    {
+        match self.hand_out(path) {
+            Ok(job) => Turn::Job(job),
+            Err(_) => Turn::Met,
+        }
+    }
+
+    // The least space on a node that may be taken goes on in its place, and is handed out as a job where it has more events. None exactly where no space there may be taken.
     fn go_on(&mut self, node: u32) -> Result<Option<Turn<Job>>, AllocError>
         requires { node < self.old.places.nodes }
         ensures some { IfOk result (λ o. IfSome o (λ t. GoesOnNode node self.old t self.new)) }
@@ -36,12 +46,11 @@ impl Board {
         let Some(path) = self.to_take(node)? else {
             return Ok(None);
         };
-        if self.go_on_at(&path)? {
-            if let Ok(job) = self.hand_out(path) {
-                return Ok(Some(Turn::Job(job)));
-            }
+        let more = self.go_on_at(&path)?;
+        if !more {
+            return Ok(Some(Turn::Met));
         }
-        Ok(Some(Turn::Met))
+        Ok(Some(self.hand_on(path)))
     }
 
     // The least space that may be taken goes on, on the first of the nodes from one on to another that has any. None exactly where no space on any of them may be taken.

@@ -62,6 +62,6 @@ pub overflow_add-self : goal.overflow_add-self
 overflow_add-self c =
     let was = c.self.invariant.counted in
     let one_more = c.push_reserved-2.ensures.len in
-    let entries = c.len-_entries.ensures in
-    let fits = c.len-_entries.type_inv in
+    let entries = c.len-entries.ensures in
+    let fits = c.len-entries.type_inv in
     omega (arith, was, one_more, entries, fits)
