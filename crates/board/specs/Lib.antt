@@ -4,7 +4,6 @@ pub mod Runs
 pub mod Listed
 pub mod Names
 pub mod Value
-pub mod GoingOn
 pub mod View
 pub mod Steps
 pub mod Gathering
