@@ -2,7 +2,6 @@ ghost use Rattle.std.specs.Prelude.{◌≡◌, ◌≤◌, None};
 
 use crate::spaces::{
     change_some, copy_by_page, memory_of, residents_of, space_of_permissions, space_with,
-    space_with_snapshot,
 };
 use crate::timing::{best_comparison, best_copy, best_pack, best_unpack};
 use memory_model::PAGES;
@@ -154,23 +153,6 @@ fn measure_space(
     Ok(times)
 }
 
-// Measures a space of so many pages, of which ten have changed since its snapshot.
-fn measure_snapshot(
-    rt: &(impl Clock + Print),
-    alloc: Global,
-    rounds: u32,
-    pages: u32,
-) -> io::Result<()>
-    requires { pages ≤ 65536 }
-{
-    let mut memory = memory_of(alloc, pages)?;
-    let known = residents_of(alloc, &mut memory)?;
-    let top = space_with_snapshot(alloc, memory, pages)?;
-    let parcel = pack(alloc, &top, &known)?;
-    let (time, _all) = best_unpack(rt, alloc, rounds, &parcel, &known)?;
-    print_line(rt, "unpack, snapshot", pages, time)
-}
-
 // Measures a space of 1,048,576 permissions without bytes.
 fn measure_permissions(rt: &(impl Clock + Print), alloc: Global, rounds: u32) -> io::Result<()> {
     let top = space_of_permissions(alloc)?;
@@ -188,7 +170,5 @@ pub fn all(rt: &(impl Clock + Print), alloc: Global, rounds: u32) -> io::Result<
     let small = measure_space(rt, alloc, rounds, 4096)?;
     let large = measure_space(rt, alloc, rounds, 65536)?;
     print_ratio(rt, "pack / of 4,096", 65536, large.pack, small.pack)?;
-    measure_snapshot(rt, alloc, rounds, 4096)?;
-    measure_snapshot(rt, alloc, rounds, 65536)?;
     measure_permissions(rt, alloc, rounds)
 }

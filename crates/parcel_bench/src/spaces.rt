@@ -104,17 +104,3 @@ pub fn space_of_permissions(alloc: Global) -> Result<Top, AllocError>
     memory.set_perm(all, 3)?;
     Ok(space_with(alloc, memory))
 }
-
-/// A space of so many pages that may be read and written, no two equal, of which ten have changed since its snapshot.
-#[tactic(auto, using(space_mem::proofs::Dirty::covers_all))]
-pub fn space_with_snapshot(alloc: Global, mut memory: Mem, pages: u32) -> Result<Top, AllocError>
-    ensures { IfOk result (λ t. t.devices ≡ None) }
-{
-    let snapshot = memory.frozen()?;
-    change_some(&mut memory, pages)?;
-    memory.mark_all();
-    let mut top = Top::fresh(alloc, 100);
-    top.memory = memory;
-    top.snapshot = Some(snapshot);
-    Ok(top)
-}

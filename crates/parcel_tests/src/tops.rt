@@ -249,46 +249,6 @@ fn pages_that_only_a_snapshot_has_are_dirty(rt: HostRuntime) -> Result<(), Fail>
     Ok(())
 }
 
-// A top of nine pages, no two equal, of which those from 5 to 8 have each the bytes that the page behind it has in the snapshot.
-fn top_of_moved_pages(alloc: Global) -> Result<Top, AllocError>
-    ensures { IfOk result (λ t. t.devices ≡ None) }
-{
-    let mut memory = Mem::new(alloc);
-    for page in 1..10 {
-        memory.write_bytes(4096 * page, &page.to_le_bytes())?;
-    }
-    let snapshot = memory.frozen()?;
-    memory.copy_from(&snapshot, 6, Pages { first: 5, count: 4 })?;
-    memory.mark_all();
-    Ok(top_with(alloc, memory, snapshot))
-}
-
-// The first dirty pages from 0, 6, 7, 8 and 9 on of such a top, which is read over a list of all of its pages.
-fn dirty_of_moved(alloc: Global) -> Result<[u32; 5], AllocError> {
-    let top = top_of_moved_pages(alloc)?;
-    let known = pages_of(alloc, &top)?;
-    let parcel = pack(alloc, &top, &known)?;
-    match unpack(alloc, &parcel, &known) {
-        Ok(top) => Ok([
-            dirty_from(&top.memory, 0),
-            dirty_from(&top.memory, 6),
-            dirty_from(&top.memory, 7),
-            dirty_from(&top.memory, 8),
-            dirty_from(&top.memory, 9),
-        ]),
-        Err(Fault::Bad(_)) => Ok([0; 5]),
-        Err(Fault::Memory) => Err(AllocError),
-    }
-}
-
-#[test]
-fn resident_pages_that_have_moved_are_dirty(rt: HostRuntime) -> Result<(), Fail> {
-    let dirty = dirty_of_moved(rt.alloc())?;
-    assert_eq!(rt; dirty, [5, 6, 7, 8, 1_048_576]);
-    assert!(rt; comes_back(rt.alloc(), &top_of_moved_pages(rt.alloc())?)?);
-    Ok(())
-}
-
 #[test]
 fn a_top_of_four_pages_comes_back(rt: HostRuntime) -> Result<(), Fail> {
     let top = top_of_four(rt.alloc())?;
