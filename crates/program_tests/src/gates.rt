@@ -1,68 +1,39 @@
 //! The workers of a pool, as the gate sees them that `det_main` is handed.
 
 use crate::calls::{Row, files_of, plain, sink, words_of};
-use crate::quanta::{REPORT, TWO_THREADS};
 use det_cli::{End, det_main, det_still};
 use det_host::{Gate, GateEvent};
-use image_file::write_image;
-use rv_asm::assemble;
-use std::alloc::{AllocError, Global};
+use std::alloc::AllocError;
 use std::process::Abort;
 use std::sync::Wait;
 use std::sync::atomic::{AtomicU64, Ordering};
 use std::test::*;
-use std::thread::{Threads, yield_now};
+use std::thread::Threads;
 
-// Counts the events of two workers. After the first meeting it holds the worker that takes a job first, until the other one has taken one.
+// Counts the events of workers.
 #[derive(Drop)]
-struct Holding {
-    taken_by_first: AtomicU64,
-    taken_by_second: AtomicU64,
+struct Counting {
+    taken: AtomicU64,
     committed: AtomicU64,
     met: AtomicU64,
-    held: AtomicU64,
-    in_vain: AtomicU64,
 }
 
-impl Holding {
-    fn new() -> Holding {
-        Holding {
-            taken_by_first: AtomicU64::new(0),
-            taken_by_second: AtomicU64::new(0),
+impl Counting {
+    fn new() -> Counting {
+        Counting {
+            taken: AtomicU64::new(0),
             committed: AtomicU64::new(0),
             met: AtomicU64::new(0),
-            held: AtomicU64::new(0),
-            in_vain: AtomicU64::new(0),
-        }
-    }
-
-    // Holds a worker until the other one has taken a job, for ten million turns at most.
-    fn hold(&self, other: &AtomicU64) {
-        for _ in 0..10_000_000u32 {
-            if other.load(Ordering::SeqCst) > 0 {
-                return;
-            }
-            yield_now();
-        }
-        self.in_vain.fetch_add(1, Ordering::SeqCst);
-    }
-
-    fn took(&self, mine: &AtomicU64, other: &AtomicU64) {
-        mine.fetch_add(1, Ordering::SeqCst);
-        if self.met.load(Ordering::SeqCst) > 0 && self.held.swap(1, Ordering::SeqCst) == 0 {
-            self.hold(other);
         }
     }
 }
 
-impl Gate for Holding {
-    fn pass(&self, worker: usize, event: GateEvent) {
+impl Gate for Counting {
+    fn pass(&self, _worker: usize, event: GateEvent) {
         match event {
-            GateEvent::Took if worker == 0 => self.took(
-                &self.taken_by_first,
-                &self.taken_by_second,
-            ),
-            GateEvent::Took => self.took(&self.taken_by_second, &self.taken_by_first),
+            GateEvent::Took => {
+                self.taken.fetch_add(1, Ordering::SeqCst);
+            }
             GateEvent::Committed => {
                 self.committed.fetch_add(1, Ordering::SeqCst);
             }
@@ -78,7 +49,7 @@ impl Gate for Holding {
 fn call<R: AllocGlobal + Abort + Threads + Wait + Sync>(
     rt: &R,
     row: &Row<'_>,
-    gate: Option<&Holding>,
+    gate: Option<&Counting>,
 ) -> Result<(), AllocError> {
     let alloc = rt.alloc();
     let words = words_of(alloc, row.words)?;
@@ -94,38 +65,22 @@ fn call<R: AllocGlobal + Abort + Threads + Wait + Sync>(
     Ok(())
 }
 
-// Both workers take jobs, and four calls meet children; what comes is what the row says, and what comes on demand.
+// Workers take jobs, and hand in as many, and four calls at least meet children; what comes is what the row says, and what comes on demand.
 fn one_row<R: AllocGlobal + Abort + Threads + Wait + Sync>(rt: &R, row: &Row<'_>) {
-    let gate = Holding::new();
+    let gate = Counting::new();
     assert!(rt; call(rt, row, Some(&gate)).is_ok());
-    let first = gate.taken_by_first.load(Ordering::SeqCst);
-    let second = gate.taken_by_second.load(Ordering::SeqCst);
-    assert!(rt; first > 0 && second > 0);
-    assert_eq!(rt;
-        gate.committed.load(Ordering::SeqCst),
-        first.wrapping_add(second)
-    );
-    assert_eq!(rt; gate.met.load(Ordering::SeqCst), 4);
-    assert_eq!(rt; gate.held.load(Ordering::SeqCst), 1);
-    assert_eq!(rt; gate.in_vain.load(Ordering::SeqCst), 0);
+    let taken = gate.taken.load(Ordering::SeqCst);
+    assert!(rt; taken > 0);
+    assert_eq!(rt; gate.committed.load(Ordering::SeqCst), taken);
+    assert!(rt; gate.met.load(Ordering::SeqCst) > 3);
     assert!(rt; call(rt, row, None).is_ok());
-}
-
-fn image_of(alloc: Global, source: &[u8]) -> Result<Vec<u8>, AllocError> {
-    match assemble(alloc, source) {
-        Ok(image) => write_image(alloc, &image),
-        Err(_) => Err(AllocError),
-    }
 }
 
 // The line of the image of the number 1, which two threads make.
 const SUMMARY_OF_ONE: &[u8] = b"threads 2 spaces 3 used 27955 console 64 root ret 00000002\n";
 
 #[test]
-fn two_workers_take_jobs_side_by_side(rt: HostRuntime) -> Result<(), Fail> {
-    let image = image_of(rt.alloc(), TWO_THREADS)?;
-    let run = "det run --engine pool --workers 2 image script";
-    one_row(&rt, &plain(run, &image, End::Ret, b"", REPORT));
+fn workers_take_jobs_and_hand_them_in(rt: HostRuntime) -> Result<(), Fail> {
     let bench = "det bench --engine pool --workers 2 1";
     one_row(&rt, &plain(bench, b"", End::Ret, SUMMARY_OF_ONE, ""));
     Ok(())
