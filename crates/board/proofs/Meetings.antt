@@ -7,7 +7,7 @@ use Rattle.std.specs.List.{All}
 use Rattle.std.specs.Prelude.{option_and_then}
 use Rattle.arrayvec.specs.ArrayVec.{ArrayVec}
 use Rattle.call_model.specs.declared.Call.{Call}
-use Rattle.call_model.specs.declared.Call.TheVariants.{Put, PutTree, Get, GetTree, Ret, ConsoleOut, ConsoleIn, Clock, Random, Fork, Wait, Tfork, Tjoin, File}
+use Rattle.call_model.specs.declared.Call.TheVariants.{Put, PutTree, Get, GetTree, Ret, ConsoleOut, ConsoleIn, Clock, Random, Fork, Wait, Tfork, Tjoin, Qstart, Qcommit, File}
 use Rattle.space_model.specs.Space.{Space, top_of, children_of, find}
 use Rattle.space_model.specs.Event.{next}
 use Rattle.space_model.specs.Meeting.{awaits}
@@ -56,6 +56,8 @@ whole_named Random n r is = cc
 whole_named (Fork child) n r is = cc
 whole_named (Tfork child) n r is = cc
 whole_named (Tjoin child) n r is = cc
+whole_named (Qstart first count quantum) n r is = cc
+whole_named (Qcommit first count) n r is = cc
 whole_named (File call) n r is = cc
 
 not_empty : (k : Call) → replaced k ≡ Some [] → ⊥
@@ -72,6 +74,8 @@ not_empty Random is = cc
 not_empty (Fork child) is = cc
 not_empty (Tfork child) is = cc
 not_empty (Tjoin child) is = cc
+not_empty (Qstart first count quantum) is = cc
+not_empty (Qcommit first count) is = cc
 not_empty (File call) is = cc
 
 -- so nothing goes on there

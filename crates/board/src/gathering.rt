@@ -141,7 +141,7 @@ pub(crate) fn gather(
 {
     list_way(&mut lists.run, &mut lists.calls, path)?;
     list_awaited(&mut lists.run, &mut lists.calls, path, call)?;
-    let all = awaits(call.call());
+    let all = awaits(call);
     let pages = &mut lists.pages;
     let run = &mut lists.run;
     let node = node_to_meet(&run.places, path, &all);

@@ -158,7 +158,7 @@ pub(crate) fn list_awaited(
     ensures calls { HasAll (Has calls.new) (Has calls.old) }
     ensures awaited { OnOk result (HasAwaited (HasAtHome run.new) (awaits call) path.now.items × HasAwaited (Has calls.new) (awaits call) path.now.items) }
 {
-    let all = awaits(call.call());
+    let all = awaits(call);
     for index in 0..all.len() {
         let awaited = all.get(index);
         list_child(run, calls, path, awaited.number)?;

@@ -1,18 +1,18 @@
 -- A call of registers that fail no test keeps what the tests ask, and is of the kind, with the children and levels, that its row tells.
-use Rattle.std.proofs.Common.{◌≡◌, ℕ, Bool, true, false, ◌&&◌, ◌||◌, List, [], ◌∷◌, Option, Some, None, if◌then◌else◌, refl, sym, subst, arith, ◌+◌, ◌-◌, ◌≤◌, nat_lt}
+use Rattle.std.proofs.Common.{◌≡◌, ℕ, zero, suc, ◌==◌, Bool, true, false, ◌&&◌, ◌||◌, List, [], ◌∷◌, Option, Some, None, if◌then◌else◌, refl, sym, subst, arith, ◌+◌, ◌-◌, ◌≤◌, nat_lt}
 use Rattle.std.proofs.lemmas.Bool.Decides.{nat_tests}
 use Rattle.call_model.specs.declared.Kind.{Kind}
-use Rattle.call_model.specs.declared.Kind.TheVariants.{Put, Get}
+use Rattle.call_model.specs.declared.Kind.TheVariants.{Put, Get, Qstart, Qcommit}
 use Rattle.call_model.specs.declared.Call.{Call}
 use Rattle.call_model.specs.declared.Row.{Row}
 use Rattle.call_model.specs.declared.Children.{Children}
 use Rattle.call_model.specs.declared.Children.TheVariants as children
 use Rattle.call_model.specs.declared.Ranges.{Ranges}
 use Rattle.call_model.specs.declared.Ranges.TheVariants as ranges
-use Rattle.call_model.specs.Calls.{row, wrong_options, wrong_child, wrong_children, wrong_ranges, wrong_place, wrong_lengths, wrong_depth, wrong_block, argument, new_levels, first_of, tests, first_failing, call_of, kind_in, children_in, levels_in}
+use Rattle.call_model.specs.Calls.{row, wrong_options, wrong_row, wrong_quantum, wrong_child, wrong_children, wrong_ranges, wrong_place, wrong_lengths, wrong_depth, wrong_block, argument, new_levels, first_of, tests, first_failing, call_of, kind_in, numbers_from, children_in, levels_in}
 use Rattle.call_model.specs.Options.{has, tree, has_two_changes, has_clash, wrong_put_options, wrong_get_options, passes_end}
-use Rattle.call_model.specs.Limits.{greatest_length, greatest_depth, IsChild, AreChildren}
-use Rattle.call_model.specs.Accepted.{IsAccepted, IsSpan}
+use Rattle.call_model.specs.Limits.{greatest_child, longest_row, greatest_length, greatest_depth, IsChild, AreChildren}
+use Rattle.call_model.specs.Accepted.{IsAccepted, IsSpan, IsRow}
 
 -- a call of this row fails no test
 pub record Passes (r : Row) (x : List ℕ) (root : Bool) (depth : ℕ) : Type 0 where
@@ -81,15 +81,32 @@ are_spans ranges.Two x ends long =
     (is_span (argument x 1) (argument x 2) e.0 l.0, is_span (argument x 3) (argument x 4) e.1 l.1)
 are_spans r x ends long = tt
 
+not_zero : (n : ℕ) → (n == 0) ≡ false → 1 ≤ n
+not_zero n h = grind (arith, nat_tests)
+
+is_row : (first count : ℕ) → wrong_row count ≡ false → (wrong_child first || nat_lt (greatest_child + 1) (first + count)) ≡ false → IsRow first count
+is_row first count long past =
+    let l = neither (count == 0) (nat_lt longest_row count) long in
+    let p = neither (wrong_child first) (nat_lt (greatest_child + 1) (first + count)) past in
+    record { some = not_zero count l.0; few = not_past longest_row count l.1; within = not_past (greatest_child + 1) (first + count) p.1 }
+
 named_kept : (kind : Kind) (x : List ℕ) (root : Bool) (depth : ℕ) → Passes (row kind) x root depth → IsAccepted (call_of kind x)
-unfolding wrong_options wrong_ranges wrong_block
+unfolding wrong_options wrong_children wrong_ranges wrong_block
 named_kept Put x root depth p = by_tree IsAccepted (has tree (argument x 0)) _ _ tt (p.options, record { changes = put_change (argument x 0) p.options; ranges = p.ranges; block = p.block })
 named_kept Get x root depth p = by_tree IsAccepted (has tree (argument x 0)) _ _ tt (p.options, record { changes = get_change (argument x 0) p.options; ranges = p.ranges; block = p.block })
+named_kept Qstart x root depth p =
+    let o = neither (wrong_row (argument x 2)) (wrong_quantum (argument x 3)) p.options in
+    (is_row (argument x 1) (argument x 2) o.0 p.children, not_zero (argument x 3) o.1)
+named_kept Qcommit x root depth p = is_row (argument x 1) (argument x 2) p.options p.children
 named_kept kind x root depth p = are_spans (row kind).ranges x p.ranges p.lengths
 
 -- registers that fail no test name a call that keeps what the tests ask
 pub named_accepted : (kind : Kind) (x : List ℕ) (root : Bool) (depth : ℕ) → first_failing kind x root depth ≡ None → IsAccepted (call_of kind x)
 named_accepted kind x root depth h = named_kept kind x root depth (passes (row kind) x root depth h)
+
+-- whose options stand
+pub named_options : (kind : Kind) (x : List ℕ) (root : Bool) (depth : ℕ) → first_failing kind x root depth ≡ None → wrong_options (row kind).options x ≡ false
+named_options kind x root depth h = (passes (row kind) x root depth h).options
 
 -- and whose children have numbers that fit
 pub named_child : (kind : Kind) (x : List ℕ) (root : Bool) (depth : ℕ) → first_failing kind x root depth ≡ None → wrong_children (row kind).children x ≡ false
@@ -124,6 +141,7 @@ levels_of_call kind x = sym (same_levels (has tree (argument x 0)) _)
 abbrev children_named : Children → List ℕ → List ℕ
 children_named children.One x = argument x 1 ∷ []
 children_named children.Tree x = if has tree (argument x 0) then argument x 1 ∷ argument x 3 ∷ argument x 4 ∷ [] else argument x 1 ∷ []
+children_named children.Row x = numbers_from (argument x 1) (argument x 2)
 children_named children.Nobody x = []
 
 fits : (n : ℕ) → wrong_child n ≡ false → IsChild n
@@ -136,10 +154,17 @@ tree_fits true a b c h =
     (fits a first.0, (fits b rest.0, (fits c rest.1, tt)))
 tree_fits false a b c h = (fits a (neither (wrong_child a) false h).0, tt)
 
+row_fits : (first count : ℕ) → first + count ≤ greatest_child + 1 → AreChildren (numbers_from first count)
+row_fits first zero h = tt
+row_fits first (suc count) h = (omega (arith, h), row_fits (first + 1) count (omega (arith, h)))
+
 children_fit : (c : Children) (x : List ℕ) → wrong_children c x ≡ false → AreChildren (children_named c x)
 unfolding wrong_children
 children_fit children.One x h = (fits (argument x 1) h, tt)
 children_fit children.Tree x h = tree_fits (has tree (argument x 0)) (argument x 1) (argument x 3) (argument x 4) h
+children_fit children.Row x h =
+    let last : argument x 1 + argument x 2 ≤ greatest_child + 1 = not_past (greatest_child + 1) (argument x 1 + argument x 2) (neither (wrong_child (argument x 1)) _ h).1 in
+    row_fits (argument x 1) (argument x 2) last
 children_fit children.Nobody x h = tt
 
 named_by_tree : (asked : Bool) (k l : Call) (ns ms : List ℕ) → children_in k ≡ ns → children_in l ≡ ms → children_in (if asked then k else l) ≡ (if asked then ns else ms)

@@ -1,7 +1,7 @@
 -- Calls, as registers x0 to x31 name them: a7 is the number of a call's kind, a0 to a6 are what it takes. A kind is a row of one table, by whose
 -- columns the tests go.
 -- Our choice: the numbers, which registers hold what, and the tests, their numbers and their order.
-use Rattle.std.specs.Prelude.{ℕ, ◌+◌, ◌==◌, Bool, true, false, not, ◌&&◌, ◌||◌, nat_lt, if◌then◌else◌, List, [], ◌∷◌, slice_index, Option, Some, None, Result, Ok, Err}
+use Rattle.std.specs.Prelude.{ℕ, zero, suc, ◌+◌, ◌==◌, Bool, true, false, not, ◌&&◌, ◌||◌, nat_lt, if◌then◌else◌, List, [], ◌∷◌, slice_index, Option, Some, None, Result, Ok, Err}
 use Rattle.std.specs.List.{find}
 use Rattle.call_model.specs.declared.TheConstants as numbers
 use Rattle.call_model.specs.declared.Kind.{Kind}
@@ -9,7 +9,7 @@ use Rattle.call_model.specs.declared.Kind.TheVariants as kinds
 use Rattle.call_model.specs.declared.Row.{Row}
 use Rattle.call_model.specs.declared.Options.{Options}
 use Rattle.call_model.specs.declared.Options.TheVariants as options
-use Rattle.call_model.specs.declared.Options.TheVariants.{Nothing, ChoiceInA3, ChoiceInA5}
+use Rattle.call_model.specs.declared.Options.TheVariants.{Nothing, ChoiceInA3, ChoiceInA5, RowAndQuantum}
 use Rattle.call_model.specs.declared.Children.{Children}
 use Rattle.call_model.specs.declared.Children.TheVariants.{Nobody}
 use Rattle.call_model.specs.declared.Children.TheVariants as children
@@ -18,10 +18,10 @@ use Rattle.call_model.specs.declared.Ranges.TheVariants.{Nowhere, Two, Pages}
 use Rattle.call_model.specs.declared.Ranges.TheVariants as ranges
 use Rattle.call_model.specs.declared.Transfer.{Transfer}
 use Rattle.call_model.specs.declared.Call.{Call}
-use Rattle.call_model.specs.declared.Call.TheVariants.{Put, PutTree, Get, GetTree, Ret, ConsoleOut, ConsoleIn, Clock, Random, Fork, Wait, Tfork, Tjoin, File}
+use Rattle.call_model.specs.declared.Call.TheVariants.{Put, PutTree, Get, GetTree, Ret, ConsoleOut, ConsoleIn, Clock, Random, Fork, Wait, Tfork, Tjoin, Qstart, Qcommit, File}
 use Rattle.call_model.specs.declared.FileCall.TheVariants as files
 use Rattle.call_model.specs.declared.Badcall.{Badcall}
-use Rattle.call_model.specs.Limits.{greatest_child, greatest_depth, greatest_length}
+use Rattle.call_model.specs.Limits.{greatest_child, longest_row, greatest_depth, greatest_length}
 use Rattle.call_model.specs.Options.{has, tree, wrong_put_options, wrong_get_options, wrong_pages, wrong_block_address, passes_end}
 
 -- ---- the table
@@ -43,6 +43,8 @@ row kinds.Fork = columns numbers.FORK Nothing children.One Nowhere false 1 1
 row kinds.Wait = columns numbers.WAIT Nothing children.One Nowhere false 0 0
 row kinds.Tfork = columns numbers.TFORK Nothing children.One Nowhere false 1 1
 row kinds.Tjoin = columns numbers.TJOIN Nothing children.One Nowhere false 0 0
+row kinds.Qstart = columns numbers.QSTART RowAndQuantum children.Row Nowhere false 0 0
+row kinds.Qcommit = columns numbers.QCOMMIT options.Row children.Row Nowhere false 0 0
 row kinds.FileNew = columns numbers.FILE_NEW ChoiceInA3 Nobody ranges.One false 0 0
 row kinds.FilePut = columns numbers.FILE_PUT ChoiceInA5 Nobody Two false 0 0
 row kinds.FileGet = columns numbers.FILE_GET Nothing Nobody Two false 0 0
@@ -52,7 +54,7 @@ row kinds.FileDelete = columns numbers.FILE_DELETE Nothing Nobody ranges.One fal
 abbrev pub all_kinds : List Kind
 all_kinds =
     kinds.Put ∷ kinds.Get ∷ kinds.Ret ∷ kinds.ConsoleOut ∷ kinds.ConsoleIn ∷ kinds.Clock ∷ kinds.Random ∷ kinds.Fork
-    ∷ kinds.Wait ∷ kinds.Tfork ∷ kinds.Tjoin ∷ kinds.FileNew ∷ kinds.FilePut ∷ kinds.FileGet ∷ kinds.FileLength ∷ kinds.FileDelete ∷ []
+    ∷ kinds.Wait ∷ kinds.Tfork ∷ kinds.Tjoin ∷ kinds.Qstart ∷ kinds.Qcommit ∷ kinds.FileNew ∷ kinds.FilePut ∷ kinds.FileGet ∷ kinds.FileLength ∷ kinds.FileDelete ∷ []
 
 abbrev pub number_of : Kind → ℕ
 number_of kind = (row kind).number
@@ -79,22 +81,34 @@ argument x n = slice_index x (10 + n)
 abbrev pub wrong_choice : ℕ → Bool
 wrong_choice n = nat_lt 1 n
 
--- options that do not stand, or do not stand together; or a choice that is none
+-- no number of children in a row
+abbrev pub wrong_row : ℕ → Bool
+wrong_row n = n == 0 || nat_lt longest_row n
+
+-- no quantum
+abbrev pub wrong_quantum : ℕ → Bool
+wrong_quantum n = n == 0
+
+-- options that do not stand, or do not stand together; a choice that is none; a row that is empty or too long; or no quantum
 unfoldable pub wrong_options : Options → List ℕ → Bool
 wrong_options options.Put x = wrong_put_options (argument x 0)
 wrong_options options.Get x = wrong_get_options (argument x 0)
 wrong_options ChoiceInA3 x = wrong_choice (argument x 3)
 wrong_options ChoiceInA5 x = wrong_choice (argument x 5)
+wrong_options options.Row x = wrong_row (argument x 2)
+wrong_options RowAndQuantum x = wrong_row (argument x 2) || wrong_quantum (argument x 3)
 wrong_options _ x = false
 
 -- no number of a child
 abbrev pub wrong_child : ℕ → Bool
 wrong_child n = nat_lt greatest_child n
 
--- a child number above the greatest: the one in a1, with Tree those of the child that is copied and the one that it is copied to as well
+-- a child number above the greatest: the one in a1, with Tree those of the child that is copied and the one that it is copied to as well, of a row
+-- the last one
 unfoldable pub wrong_children : Children → List ℕ → Bool
 wrong_children children.One x = wrong_child (argument x 1)
 wrong_children children.Tree x = wrong_child (argument x 1) || (has tree (argument x 0) && (wrong_child (argument x 3) || wrong_child (argument x 4)))
+wrong_children children.Row x = wrong_child (argument x 1) || nat_lt (greatest_child + 1) (argument x 1 + argument x 2)
 wrong_children _ x = false
 
 -- bytes that pass the end of memory, or ranges that do not suit the options
@@ -179,6 +193,8 @@ call_of kinds.Fork x = Fork (argument x 1)
 call_of kinds.Wait x = Wait (argument x 1)
 call_of kinds.Tfork x = Tfork (argument x 1)
 call_of kinds.Tjoin x = Tjoin (argument x 1)
+call_of kinds.Qstart x = Qstart (argument x 1) (argument x 2) (argument x 3)
+call_of kinds.Qcommit x = Qcommit (argument x 1) (argument x 2)
 call_of kinds.FileNew x = File (files.New (argument x 1) (argument x 2) (argument x 3 == 1))
 call_of kinds.FilePut x = File (files.Put (argument x 1) (argument x 2) (argument x 3) (argument x 4) (argument x 5 == 1))
 call_of kinds.FileGet x = File (files.Get (argument x 1) (argument x 2) (argument x 3) (argument x 4) (argument x 5))
@@ -200,11 +216,18 @@ kind_in (Fork child) = kinds.Fork
 kind_in (Wait child) = kinds.Wait
 kind_in (Tfork child) = kinds.Tfork
 kind_in (Tjoin child) = kinds.Tjoin
+kind_in (Qstart first count quantum) = kinds.Qstart
+kind_in (Qcommit first count) = kinds.Qcommit
 kind_in (File (files.New name n append)) = kinds.FileNew
 kind_in (File (files.Put name n addr len add)) = kinds.FilePut
 kind_in (File (files.Get name n addr len offset)) = kinds.FileGet
 kind_in (File (files.Length name n)) = kinds.FileLength
 kind_in (File (files.Delete name n)) = kinds.FileDelete
+
+-- so many numbers from this one on
+abbrev pub numbers_from : ℕ → ℕ → List ℕ
+numbers_from first zero = []
+numbers_from first (suc count) = first ∷ numbers_from (first + 1) count
 
 -- the numbers of children, and with Tree of a child's child, that a call names
 abbrev pub children_in : Call → List ℕ
@@ -216,6 +239,8 @@ children_in (Fork child) = child ∷ []
 children_in (Wait child) = child ∷ []
 children_in (Tfork child) = child ∷ []
 children_in (Tjoin child) = child ∷ []
+children_in (Qstart first count quantum) = numbers_from first count
+children_in (Qcommit first count) = numbers_from first count
 children_in k = []
 
 -- Put and Get with Tree

@@ -7,6 +7,10 @@ use Rattle.call_model.specs.declared.limits.TheConstants as limits
 abbrev pub greatest_child : ℕ
 greatest_child = limits.GREATEST_CHILD
 
+-- the most children that a call names in a row
+abbrev pub longest_row : ℕ
+longest_row = limits.LONGEST_ROW
+
 -- a number that a child may have
 abbrev pub IsChild : ℕ → Type 0
 IsChild n = n < greatest_child + 1

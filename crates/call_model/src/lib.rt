@@ -32,6 +32,8 @@ pub enum Kind {
     Wait,
     Tfork,
     Tjoin,
+    Qstart,
+    Qcommit,
     FileNew,
     FilePut,
     FileGet,
@@ -62,6 +64,10 @@ pub const TFORK: u32 = 18;
 
 pub const TJOIN: u32 = 19;
 
+pub const QSTART: u32 = 20;
+
+pub const QCOMMIT: u32 = 21;
+
 pub const FILE_NEW: u32 = 24;
 
 pub const FILE_PUT: u32 = 25;
@@ -85,6 +91,10 @@ pub enum Options {
     ChoiceInA3,
     /// Yes or no, by 1 or 0 in a5.
     ChoiceInA5,
+    /// How many children, 1 to 64, in a2.
+    Row,
+    /// The same, and a quantum in a3, 1 event or more.
+    RowAndQuantum,
 }
 
 /// The children that a call names by their numbers.
@@ -96,6 +106,8 @@ pub enum Children {
     One,
     /// The one in a1; with Tree among the options in a0, those in a3 and a4 too.
     Tree,
+    /// a2 of them, from the one in a1 on.
+    Row,
 }
 
 /// The ranges of memory that a call names. Addresses and lengths are in bytes.
@@ -194,6 +206,10 @@ pub enum Call {
     Tfork { child: u16 },
     /// Merges what a thread has changed since its snapshot into the caller's memory.
     Tjoin { child: u16 },
+    /// Gives a quantum, in events, and a copy of the memory that they share to each of `count` threads from number `first` on that waits for one.
+    Qstart { first: u16, count: u8, quantum: u32 },
+    /// Commits to the caller's memory what each of `count` threads from number `first` on has changed, by rising numbers.
+    Qcommit { first: u16, count: u8 },
     /// Makes, writes, reads or deletes a file.
     File(FileCall),
 }

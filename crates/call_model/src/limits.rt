@@ -3,6 +3,9 @@
 /// The greatest number of a child.
 pub const GREATEST_CHILD: u32 = 65_535;
 
+/// The most children that a call names in a row.
+pub const LONGEST_ROW: u32 = 64;
+
 /// The depth of the deepest spaces; the root is at depth 0.
 pub const GREATEST_DEPTH: u8 = 8;
 

@@ -46,7 +46,12 @@ fn wait_for_child(
 
 // What a call waits for is ready: each child that it names, one after the other, has run until it stopped, or settled.
 #[cycle(settle)]
-fn wait_for(runner: &mut Runner, call: Call, space: &mut Space, depth: u8) -> Result<(), AllocError>
+fn wait_for(
+    runner: &mut Runner,
+    call: AcceptedCall,
+    space: &mut Space,
+    depth: u8,
+) -> Result<(), AllocError>
     requires depth { depth ≤ greatest_depth }
     requires sound { IsSoundBelow (levels_below depth) space.old }
     ensures { OnOk result (space.new ≡ with_awaited (levels_below depth) call space.old) }
@@ -73,7 +78,7 @@ pub(crate) fn meet(
     ensures goes { OnOk result (GoesOn (levels_below depth) space.old space.new) }
     ensures devices { OnOk result (KeepsDevices space.old space.new) }
 {
-    wait_for(runner, call.call(), space, depth)?;
+    wait_for(runner, call, space, depth)?;
     user_runtime::meet(runner.alloc, call, depth, space)
 }
 

@@ -27,7 +27,7 @@ pub(crate) fn is_ready(children: &Children, awaited: Await) -> bool
 fn are_ready(call: AcceptedCall, children: &Children) -> bool
     ensures { result ≡ are_ready (awaits call) children.now }
 {
-    let all = awaits(call.call());
+    let all = awaits(call);
     for index in 0..all.len() {
         let awaited = all.get(index);
         if !is_ready(children, awaited) {

@@ -29,7 +29,7 @@ pub(crate) fn look_all_ready(call: AcceptedCall, children: &mut Children) -> boo
     ensures ready { result ≡ are_ready (awaits call) children.old }
     ensures same { children.new ≡ children.old }
 {
-    let all = awaits(call.call());
+    let all = awaits(call);
     for index in 0..all.len() {
         let awaited = all.get(index);
         if !look_ready(children, awaited) {

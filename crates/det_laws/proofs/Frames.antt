@@ -1,20 +1,23 @@
 -- A call reads and changes its caller's top and the children that it awaits, and nothing else. That it edits only what it awaits is the one
 -- fact that is told call by call, `action_within`; all others are of any meeting.
-use Rattle.std.proofs.Common.{◌≡◌, ℕ, ◌==◌, ◌≢◌, Bool, true, false, ◌||◌, ◌&&◌, List, [], ◌∷◌, Option, Some, None, refl, sym, ◌∙◌, ap, ap₂, arith, inl, inr, ◌⊎◌, true≢false}
+use Rattle.std.proofs.Common.{◌≡◌, ℕ, zero, suc, ◌+◌, ◌==◌, ◌≢◌, Bool, true, false, ◌||◌, ◌&&◌, List, [], ◌∷◌, ◌++◌, Option, Some, None, refl, sym, ◌∙◌, ap, ap₂, arith, inl, inr, ◌⊎◌, true≢false}
 use Rattle.std.proofs.lemmas.Bool.Decides.{nat_tests}
 use Rattle.std.proofs.lemmas.Bool.{cases_eq, and_parts}
-use Rattle.std.specs.Prelude.{option_map}
+use Rattle.std.specs.Prelude.{option_map, if◌then◌else◌}
+use Rattle.memory_model.specs.Memory.{Memory}
 use Rattle.call_model.specs.declared.Call.{Call}
-use Rattle.call_model.specs.declared.Call.TheVariants.{GetTree}
+use Rattle.call_model.specs.declared.Call.TheVariants.{GetTree, Qstart, Qcommit}
 use Rattle.space_model.specs.declared.Reach.{Reach}
 use Rattle.space_model.specs.declared.Reach.TheVariants.{Itself, Whole}
 use Rattle.space_model.specs.declared.Await.{Await}
 use Rattle.space_model.specs.declared.Refusal.{Refusal}
 use Rattle.space_model.specs.Space.{Space, space, Children, Top, children_of, find, over, put_child}
 use Rattle.space_model.specs.Path.{under}
-use Rattle.space_model.specs.Call.{Seen, Edit, change, place, take_away, Meeting, see, seen_of, first_space, below, copy_to, edit, edit_all}
+use Rattle.space_model.specs.Call.{Edit, change, place, take_away, Meeting, see, seen_of, below, copy_to, edit, edit_all}
 use Rattle.space_model.specs.Refusals.{first_refusal}
-use Rattle.space_model.specs.Meeting.{awaits, whole, refusals, action, unless_refused, meeting, meet}
+use Rattle.space_model.specs.Quanta.{Thread, waits, threads, after_start, starts, renewal, renewals}
+use Rattle.space_model.specs.Part.{snapshot_part}
+use Rattle.space_model.specs.Meeting.{awaits, itself, whole, in_row, refusals, action, unless_refused, meeting, meet}
 use Rattle.det_laws.specs.Near.{is_awaited}
 use Rattle.space_model.proofs.Children.{find-over_other, find-over_same, over-put_other, over-put_same, put-over_same, over-remove_other, find-put_other, find-put_same, find-remove_other}
 
@@ -44,18 +47,66 @@ copy_within n (Some s) as' h = rw h refl
 second_whole : (n m : ℕ) → is_awaited_whole m (whole n ∷ whole m ∷ []) ≡ true
 second_whole n m = grind (arith, nat_tests)
 
+-- threads whose numbers are awaited
+abbrev AreAwaited : List Await → List Thread → Type 0
+AreAwaited all [] = Unit {0}
+AreAwaited all (c ∷ cs) = (is_awaited c.number all ≡ true) × AreAwaited all cs
+
+first_of_row : (first : ℕ) (others : List Await) → is_awaited first (itself first ∷ others) ≡ true
+first_of_row first others = grind (arith, nat_tests)
+
+or_later : (b c : Bool) → c ≡ true → (b || c) ≡ true
+or_later true c h = refl
+or_later false c h = h
+
+-- the threads of a row are awaited, with others or alone
+threads_awaited : (all : List Await) (first count : ℕ) (cs : Children) → ((n : ℕ) → is_awaited n (in_row first count) ≡ true → is_awaited n all ≡ true)
+    → AreAwaited all (threads first (seen_of (in_row first count) cs))
+threads_awaited all first zero cs within = tt
+threads_awaited all first (suc count) cs within =
+    go (find first cs) refl (within first (first_of_row first (in_row (first + 1) count))) (threads_awaited all (first + 1) count cs (λ n h. within n (or_later (n == first) (is_awaited n (in_row (first + 1) count)) h)))
+  where
+    go : (o : Option Space) → find first cs ≡ o → is_awaited first all ≡ true → AreAwaited all (threads (first + 1) (seen_of (in_row (first + 1) count) cs))
+        → AreAwaited all (threads first (seen_of (in_row first (suc count)) cs))
+    go None is here rest = rw is rest
+    go (Some (space t ds)) is here rest = rw is (here, rest)
+
+-- an edit, where there is one, before others
+first_within : (b : Bool) (e : Edit) (es : List Edit) (all : List Await) → is_within all e ≡ true → are_within all es ≡ true → are_within all ((if b then e ∷ [] else []) ++ es) ≡ true
+first_within true e es all one others = rw (one, others) refl
+first_within false e es all one others = others
+
+starts_within : (all : List Await) (quantum : ℕ) (t : Top) (cs : List Thread) → AreAwaited all cs → are_within all (starts quantum t cs) ≡ true
+starts_within all quantum t [] each = refl
+starts_within all quantum t (c ∷ cs) each =
+    first_within (waits c.top.status) (change c.number (after_start quantum t c.top)) (starts quantum t cs) all each.0 (starts_within all quantum t cs each.1)
+
+renewal_within : (all : List Await) (c : Thread) (o : Option Memory) (es : List Edit) → is_awaited c.number all ≡ true → are_within all es ≡ true → are_within all (renewal c o ++ es) ≡ true
+renewal_within all c None es one others = others
+renewal_within all c (Some snapshot) es one others = rw (one, others) refl
+
+renewals_within : (all : List Await) (cs : List Thread) → AreAwaited all cs → are_within all (renewals cs) ≡ true
+renewals_within all [] each = refl
+renewals_within all (c ∷ cs) each = renewal_within all c c.top.snapshot (renewals cs) each.0 (renewals_within all cs each.1)
+
 -- what a call edits is awaited
-action_within : (k : Call) (t : Top) (seen : List Seen) → are_within (awaits k) (action k t seen).edits ≡ true
-action_within (GetTree child from to) t seen = copy_within to (find from (below (first_space seen))) (awaits (GetTree child from to)) (second_whole child to)
-action_within k t seen = grind (arith, nat_tests)
+action_within : (k : Call) (t : Top) (cs : Children) → are_within (awaits k) (action k t (seen_of (awaits k) cs)).edits ≡ true
+action_within (GetTree child from to) t cs = copy_within to (find from (below (find child cs))) (awaits (GetTree child from to)) (second_whole child to)
+action_within (Qstart first count quantum) t cs =
+    starts_within (in_row first count) quantum t (threads first (seen_of (in_row first count) cs)) (threads_awaited (in_row first count) first count cs (λ n h. h))
+action_within (Qcommit first count) t cs =
+    renewals_within (in_row first count) (threads first (seen_of (in_row first count) cs)) (threads_awaited (in_row first count) first count cs (λ n h. h))
+action_within k t cs = grind (arith, nat_tests)
 
 unless_within : (o : Option Refusal) (t : Top) (m : Meeting) (as' : List Await) → are_within as' m.edits ≡ true
     → are_within as' (unless_refused o t m).edits ≡ true
 unless_within None t m as' h = h
 unless_within (Some r) t m as' h = refl
 
-pub meeting_within : (levels : ℕ) (k : Call) (t : Top) (seen : List Seen) → are_within (awaits k) (meeting levels k t seen).edits ≡ true
-meeting_within levels k t seen = unless_within (first_refusal (refusals levels k t seen)) t (action k t seen) (awaits k) (action_within k t seen)
+pub meeting_within : (levels : ℕ) (k : Call) (t : Top) (cs : Children) → are_within (awaits k) (meeting levels k t (seen_of (awaits k) cs)).edits ≡ true
+meeting_within levels k t cs =
+    let seen = seen_of (awaits k) cs in
+    unless_within (first_refusal (refusals levels k t seen)) t (action k t seen) (awaits k) (action_within k t cs)
 
 pub awaited_whole : (n : ℕ) (as' : List Await) → is_awaited n as' ≡ false → is_awaited_whole n as' ≡ false
 awaited_whole n [] un = refl
@@ -101,13 +152,13 @@ pub meet_other : (levels : ℕ) (k : Call) (t : Top) (n : ℕ) (f : Space → Sp
 meet_other levels k t n f cs un =
     let m = meeting levels k t (seen_of (awaits k) cs) in
     ap (λ ss. space (meeting levels k t ss).caller (edit_all (meeting levels k t ss).edits (over n f cs))) (seen_other (awaits k) n f cs un)
-    ∙ ap (space m.caller) (edits_other m.edits (awaits k) n f cs un (meeting_within levels k t (seen_of (awaits k) cs)))
+    ∙ ap (space m.caller) (edits_other m.edits (awaits k) n f cs un (meeting_within levels k t cs))
 
 pub find-meet_other : (levels : ℕ) (k : Call) (t : Top) (n : ℕ) (cs : Children) → is_awaited n (awaits k) ≡ false
     → find n (children_of (meet levels k t cs)) ≡ find n cs
 find-meet_other levels k t n cs un =
     let seen = seen_of (awaits k) cs in
-    find-edits_other (meeting levels k t seen).edits (awaits k) n cs un (meeting_within levels k t seen)
+    find-edits_other (meeting levels k t seen).edits (awaits k) n cs un (meeting_within levels k t cs)
 
 see_below : (g : Children → Children) (o : Option Space) → see Itself (option_map (under g) o) ≡ see Itself o
 see_below g None = refl
@@ -174,5 +225,5 @@ pub meet_below : (levels : ℕ) (k : Call) (t : Top) (n : ℕ) (g : Children →
 meet_below levels k t n g cs c un is =
     let seen = seen_of (awaits k) cs in
     let m = meeting levels k t seen in
-    let b = edits_below m.edits (awaits k) n g cs c un (meeting_within levels k t seen) is in
+    let b = edits_below m.edits (awaits k) n g cs c un (meeting_within levels k t cs) is in
     (ap (λ ss. space (meeting levels k t ss).caller (edit_all (meeting levels k t ss).edits (over n (under g) cs))) (seen_below (awaits k) n g cs un) ∙ ap (space m.caller) b.0, b.1)

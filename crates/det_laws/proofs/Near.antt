@@ -1,10 +1,11 @@
 -- What an event at a path lets happen: nothing but on the way to it, and in the children that its call awaits.
-use Rattle.std.proofs.Common.{◌≡◌, ℕ, zero, suc, pred, ◌-◌, ◌==◌, ◌≢◌, Bool, true, false, cond, ◌||◌, ◌&&◌, List, [], ◌∷◌, length, Option, Some, None, refl, sym, ◌∙◌, ap, ap₂, arith, inl, inr, ◌⊎◌, subst, true≢false}
+use Rattle.std.proofs.Common.{◌≡◌, ℕ, zero, suc, pred, ◌-◌, ◌+◌, ◌==◌, ◌≢◌, Bool, true, false, cond, ◌||◌, ◌&&◌, List, [], ◌∷◌, ◌++◌, length, Option, Some, None, refl, sym, ◌∙◌, ap, ap₂, arith, inl, inr, ◌⊎◌, subst, true≢false}
 use Rattle.std.proofs.lemmas.Bool.Decides.{nat_tests}
 use Rattle.std.proofs.lemmas.Bool.{cases_eq, and_parts}
-use Rattle.std.specs.Prelude.{option_map, option_and_then}
+use Rattle.std.specs.Prelude.{option_map, option_and_then, if◌then◌else◌}
+use Rattle.memory_model.specs.Memory.{Memory}
 use Rattle.call_model.specs.declared.Call.{Call}
-use Rattle.call_model.specs.declared.Call.TheVariants.{Put, PutTree, Get, GetTree, Fork, Wait, Tfork, Tjoin}
+use Rattle.call_model.specs.declared.Call.TheVariants.{Put, PutTree, Get, GetTree, Fork, Wait, Tfork, Tjoin, Qstart, Qcommit}
 use Rattle.space_model.specs.declared.Await.{Await}
 use Rattle.space_model.specs.declared.Reach.TheVariants.{Whole}
 use Rattle.space_model.specs.declared.Refusal.{Refusal}
@@ -14,7 +15,8 @@ use Rattle.space_model.specs.Path.{at, with_top}
 use Rattle.space_model.specs.Call.{Seen, Edit, change, place, take_away, Meeting, seen_of, below, copy_to, edit, edit_all}
 use Rattle.space_model.specs.Refusals.{first_refusal}
 use Rattle.space_model.specs.Event.{NextEvent, rests, moves, meets, next}
-use Rattle.space_model.specs.Meeting.{awaits, itself, or_fresh, space_or_fresh, with_copy, refusals, action, unless_refused, meeting, meet}
+use Rattle.space_model.specs.Quanta.{Thread, waits, threads, after_start, starts, renewal, renewals}
+use Rattle.space_model.specs.Meeting.{awaits, itself, in_row, or_fresh, space_or_fresh, with_copy, refusals, action, unless_refused, meeting, meet}
 use Rattle.space_model.specs.Sound.{IsSoundAt, AreSound}
 use Rattle.space_model.proofs.Children.{find-over_other, find-over_same, find-put_same, find-put_other, find-remove_other}
 use Rattle.space_model.proofs.Settled.{both, unite, settled_put, settled_remove}
@@ -111,6 +113,20 @@ abbrev PlacesOne : List Await → List Edit → Type 0
 PlacesOne all [] = Unit {0}
 PlacesOne all (e ∷ es) = Places all e × (es ≡ [])
 
+-- it changes tops alone, none of a child that it awaits whole
+abbrev IsChange : List Await → Edit → Type 0
+IsChange all (change n t) = is_awaited_whole n all ≡ false
+IsChange all (place n s) = ⊥
+IsChange all (take_away n) = ⊥
+
+abbrev AreChanges : List Await → List Edit → Type 0
+AreChanges all [] = Unit {0}
+AreChanges all (e ∷ es) = IsChange all e × AreChanges all es
+
+-- every call does the one or the other
+abbrev PlacesOrChanges : List Await → List Edit → Type 0
+PlacesOrChanges all es = PlacesOne all es ⊎ AreChanges all es
+
 settled_children : (o : Option Space) → is_ready Whole o ≡ true → are_settled (below o) ≡ true
 settled_children None h = refl
 settled_children (Some (space t cs)) h = settled_below t cs h
@@ -134,25 +150,55 @@ copies_settled n (Some s) all each = (each s refl, refl)
 itself_not_whole : (n : ℕ) → is_awaited_whole n (itself n ∷ []) ≡ false
 itself_not_whole n = grind (arith, nat_tests)
 
-action_places : (k : Call) (t : Top) (cs : Children) → are_ready (awaits k) cs ≡ true → PlacesOne (awaits k) (action k t (seen_of (awaits k) cs)).edits
-action_places (Put x) t cs ready = (itself_not_whole x.child, refl)
+-- in a row none is awaited whole
+neither_whole : (b c : Bool) → c ≡ false → ((b && false) || c) ≡ false
+neither_whole true c h = h
+neither_whole false c h = h
+
+row_not_whole : (n first count : ℕ) → is_awaited_whole n (in_row first count) ≡ false
+row_not_whole n first zero = refl
+row_not_whole n first (suc count) = neither_whole (n == first) (is_awaited_whole n (in_row (first + 1) count)) (row_not_whole n (first + 1) count)
+
+first_change : (b : Bool) (e : Edit) (es : List Edit) (all : List Await) → IsChange all e → AreChanges all es → AreChanges all ((if b then e ∷ [] else []) ++ es)
+first_change true e es all one others = (one, others)
+first_change false e es all one others = others
+
+starts_change : (all : List Await) (quantum : ℕ) (t : Top) (cs : List Thread) → ((n : ℕ) → is_awaited_whole n all ≡ false) → AreChanges all (starts quantum t cs)
+starts_change all quantum t [] none = tt
+starts_change all quantum t (c ∷ cs) none =
+    first_change (waits c.top.status) (change c.number (after_start quantum t c.top)) (starts quantum t cs) all (none c.number) (starts_change all quantum t cs none)
+
+renewal_change : (all : List Await) (c : Thread) (o : Option Memory) (es : List Edit) → is_awaited_whole c.number all ≡ false → AreChanges all es → AreChanges all (renewal c o ++ es)
+renewal_change all c None es one others = others
+renewal_change all c (Some snapshot) es one others = (one, others)
+
+renewals_change : (all : List Await) (cs : List Thread) → ((n : ℕ) → is_awaited_whole n all ≡ false) → AreChanges all (renewals cs)
+renewals_change all [] none = tt
+renewals_change all (c ∷ cs) none = renewal_change all c c.top.snapshot (renewals cs) (none c.number) (renewals_change all cs none)
+
+action_places : (k : Call) (t : Top) (cs : Children) → are_ready (awaits k) cs ≡ true → PlacesOrChanges (awaits k) (action k t (seen_of (awaits k) cs)).edits
+action_places (Put x) t cs ready = inl (itself_not_whole x.child, refl)
 action_places (PutTree number from to) t cs ready =
     let first : is_ready Whole (find number cs) ≡ true = (and_parts _ _ ready).0 in
     let second : is_ready Whole (find from cs) ≡ true = (and_parts _ _ (and_parts _ _ ready).1).0 in
-    (copied_settled to (find from cs) (or_fresh t (option_map top_of (find number cs))) (below (find number cs)) second (stopped_or_fresh t (find number cs) first) (settled_children (find number cs) first), refl)
+    inl (copied_settled to (find from cs) (or_fresh t (option_map top_of (find number cs))) (below (find number cs)) second (stopped_or_fresh t (find number cs) first) (settled_children (find number cs) first), refl)
 action_places (GetTree number from to) t cs ready =
     let first : is_ready Whole (find number cs) ≡ true = (and_parts _ _ ready).0 in
-    copies_settled to (find from (below (find number cs))) (awaits (GetTree number from to)) (λ s is. find_settled from (below (find number cs)) s (settled_children (find number cs) first) is)
-action_places (Fork number) t cs ready = (itself_not_whole number, refl)
-action_places (Wait number) t cs ready = (tt, refl)
-action_places (Tfork number) t cs ready = (itself_not_whole number, refl)
-action_places k t cs ready = tt
+    inl (copies_settled to (find from (below (find number cs))) (awaits (GetTree number from to)) (λ s is. find_settled from (below (find number cs)) s (settled_children (find number cs) first) is))
+action_places (Fork number) t cs ready = inl (itself_not_whole number, refl)
+action_places (Wait number) t cs ready = inl (tt, refl)
+action_places (Tfork number) t cs ready = inl (itself_not_whole number, refl)
+action_places (Qstart first count quantum) t cs ready =
+    inr (starts_change (in_row first count) quantum t (threads first (seen_of (in_row first count) cs)) (λ n. row_not_whole n first count))
+action_places (Qcommit first count) t cs ready =
+    inr (renewals_change (in_row first count) (threads first (seen_of (in_row first count) cs)) (λ n. row_not_whole n first count))
+action_places k t cs ready = inl tt
 
-unless_places : (o : Option Refusal) (t : Top) (m : Meeting) (all : List Await) → PlacesOne all m.edits → PlacesOne all (unless_refused o t m).edits
+unless_places : (o : Option Refusal) (t : Top) (m : Meeting) (all : List Await) → PlacesOrChanges all m.edits → PlacesOrChanges all (unless_refused o t m).edits
 unless_places None t m all h = h
-unless_places (Some r) t m all h = tt
+unless_places (Some r) t m all h = inl tt
 
-meeting_places : (levels : ℕ) (k : Call) (t : Top) (cs : Children) → are_ready (awaits k) cs ≡ true → PlacesOne (awaits k) (meeting levels k t (seen_of (awaits k) cs)).edits
+meeting_places : (levels : ℕ) (k : Call) (t : Top) (cs : Children) → are_ready (awaits k) cs ≡ true → PlacesOrChanges (awaits k) (meeting levels k t (seen_of (awaits k) cs)).edits
 meeting_places levels k t cs ready =
     let seen = seen_of (awaits k) cs in
     unless_places (first_refusal (refusals levels k t seen)) t (action k t seen) (awaits k) (action_places k t cs ready)
@@ -198,11 +244,25 @@ places_settled [] all levels fuel least n cs sound whole one before d is = befor
 places_settled (e ∷ es) all levels fuel least n cs sound whole one before d is =
     place_settled e all levels fuel least n cs sound whole one.0 before d (ap (λ xs. find n (edit_all xs (edit e cs))) (sym one.1) ∙ is)
 
+changes_settled : (es : List Edit) (all : List Await) (n : ℕ) (cs : Children) → is_awaited_whole n all ≡ true → AreChanges all es
+    → ((d : Space) → find n cs ≡ Some d → is_settled d ≡ true) → (d : Space) → find n (edit_all es cs) ≡ Some d → is_settled d ≡ true
+changes_settled [] all n cs whole each before d is = before d is
+changes_settled (change m t ∷ es) all n cs whole each before d is =
+    let ne : m ≢ n = differs m n all is_awaited_whole each.0 whole in
+    changes_settled es all n (edit (change m t) cs) whole each.1 (λ c found. before c (sym (find-put_other n m (space t (below (find m cs))) cs (λ e. ne (sym e))) ∙ found)) d is
+changes_settled (place m s ∷ es) all n cs whole each before d is = absurd each.0
+changes_settled (take_away m ∷ es) all n cs whole each before d is = absurd each.0
+
+either_settled : (es : List Edit) (all : List Await) (levels fuel least n : ℕ) (cs : Children) → AreSound levels fuel least cs → is_awaited_whole n all ≡ true → PlacesOrChanges all es
+    → ((d : Space) → find n cs ≡ Some d → is_settled d ≡ true) → (d : Space) → find n (edit_all es cs) ≡ Some d → is_settled d ≡ true
+either_settled es all levels fuel least n cs sound whole (inl one) before d is = places_settled es all levels fuel least n cs sound whole one before d is
+either_settled es all levels fuel least n cs sound whole (inr each) before d is = changes_settled es all n cs whole each before d is
+
 -- a child that is awaited whole has settled after the call as well
 pub whole_settled : (levels fuel : ℕ) (k : Call) (u : Top) (n : ℕ) (cs : Children) (d : Space) → AreSound levels fuel 0 cs → are_ready (awaits k) cs ≡ true
     → is_awaited_whole n (awaits k) ≡ true → find n (children_of (meet levels k u cs)) ≡ Some d → is_settled d ≡ true
 whole_settled levels fuel k u n cs d sound ready whole is =
-    places_settled (meeting levels k u (seen_of (awaits k) cs)).edits (awaits k) levels fuel 0 n cs sound whole (meeting_places levels k u cs ready)
+    either_settled (meeting levels k u (seen_of (awaits k) cs)).edits (awaits k) levels fuel 0 n cs sound whole (meeting_places levels k u cs ready)
     (λ c found. awaited_settled (awaits k) n cs c whole ready found) d is
 
 through : (n m : ℕ) (p : List ℕ) (o : Option Space) → option_and_then (at (m ∷ p)) o ≡ option_and_then (at p) (find m (below o))
@@ -217,7 +277,7 @@ deep_stays : (n m : ℕ) (p : List ℕ) (levels fuel : ℕ) (k : Call) (u : Top)
     → is_enabled (n ∷ m ∷ p) levels (meet levels k u cs) ≡ true → option_and_then (at (m ∷ p)) (find n (children_of (meet levels k u cs))) ≡ option_and_then (at (m ∷ p)) (find n cs)
 deep_stays n m p levels fuel k u cs false un sound ready may =
     let seen = seen_of (awaits k) cs in
-    through_same m p (find n (children_of (meet levels k u cs))) (find n cs) (edits_stay (meeting levels k u seen).edits (awaits k) n cs un (meeting_within levels k u seen))
+    through_same m p (find n (children_of (meet levels k u cs))) (find n cs) (edits_stay (meeting levels k u seen).edits (awaits k) n cs un (meeting_within levels k u cs))
 deep_stays n m p levels fuel k u cs true whole sound ready may =
     let d = child_there (is_enabled (m ∷ p) (pred levels)) (find n (children_of (meet levels k u cs))) may in
     absurd (settled_rests (m ∷ p) (pred levels) d.0 (whole_settled levels fuel k u n cs d.0 sound ready whole d.1) d.2)
@@ -289,7 +349,7 @@ stays_by_meeting n p levels fuel k t u cs sound ready may =
         → top_at (n ∷ m ∷ r) (meet levels k u cs) ≡ top_at (n ∷ m ∷ r) (space t cs)
     below_same c found false un m r may =
         let seen = seen_of (awaits k) cs in
-        ap (option_map top_of) (through_same m r (find n (children_of (meet levels k u cs))) (find n cs) (edits_stay (meeting levels k u seen).edits (awaits k) n cs un (meeting_within levels k u seen)))
+        ap (option_map top_of) (through_same m r (find n (children_of (meet levels k u cs))) (find n cs) (edits_stay (meeting levels k u seen).edits (awaits k) n cs un (meeting_within levels k u cs)))
     below_same c found true whole m r may = absurd (settled_rests (m ∷ r) (pred levels) c (awaited_settled (awaits k) n cs c whole ready found) may)
 
     go : (c : Space) → find n cs ≡ Some c → (b : Bool) → is_awaited n (awaits k) ≡ b → (r : List ℕ) → is_enabled r (pred levels) c ≡ true

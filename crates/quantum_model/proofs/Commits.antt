@@ -6,7 +6,7 @@ use Rattle.memory_model.specs.Memory.{Memory, byte_at, permission_at}
 use Rattle.merge_model.specs.Merge.{is_changed, merged_byte, with_merge}
 use Rattle.merge_model.proofs.Merges.{byte_at-with_merge, byte_at-with_merge_out}
 use Rattle.space_model.specs.Runtime.{shared_pages}
-use Rattle.quantum_model.specs.Commit.{Written, over, commits, changes, shared_end, NoneChanges}
+use Rattle.space_model.specs.Commit.{Written, over, commits, changes, shared_end, NoneChanges}
 
 by_change : (t : Bool) (x y : ℕ) → t ≡ true → (if t then x else y) ≡ x
 by_change t x y e = rw e refl

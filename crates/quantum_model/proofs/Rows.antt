@@ -4,7 +4,8 @@ use Rattle.std.proofs.Common.{refl, sym, ap, ◌∙◌}
 use Rattle.space_model.specs.Space.{Space, Children, Top, top_of, find}
 use Rattle.space_model.specs.Call.{Seen, sees_top, seen_of}
 use Rattle.space_model.specs.Meeting.{in_row}
-use Rattle.quantum_model.specs.Quanta.{Thread, threads, threads_in}
+use Rattle.space_model.specs.Quanta.{Thread, threads}
+use Rattle.quantum_model.specs.Rows.{threads_in}
 
 -- where the first is missing
 pub row_missing : (first count : ℕ) (cs : Children) → find first cs ≡ None → threads_in first (suc count) cs ≡ threads_in (first + 1) count cs

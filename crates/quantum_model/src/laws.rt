@@ -2,7 +2,7 @@
 
 ghost use Rattle.std.specs.Prelude.{◌≡◌, ◌≤◌, ◌<◌, ◌++◌, ◌∷◌, ℕ, List, true};
 ghost use Rattle.memory_model.specs.Memory.{Memory, byte_at, permission_at};
-ghost use Rattle.quantum_model.specs.Commit.{Written, commits, changes, shared_end, NoneChanges};
+ghost use Rattle.space_model.specs.Commit.{Written, commits, changes, shared_end, NoneChanges};
 
 /// Of the threads that changed a shared byte the last one decides, and where none did the byte stays.
 pub fn last_change_stays()

@@ -10,8 +10,9 @@ use Rattle.space_model.specs.Part.{snapshot_part}
 use Rattle.space_model.specs.Runtime.{shared_pages}
 use Rattle.space_model.proofs.Children.{find-over_other, over-at, over_itself, over_missing}
 use Rattle.space_model.proofs.Entries.{put_there}
-use Rattle.quantum_model.specs.Commit.{commits}
-use Rattle.quantum_model.specs.Quanta.{after_start, count_waiting, renewal, renewals, starts, threads_in, waits, with_commit, with_start, writings}
+use Rattle.space_model.specs.Commit.{commits}
+use Rattle.space_model.specs.Quanta.{after_start, count_waiting, renewal, renewals, starts, waits, writings}
+use Rattle.quantum_model.specs.Rows.{threads_in, with_commit, with_start}
 use Rattle.quantum_model.proofs.Rows.{row_missing, row_there}
 use Rattle.quantum_sched.specs.Rows.{Ready, renewal_of, renewals_of, renewed, renewed_space, start_of, starts_of, with_each, with_ready}
 

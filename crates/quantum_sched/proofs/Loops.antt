@@ -5,8 +5,9 @@ use Rattle.std.proofs.Common.{refl, sym, ap, ◌∙◌, arith, append_assoc}
 use Rattle.std.proofs.lemmas.List.{append-nil}
 use Rattle.memory_model.specs.Memory.{Memory}
 use Rattle.space_model.specs.Space.{Space, Children, find}
-use Rattle.quantum_model.specs.Commit.{commits}
-use Rattle.quantum_model.specs.Quanta.{Thread, count_waiting, threads_in, writings}
+use Rattle.space_model.specs.Commit.{commits}
+use Rattle.space_model.specs.Quanta.{Thread, count_waiting, writings}
+use Rattle.quantum_model.specs.Rows.{threads_in}
 use Rattle.quantum_model.proofs.Commits.{in_parts}
 use Rattle.quantum_model.proofs.Rows.{row_missing, row_there}
 use Rattle.quantum_sched.specs.Rows.{thread_at}

@@ -9,7 +9,7 @@ use Rattle.space_model.specs.Part.{Part, start_part}
 use Rattle.space_model.specs.Runtime.{shared_pages}
 use Rattle.space_mem.specs.Held.{Held}
 use Rattle.snapshot.specs.Pages.{OwnsChanged}
-use Rattle.quantum_model.specs.Quanta.{Thread, waits}
+use Rattle.space_model.specs.Quanta.{Thread, waits}
 
 -- a memory for the thread of a number
 abbrev pub Ready : Type 0

@@ -2,8 +2,9 @@ ghost use Rattle.std.specs.Prelude.{◌≡◌, ℕ, ◌+◌, ◌≤◌, ◌++◌
 ghost use Rattle.space_model.specs.Event.{MayPay};
 ghost use Rattle.space_model.specs.Space.{find, top_of};
 ghost use Rattle.space_mem.specs.Held.{Marks, Owns};
-ghost use Rattle.quantum_model.specs.Commit.{commits};
-ghost use Rattle.quantum_model.specs.Quanta.{threads_in, with_commit, writings, written_since};
+ghost use Rattle.space_model.specs.Commit.{commits};
+ghost use Rattle.space_model.specs.Quanta.{writings, written_since};
+ghost use Rattle.quantum_model.specs.Rows.{threads_in, with_commit};
 ghost use Rattle.quantum_sched.specs.Rows.{OwnsAt, OwnsRow, OwnsWritten, renewals_of, thread_at, with_each};
 
 use crate::prepared::{Prepared, give_each};

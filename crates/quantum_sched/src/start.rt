@@ -3,7 +3,7 @@ ghost use Rattle.memory_model.specs.Ranges.{with_copies};
 ghost use Rattle.space_model.specs.Event.{MayPay};
 ghost use Rattle.space_model.specs.Runtime.{shared_pages};
 ghost use Rattle.space_model.specs.Space.{find, top_of};
-ghost use Rattle.quantum_model.specs.Quanta.{threads_in, with_start};
+ghost use Rattle.quantum_model.specs.Rows.{threads_in, with_start};
 ghost use Rattle.quantum_sched.specs.Rows.{starts_of, thread_at, with_each};
 
 use crate::prepared::{Prepared, give_each};

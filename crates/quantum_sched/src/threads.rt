@@ -1,8 +1,9 @@
 ghost use Rattle.std.specs.Prelude.{◌≡◌, ◌+◌, ◌≤◌, ◌^◌};
 ghost use Rattle.space_model.specs.Space.{find};
 ghost use Rattle.space_model.specs.Runtime.{shared_pages};
-ghost use Rattle.quantum_model.specs.Quanta as model;
-ghost use Rattle.quantum_model.specs.Quanta.{count_waiting, threads_in};
+ghost use Rattle.space_model.specs.Quanta as model;
+ghost use Rattle.space_model.specs.Quanta.{count_waiting};
+ghost use Rattle.quantum_model.specs.Rows.{threads_in};
 ghost use Rattle.quantum_sched.specs.Rows.{thread_at};
 
 use space_tree::{Cause, Children, Pages, Status, Top};

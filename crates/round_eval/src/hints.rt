@@ -107,7 +107,7 @@ impl Hints {
 
     /// A call of the space at a path has met its children: those that it waited for may run.
     pub(crate) fn met_below(&mut self, path: &Path, call: AcceptedCall) -> Result<(), AllocError> {
-        let all = awaits(call.call());
+        let all = awaits(call);
         for index in 0..all.len() {
             let awaited = all.get(index);
             let mut child = path.clone()?;

@@ -2,11 +2,12 @@
 -- Forms for callers: `find_sound` is of a child that was found, `over_sound` and `put_sound` of one that was changed or put,
 -- `with_top_sound` and `with_space_sound` of what stands at a path, `height_within` of how many levels of children there are,
 -- and `meet_sound` of a call.
-use Rattle.std.proofs.Common.{◌≡◌, ℕ, zero, suc, pred, ◌+◌, ◌-◌, ◌==◌, ◌≤◌, ◌<◌, ◌≢◌, Bool, true, false, cond, List, [], ◌∷◌, length, get_or, Option, Some, None, refl, ap, ap₂, ◌∙◌, subst, arith, nat_lt}
+use Rattle.std.proofs.Common.{◌≡◌, ℕ, zero, suc, pred, ◌+◌, ◌-◌, ◌==◌, ◌≤◌, ◌<◌, ◌≢◌, Bool, true, false, cond, List, [], ◌∷◌, ◌++◌, length, get_or, Option, Some, None, refl, ap, ap₂, ◌∙◌, subst, arith, nat_lt}
 use Rattle.std.proofs.lemmas.Bool.Decides.{nat_tests}
 use Rattle.std.specs.Prelude.{option_map, if◌then◌else◌}
+use Rattle.memory_model.specs.Memory.{Memory}
 use Rattle.call_model.specs.declared.Call.{Call}
-use Rattle.call_model.specs.declared.Call.TheVariants.{Put, PutTree, Get, GetTree, Fork, Wait, Tfork, Tjoin, File}
+use Rattle.call_model.specs.declared.Call.TheVariants.{Put, PutTree, Get, GetTree, Fork, Wait, Tfork, Tjoin, Qstart, Qcommit, File}
 use Rattle.call_model.specs.declared.FileCall.{FileCall}
 use Rattle.call_model.specs.declared.FileCall.TheVariants.{New}
 use Rattle.call_model.specs.Calls.{meets_children, kind_in}
@@ -16,11 +17,13 @@ use Rattle.space_model.specs.Space.{Space, space, Children, none, child, Top, to
 use Rattle.space_model.specs.Sound.{has_devices, IsSoundTop, IsSoundAt, AreSound}
 use Rattle.space_model.specs.Path.{with_top, with_space, is_root}
 use Rattle.space_model.specs.Change.{after_payment, after_success}
-use Rattle.space_model.specs.Call.{Meeting, below, seen_of, copy_to, edit, apply_meeting}
-use Rattle.space_model.specs.Part.{Part, child_after, caller_after}
+use Rattle.space_model.specs.Call.{Edit, change, place, take_away, Meeting, below, seen_of, copy_to, edit, edit_all, apply_meeting}
+use Rattle.space_model.specs.Commit.{commits}
+use Rattle.space_model.specs.Quanta.{Thread, waits, threads, count_waiting, after_start, starts, writings, renewal, renewals}
+use Rattle.space_model.specs.Part.{Part, snapshot_part, child_after, caller_after}
 use Rattle.space_model.specs.Runtime.{after_fork, after_thread_fork, after_join, after_wait}
 use Rattle.space_model.specs.Event.{MayPay}
-use Rattle.space_model.specs.Meeting.{MayMeet, awaits, meet, or_fresh, test_refusal, height_refusal, refusals, action, unless_refused}
+use Rattle.space_model.specs.Meeting.{MayMeet, in_row, awaits, meet, or_fresh, test_refusal, height_refusal, refusals, action, unless_refused}
 use Rattle.space_model.specs.Refusals.{first_refusal}
 use Rattle.space_model.proofs.Parts.{IsAlike, child_alike, caller_alike, fork_alike, thread_fork_alike, join_alike, wait_alike}
 
@@ -218,6 +221,75 @@ grandchild_fits (suc levels) fuel n (Some (space t cs)) found s is =
 caller_sound : (fuel : ℕ) (root : Bool) (u v : Top) → IsAlike u v → IsSoundTop fuel root u → IsSoundTop fuel root (after_success v)
 caller_sound fuel root u v a top = let after = alike_sound fuel root u v a top in record { sum = after.sum; devices = after.devices }
 
+-- children that calls change to sound ones
+abbrev IsSoundChange : ℕ → ℕ → Edit → Type 0
+IsSoundChange levels fuel (change n t) = (1 ≤ levels) × IsChild n × IsSoundTop fuel false t
+IsSoundChange levels fuel (place n s) = ⊥
+IsSoundChange levels fuel (take_away n) = ⊥
+
+abbrev AreSoundChanges : ℕ → ℕ → List Edit → Type 0
+AreSoundChanges levels fuel [] = Unit {0}
+AreSoundChanges levels fuel (e ∷ es) = IsSoundChange levels fuel e × AreSoundChanges levels fuel es
+
+below_sound : (levels fuel : ℕ) (o : Option Space) → ((c : Space) → o ≡ Some c → IsSoundAt levels false fuel c) → AreSound levels fuel 0 (below o)
+below_sound levels fuel None found = tt
+below_sound levels fuel (Some (space t cs)) found = (found (space t cs) refl).1
+
+changed_sound : (levels fuel : ℕ) (e : Edit) (cs : Children) → IsSoundChange levels fuel e → AreSound levels fuel 0 cs → AreSound levels fuel 0 (edit e cs)
+changed_sound levels fuel (change n t) cs may ok = put_sound levels fuel n (space t (below (find n cs))) cs may.0 ok may.1 (may.2, below_sound (pred levels) fuel (find n cs) (found_sound levels fuel n cs ok))
+changed_sound levels fuel (place n s) cs may ok = absurd may
+changed_sound levels fuel (take_away n) cs may ok = absurd may
+
+changes_sound : (levels fuel : ℕ) (es : List Edit) (cs : Children) → AreSoundChanges levels fuel es → AreSound levels fuel 0 cs → AreSound levels fuel 0 (edit_all es cs)
+changes_sound levels fuel [] cs may ok = ok
+changes_sound levels fuel (e ∷ es) cs may ok = changes_sound levels fuel es (edit e cs) may.1 (changed_sound levels fuel e cs may.0 ok)
+
+-- threads whose tops are sound, and whose numbers fit
+abbrev IsSoundThread : ℕ → ℕ → Thread → Type 0
+IsSoundThread levels fuel c = (1 ≤ levels) × IsChild c.number × IsSoundTop fuel false c.top
+
+abbrev AreSoundThreads : ℕ → ℕ → List Thread → Type 0
+AreSoundThreads levels fuel [] = Unit {0}
+AreSoundThreads levels fuel (c ∷ cs) = IsSoundThread levels fuel c × AreSoundThreads levels fuel cs
+
+found_thread : (levels fuel n : ℕ) (cs : Children) (t : Top) (ds : Children) → AreSound levels fuel 0 cs → find n cs ≡ Some (space t ds) → IsSoundThread levels fuel (record { number = n; top = t })
+found_thread zero fuel n cs t ds ok is = let none = no_child fuel 0 n cs ok in cc
+found_thread (suc levels) fuel n cs t ds ok is = let found = find_sound levels fuel 0 n cs (space t ds) ok is in (omega arith, found.0, found.1.0)
+
+threads_sound : (levels fuel first count : ℕ) (cs : Children) → AreSound levels fuel 0 cs → AreSoundThreads levels fuel (threads first (seen_of (in_row first count) cs))
+threads_sound levels fuel first zero cs ok = tt
+threads_sound levels fuel first (suc count) cs ok = go (find first cs) refl (threads_sound levels fuel (first + 1) count cs ok)
+  where
+    go : (o : Option Space) → find first cs ≡ o → AreSoundThreads levels fuel (threads (first + 1) (seen_of (in_row (first + 1) count) cs))
+        → AreSoundThreads levels fuel (threads first (seen_of (in_row first (suc count)) cs))
+    go None is rest = rw is rest
+    go (Some (space t ds)) is rest = rw is (found_thread levels fuel first cs t ds ok is, rest)
+
+-- the change of one thread, where there is one, before those of the others
+first_changes : (levels fuel : ℕ) (b : Bool) (e : Edit) (es : List Edit) → IsSoundChange levels fuel e → AreSoundChanges levels fuel es → AreSoundChanges levels fuel ((if b then e ∷ [] else []) ++ es)
+first_changes levels fuel true e es one others = (one, others)
+first_changes levels fuel false e es one others = others
+
+start_alike : (quantum : ℕ) (t c : Top) → IsAlike c (after_start quantum t c)
+unfolding after_start
+start_alike quantum t c = record { fuel = refl; used = refl; devices = refl }
+
+starts_sound : (levels fuel quantum : ℕ) (t : Top) (cs : List Thread) → AreSoundThreads levels fuel cs → AreSoundChanges levels fuel (starts quantum t cs)
+starts_sound levels fuel quantum t [] ok = tt
+starts_sound levels fuel quantum t (c ∷ cs) ok =
+    let top = alike_sound fuel false c.top (after_start quantum t c.top) (start_alike quantum t c.top) ok.0.2 in
+    first_changes levels fuel (waits c.top.status) (change c.number (after_start quantum t c.top)) (starts quantum t cs) (ok.0.0, ok.0.1, top) (starts_sound levels fuel quantum t cs ok.1)
+
+renewal_sound : (levels fuel : ℕ) (c : Thread) (o : Option Memory) (es : List Edit) → IsSoundThread levels fuel c → AreSoundChanges levels fuel es → AreSoundChanges levels fuel (renewal c o ++ es)
+renewal_sound levels fuel c None es one others = others
+renewal_sound levels fuel c (Some snapshot) es one others =
+    let same : IsAlike c.top (snapshot_part c.top) = record { fuel = refl; used = refl; devices = refl } in
+    ((one.0, one.1, alike_sound fuel false c.top (snapshot_part c.top) same one.2), others)
+
+renewals_sound : (levels fuel : ℕ) (cs : List Thread) → AreSoundThreads levels fuel cs → AreSoundChanges levels fuel (renewals cs)
+renewals_sound levels fuel [] ok = tt
+renewals_sound levels fuel (c ∷ cs) ok = renewal_sound levels fuel c c.top.snapshot (renewals cs) ok.0 (renewals_sound levels fuel cs ok.1)
+
 -- a call on a file meets no children
 file_meets_none : (call : FileCall) → meets_children (kind_in (File call)) ≡ false
 file_meets_none (New name n append) = refl
@@ -255,6 +327,12 @@ action_sound levels root fuel (Tfork n) u cs may top ok passes = (
 action_sound levels root fuel (Tjoin n) u cs may top ok passes =
     let c = or_fresh u (option_map top_of (find n cs)) in
     (caller_sound fuel root u (after_join c u) (join_alike c u) top, ok)
+action_sound levels root fuel (Qstart first count quantum) u cs may top ok passes =
+    let found = threads first (seen_of (in_row first count) cs) in
+    (record { sum = top.sum; devices = top.devices }, changes_sound levels fuel (starts quantum u found) cs (starts_sound levels fuel quantum u found (threads_sound levels fuel first count cs ok)) ok)
+action_sound levels root fuel (Qcommit first count) u cs may top ok passes =
+    let found = threads first (seen_of (in_row first count) cs) in
+    (record { sum = top.sum; devices = top.devices }, changes_sound levels fuel (renewals found) cs (renewals_sound levels fuel found (threads_sound levels fuel first count cs ok)) ok)
 action_sound levels root fuel (File call) u cs may top ok passes = let none = file_meets_none call in let some = may.meets in cc
 action_sound levels root fuel k u cs may top ok passes = let some = may.meets in cc
 

@@ -12,6 +12,8 @@ pub mod Block
 pub mod Call
 pub mod Part
 pub mod Runtime
+pub mod Commit
+pub mod Quanta
 pub mod Meeting
 pub mod Event
 pub mod Caller

@@ -9,7 +9,7 @@ use Rattle.memory_model.specs.Memory.{Memory, may_read, may_write}
 use Rattle.merge_model.specs.Merge.{first_conflict}
 use Rattle.call_model.specs.declared.Transfer.{Transfer}
 use Rattle.call_model.specs.declared.Call.{Call}
-use Rattle.call_model.specs.declared.Call.TheVariants.{Put, PutTree, Get, GetTree, Fork, Wait, Tfork, Tjoin}
+use Rattle.call_model.specs.declared.Call.TheVariants.{Put, PutTree, Get, GetTree, Fork, Wait, Tfork, Tjoin, Qstart, Qcommit}
 use Rattle.call_model.specs.Limits.{AreChildren, block_size}
 use Rattle.call_model.specs.Calls.{meets_children, kind_in, children_in, levels_in}
 use Rattle.call_model.specs.Options.{has, regs, merging, agreeing}
@@ -22,6 +22,7 @@ use Rattle.space_model.specs.Refusals.{first_refusal, access_refusal}
 use Rattle.space_model.specs.Beginning.{fresh_top}
 use Rattle.space_model.specs.Part.{child_after, caller_after, destination_page, page_count}
 use Rattle.space_model.specs.Runtime.{shared_pages, after_fork, after_thread_fork, after_join, after_wait}
+use Rattle.space_model.specs.Quanta.{start_meeting, commit_meeting}
 use Rattle.space_model.specs.declared.Await.{Await}
 use Rattle.space_model.specs.declared.Reach.TheVariants.{Itself, Whole}
 use Rattle.space_model.specs.Call.{Seen, change, place, take_away, copy_to, edit, Meeting, seen_of, first_top, first_space, second_space, below, apply_meeting}
@@ -56,6 +57,8 @@ awaits (Fork child) = itself child ∷ []
 awaits (Wait child) = whole child ∷ []
 awaits (Tfork child) = itself child ∷ []
 awaits (Tjoin child) = itself child ∷ []
+awaits (Qstart first count quantum) = in_row first count
+awaits (Qcommit first count) = in_row first count
 awaits k = []
 
 -- with Regs, the least address of the register block that lacks a right
@@ -120,6 +123,8 @@ action (Fork child) t seen = record { caller = after_success t; edits = change c
 action (Wait child) t seen = record { caller = after_success (after_wait (or_fresh t (first_top seen)) t); edits = take_away child ∷ [] }
 action (Tfork child) t seen = record { caller = after_success t; edits = change child (after_thread_fork t (or_fresh t (first_top seen))) ∷ [] }
 action (Tjoin child) t seen = record { caller = after_success (after_join (or_fresh t (first_top seen)) t); edits = [] }
+action (Qstart first count quantum) t seen = start_meeting first quantum t seen
+action (Qcommit first count) t seen = commit_meeting first t seen
 action k t seen = record { caller = t; edits = [] }
 
 -- the caller stops, and nothing else changes; or the call acts

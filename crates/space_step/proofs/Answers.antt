@@ -70,6 +70,8 @@ device_is_local t (named.Fork child) is = absurd is
 device_is_local t (named.Wait child) is = absurd is
 device_is_local t (named.Tfork child) is = absurd is
 device_is_local t (named.Tjoin child) is = absurd is
+device_is_local t (named.Qstart first count quantum) is = absurd is
+device_is_local t (named.Qcommit first count) is = absurd is
 device_is_local t (named.File call) is = absurd is
 
 local_is_next : (levels : ℕ) (t : Top) (e : Effect) → MayPay t → instruction levels t ≡ e → IsLocal e → IsNext levels answers.Local t

@@ -41,6 +41,8 @@ device_leaves t (named.Fork child) is may = absurd is
 device_leaves t (named.Wait child) is may = absurd is
 device_leaves t (named.Tfork child) is may = absurd is
 device_leaves t (named.Tjoin child) is may = absurd is
+device_leaves t (named.Qstart first count quantum) is may = absurd is
+device_leaves t (named.Qcommit first count) is may = absurd is
 device_leaves t (named.File call) is may = absurd is
 
 charged_leaves : (t u : Top) (e : Effect) → Leaves t e → charge t e ≡ moves u → u.memory ≡ t.memory

@@ -19,7 +19,7 @@ use std::marker::Model;
 /// A call that passed the tests on registers. Options of Put and Get stand together; with Copy, Zero, Merge or Perm the
 /// destination is a range of whole pages of memory, with Copy the source too; with Regs the register block stands in memory, at a
 /// multiple of 4. Console out's bytes, console in's buffer, and a file call's name, data and buffer, stand in memory and are at most
-/// 65,536 bytes each.
+/// 65,536 bytes each. Children in a row are 1 to 64, the last one's number is at most 65,535, and a quantum is 1 event or more.
 #[derive(Clone, Copy, Debug, PartialEq, Eq)]
 pub struct AcceptedCall {
     call: Call,
@@ -126,9 +126,10 @@ fn first_failing(row: Row, x: &[u32; 32], is_root: bool, depth: u8) -> Option<u8
 }
 
 // The call of a kind, with registers that fail no test.
-#[tactic(auto, unfolding(call_model::specs::Calls::wrong_children))]
+#[tactic(auto, unfolding(call_model::specs::Calls::wrong_children, call_model::specs::Calls::wrong_options))]
 fn call_of(kind: Kind, x: &[u32; 32]) -> Call
-    requires { table.wrong_children (table.row kind).children x.now ≡ false }
+    requires options { table.wrong_options (table.row kind).options x.now ≡ false }
+    requires children { table.wrong_children (table.row kind).children x.now ≡ false }
     ensures { result ≡ table.call_of kind x.now }
 {
     match kind {
@@ -169,6 +170,15 @@ fn call_of(kind: Kind, x: &[u32; 32]) -> Call
         Kind::Tjoin => Call::Tjoin {
             child: argument(x, 1) as u16,
         },
+        Kind::Qstart => Call::Qstart {
+            first: argument(x, 1) as u16,
+            count: argument(x, 2) as u8,
+            quantum: argument(x, 3),
+        },
+        Kind::Qcommit => Call::Qcommit {
+            first: argument(x, 1) as u16,
+            count: argument(x, 2) as u8,
+        },
         Kind::FileNew => Call::File(file_new(x)),
         Kind::FilePut => Call::File(file_put(x)),
         Kind::FileGet => Call::File(file_get(x)),
@@ -189,15 +199,15 @@ fn call_of(kind: Kind, x: &[u32; 32]) -> Call
 /// 1. a7 is no call number;
 /// 2. an option that is not known, permission bits without Perm, two of Copy, Zero and Merge, Agree without Merge, Tree with
 ///    another bit; in Put Merge, or Limit without Start; in Get one of Snap, Start and Limit; in FileNew an a3, or in FilePut an
-///    a5, above 1;
-/// 3. a child number above 65,535, with Tree one of three;
+///    a5, above 1; in Qstart and Qcommit an a2 that is 0 or above 64; in Qstart an a3 that is 0;
+/// 3. a child number above 65,535, with Tree one of three, in Qstart and Qcommit that of the last child;
 /// 4. a range of Put or Get that is not of whole pages of 4,096 bytes or passes the end of memory; console out's bytes, console in's
 ///    buffer, or a file call's name, data or buffer, that pass it;
 /// 6. console out, console in, the clock or a random number outside the root;
 /// 7. console out or console in of more than 65,536 bytes, or a file call's name, data or buffer of more;
 /// 8. Put, Fork or Tfork at depth 8, Put with Tree at depth 7 or 8;
 /// 9. a register block at no multiple of 4, or above 0xFFFFFF78.
-#[tactic(auto, using(call_model::proofs::Accepted::named_accepted, call_model::proofs::Accepted::named_child))]
+#[tactic(auto, using(call_model::proofs::Accepted::named_accepted, call_model::proofs::Accepted::named_options, call_model::proofs::Accepted::named_child))]
 pub fn read_call(x: &[u32; 32], is_root: bool, depth: u8) -> Result<AcceptedCall, Badcall>
     ensures { result ≡ table.read x.now is_root depth }
 {
@@ -269,17 +279,6 @@ impl Awaited {
             Shape::Row { first, .. } => itself(first + index as u16),
         }
     }
-
-    /// At most 64 children in a row, each itself.
-    pub fn in_row(first: u16, count: u8) -> Awaited
-        requires few { count ≤ 64 }
-        requires numbers { first + count ≤ 65536 }
-        ensures { result ≡ meeting.in_row first count }
-    {
-        Awaited {
-            shape: Shape::Row { first, count },
-        }
-    }
 }
 
 fn itself(number: u16) -> Await
@@ -302,6 +301,7 @@ fn whole(number: u16) -> Await
 
 // The children that a call waits for, as they stand.
 fn shape_of(call: Call) -> Shape
+    requires { IsAccepted call }
     ensures value { items_of result ≡ meeting.awaits call }
     ensures fits { Fits result }
 {
@@ -313,6 +313,9 @@ fn shape_of(call: Call) -> Shape
             Shape::One(itself(child))
         }
         Call::Wait { child } => Shape::One(whole(child)),
+        Call::Qstart { first, count, .. } | Call::Qcommit { first, count } => {
+            Shape::Row { first, count }
+        }
         Call::Ret { .. }
         | Call::ConsoleOut { .. }
         | Call::ConsoleIn { .. }
@@ -323,10 +326,10 @@ fn shape_of(call: Call) -> Shape
 }
 
 /// The children that a call waits for, each itself or with all below it.
-pub fn awaits(call: Call) -> Awaited
+pub fn awaits(call: AcceptedCall) -> Awaited
     ensures { result ≡ meeting.awaits call }
 {
     Awaited {
-        shape: shape_of(call),
+        shape: shape_of(call.call()),
     }
 }

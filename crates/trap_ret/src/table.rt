@@ -1,6 +1,7 @@
 //! The table of calls, and the tests on registers that go by its columns.
 
-ghost use Rattle.std.specs.Prelude.{◌≡◌, ◌+◌, ◌<◌, true, false};
+ghost use Rattle.std.specs.Prelude.{◌≡◌, ◌+◌, ◌<◌, ◌||◌, nat_lt, true, false};
+ghost use Rattle.call_model.specs.Limits.{greatest_child};
 ghost use Rattle.call_model.specs.Calls as table;
 ghost use Rattle.call_model.specs.Options as options_of;
 ghost use Rattle.call_model.specs.declared.Options.TheVariants as asked;
@@ -10,7 +11,9 @@ ghost use Rattle.call_model.specs.declared.Ranges.TheVariants as ranges_of;
 use crate::options::{
     AGREE, COPY, KNOWN, LIMIT, MERGE, PERM, PERMISSION, REGS, SNAP, START, TREE, ZERO, has,
 };
-use call_model::limits::{GREATEST_CHILD, GREATEST_DEPTH, GREATEST_LENGTH, LAST_BLOCK};
+use call_model::limits::{
+    GREATEST_CHILD, GREATEST_DEPTH, GREATEST_LENGTH, LAST_BLOCK, LONGEST_ROW,
+};
 use call_model::{Children, Kind, Options, Ranges, Row};
 use memory_model::PAGE_SIZE;
 
@@ -30,6 +33,8 @@ pub(crate) fn kind_of(number: u32) -> Option<Kind>
         call_model::WAIT => Some(Kind::Wait),
         call_model::TFORK => Some(Kind::Tfork),
         call_model::TJOIN => Some(Kind::Tjoin),
+        call_model::QSTART => Some(Kind::Qstart),
+        call_model::QCOMMIT => Some(Kind::Qcommit),
         call_model::FILE_NEW => Some(Kind::FileNew),
         call_model::FILE_PUT => Some(Kind::FilePut),
         call_model::FILE_GET => Some(Kind::FileGet),
@@ -88,6 +93,17 @@ fn child(number: u32, levels: u8) -> Row
     }
 }
 
+// A call that names children in a row, and makes none.
+fn row_of_children(number: u32, options: Options) -> Row
+    ensures { result ≡ table.columns number options children_of.Row ranges_of.Nowhere false 0 0 }
+{
+    Row {
+        options,
+        children: Children::Row,
+        ..plain(number)
+    }
+}
+
 // Put or Get.
 fn transfer(number: u32, options: Options, levels: u8, tree_levels: u8) -> Row
     ensures { result ≡ table.columns number options children_of.Tree ranges_of.Pages false levels tree_levels }
@@ -118,6 +134,8 @@ pub(crate) fn row(kind: Kind) -> Row
         Kind::Wait => child(call_model::WAIT, 0),
         Kind::Tfork => child(call_model::TFORK, 1),
         Kind::Tjoin => child(call_model::TJOIN, 0),
+        Kind::Qstart => row_of_children(call_model::QSTART, Options::RowAndQuantum),
+        Kind::Qcommit => row_of_children(call_model::QCOMMIT, Options::Row),
         Kind::FileNew => file(call_model::FILE_NEW, Options::ChoiceInA3, Ranges::One),
         Kind::FilePut => file(call_model::FILE_PUT, Options::ChoiceInA5, Ranges::Two),
         Kind::FileGet => file(call_model::FILE_GET, Options::Nothing, Ranges::Two),
@@ -220,7 +238,21 @@ fn wrong_choice(number: u32) -> bool
     number > 1
 }
 
-/// Test 2: options that do not stand, or do not stand together; or a choice that is none.
+// No number of children in a row.
+fn wrong_row(count: u32) -> bool
+    ensures { result ≡ table.wrong_row count }
+{
+    count == 0 || count > LONGEST_ROW
+}
+
+// No quantum.
+fn wrong_quantum(quantum: u32) -> bool
+    ensures { result ≡ table.wrong_quantum quantum }
+{
+    quantum == 0
+}
+
+/// Test 2: options that do not stand, or do not stand together; a choice that is none; a row that is empty or too long; or no quantum.
 #[tactic(auto, unfolding(call_model::specs::Calls::wrong_options))]
 pub(crate) fn wrong_options(options: Options, x: &[u32; 32]) -> bool
     ensures { result ≡ table.wrong_options options x.now }
@@ -230,6 +262,8 @@ pub(crate) fn wrong_options(options: Options, x: &[u32; 32]) -> bool
         Options::Get => wrong_get_options(argument(x, 0)),
         Options::ChoiceInA3 => wrong_choice(argument(x, 3)),
         Options::ChoiceInA5 => wrong_choice(argument(x, 5)),
+        Options::Row => wrong_row(argument(x, 2)),
+        Options::RowAndQuantum => wrong_row(argument(x, 2)) || wrong_quantum(argument(x, 3)),
         Options::Nothing => false,
     }
 }
@@ -238,6 +272,13 @@ fn wrong_child(number: u32) -> bool
     ensures { result ≡ table.wrong_child number }
 {
     number > GREATEST_CHILD
+}
+
+// A row of children with a number above the greatest.
+fn wrong_end(first: u32, count: u32) -> bool
+    ensures { result ≡ (table.wrong_child first || nat_lt (greatest_child + 1) (first + count)) }
+{
+    wrong_child(first) || u64::from(first) + u64::from(count) > u64::from(GREATEST_CHILD) + 1
 }
 
 /// Test 3: a child number above the greatest.
@@ -253,6 +294,7 @@ pub(crate) fn wrong_children(children: Children, x: &[u32; 32]) -> bool
                 || (has(argument(x, 0), TREE)
                     && (wrong_child(argument(x, 3)) || wrong_child(argument(x, 4))))
         }
+        Children::Row => wrong_end(argument(x, 1), argument(x, 2)),
     }
 }
 
@@ -328,6 +370,10 @@ pub(crate) fn wrong_block(options: Options, x: &[u32; 32]) -> bool
 {
     match options {
         Options::Put | Options::Get => wrong_block_address(argument(x, 0), argument(x, 2)),
-        Options::Nothing | Options::ChoiceInA3 | Options::ChoiceInA5 => false,
+        Options::Nothing
+        | Options::ChoiceInA3
+        | Options::ChoiceInA5
+        | Options::Row
+        | Options::RowAndQuantum => false,
     }
 }

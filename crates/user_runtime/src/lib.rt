@@ -4,6 +4,7 @@
 mod forking;
 mod joining;
 mod meeting;
+mod quanta;
 mod waiting;
 
 pub use forking::{fork, tfork};

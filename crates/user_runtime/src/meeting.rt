@@ -6,6 +6,7 @@ ghost use Rattle.space_model.specs.Space as model;
 
 use crate::forking::{fork, tfork};
 use crate::joining::tjoin;
+use crate::quanta::{commit, start};
 use crate::waiting::wait;
 use put_get::apply;
 use space_tree::Space;
@@ -21,7 +22,7 @@ fn meet_nobody(space: &mut Space)
 }
 
 /// What a call that meets children does, of a caller at this depth, at most 8, that has not paid yet, once the children that it waits for are
-/// ready: `apply` for Put and Get, else `fork`, `wait`, `tfork` or `tjoin`. The one error is want of memory: nothing is changed then.
+/// ready: `apply` for Put and Get, else `fork`, `wait`, `tfork`, `tjoin`, or a start or a commit of quanta by `quantum_sched`. The one error is want of memory: nothing is changed then.
 pub fn meet(
     alloc: Global,
     call: AcceptedCall,
@@ -41,6 +42,12 @@ pub fn meet(
         Call::Wait { child } => wait(alloc, child, depth, space),
         Call::Tfork { child } => tfork(alloc, child, depth, space),
         Call::Tjoin { child } => tjoin(alloc, child, depth, space),
+        Call::Qstart {
+            first,
+            count,
+            quantum,
+        } => start(first, count, quantum, depth, space),
+        Call::Qcommit { first, count } => commit(first, count, depth, space),
         Call::Ret { .. }
         | Call::ConsoleOut { .. }
         | Call::ConsoleIn { .. }

@@ -30,5 +30,5 @@ returns-clause-awaited c =
     let q = c.args.path.now.items in
     let end = c.len-index-end.ensures in
     let past = c.loop-index-test.false in
-    let named = c.awaits-all.ensures ∙ ap awaits c.call.ensures.value in
+    let named = c.awaits-all.ensures in
     (awaited_end (HasAtHome c.loop-index.run) all (awaits c.args.call) q i so_far.3 (omega (arith, end, past)) named, awaited_end (Has c.loop-index.calls) all (awaits c.args.call) q i so_far.4 (omega (arith, end, past)) named)

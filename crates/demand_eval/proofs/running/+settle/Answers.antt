@@ -42,17 +42,17 @@ wait_for-returns t c =
 
 pub meet-meet-requires : goal.meet-meet-requires
 meet-meet-requires t c =
-    let waited = c.in_ok-wait_for.ensures ∙ ap (λ k. with_awaited (8 - c.args.depth) k c.args.space.now) c.call.ensures.value in
+    let waited = c.in_ok-wait_for.ensures in
     record { depth = c.requires.depth; may_meet = may_meet _ _ c.args.space.now c.requires.next; may_pay = may_pay _ _ c.args.space.now _ c.requires.next waited }
 
 pub meet-returns-clause-goes : goal.meet-returns-clause-goes
 meet-returns-clause-goes t c =
-    let waited = c.in_ok-wait_for.ensures ∙ ap (λ k. with_awaited (8 - c.args.depth) k c.args.space.now) c.call.ensures.value in
+    let waited = c.in_ok-wait_for.ensures in
     on_ok_weaker c.meet.result (λ h. met _ _ _ _ _ c.requires.sound c.requires.next waited h) c.meet.ensures.ok
 
 pub meet-returns-clause-devices : goal.meet-returns-clause-devices
 meet-returns-clause-devices t c =
-    let waited = c.in_ok-wait_for.ensures ∙ ap (λ k. with_awaited (8 - c.args.depth) k c.args.space.now) c.call.ensures.value in
+    let waited = c.in_ok-wait_for.ensures in
     on_ok_weaker c.meet.result (λ h. met_devices _ _ _ _ _ waited h) c.meet.ensures.ok
 
 pub turn-meet-requires : goal.turn-meet-requires

@@ -12,7 +12,7 @@ pub returns-then-not-is_ready : goal.returns-then-not-is_ready
 returns-then-not-is_ready c =
     let cs = c.args.children.now in
     sym (one_waits c.awaits-all.result c.loop-index.index c.get-awaited.result cs c.get-awaited.ensures (sym c.is_ready.ensures ∙ c.if-not-is_ready.true)) ∙ c.loop-index.invariant
-    ∙ ap (λ as'. are_ready as' cs) c.awaits-all.ensures ∙ ap (λ k. are_ready (awaits k) cs) c.call.ensures.value
+    ∙ ap (λ as'. are_ready as' cs) c.awaits-all.ensures
 
 pub returns : goal.returns
 returns c =
@@ -20,4 +20,4 @@ returns c =
     let end = c.len-index-end.ensures in
     let past = c.loop-index-test.false in
     sym (all_ready c.awaits-all.result c.loop-index.index cs (omega (arith, end, past))) ∙ c.loop-index.invariant
-    ∙ ap (λ as'. are_ready as' cs) c.awaits-all.ensures ∙ ap (λ k. are_ready (awaits k) cs) c.call.ensures.value
+    ∙ ap (λ as'. are_ready as' cs) c.awaits-all.ensures

@@ -20,7 +20,7 @@ returns-then-not-look_ready-clause-ready c =
     let a = c.get-awaited.result in
     let now = ap (λ ds. is_ready a.reach (find a.number ds)) c.loop-index.invariant.same in
     sym (one_waits c.awaits-all.result c.loop-index.index a cs c.get-awaited.ensures (sym now ∙ sym c.look_ready.ensures.ready ∙ c.if-not-look_ready.true)) ∙ c.loop-index.invariant.ready
-    ∙ ap (λ as'. are_ready as' cs) c.awaits-all.ensures ∙ ap (λ k. are_ready (awaits k) cs) c.call.ensures.value
+    ∙ ap (λ as'. are_ready as' cs) c.awaits-all.ensures
 
 pub returns-clause-ready : goal.returns-clause-ready
 returns-clause-ready c =
@@ -28,4 +28,4 @@ returns-clause-ready c =
     let end = c.len-index-end.ensures in
     let past = c.loop-index-test.false in
     sym (all_ready c.awaits-all.result c.loop-index.index cs (omega (arith, end, past))) ∙ c.loop-index.invariant.ready
-    ∙ ap (λ as'. are_ready as' cs) c.awaits-all.ensures ∙ ap (λ k. are_ready (awaits k) cs) c.call.ensures.value
+    ∙ ap (λ as'. are_ready as' cs) c.awaits-all.ensures

@@ -1,7 +1,8 @@
 use Rattle.std.proofs.Common.{◌≡◌, ◌+◌, ◌-◌}
 use Rattle.space_mem.specs.Held.{Marks}
-use Rattle.quantum_model.specs.Commit.{commits}
-use Rattle.quantum_model.specs.Quanta.{threads_in, writings}
+use Rattle.space_model.specs.Commit.{commits}
+use Rattle.space_model.specs.Quanta.{writings}
+use Rattle.quantum_model.specs.Rows.{threads_in}
 use Rattle.quantum_sched.specs.Rows.{OwnsRow}
 use Rattle.quantum_sched.proofs.commit.commit_each.Given as goal
 

@@ -1,5 +1,5 @@
 use Rattle.std.proofs.Common.{◌≡◌, ◌+◌, ◌-◌, ◌++◌}
-use Rattle.quantum_model.specs.Quanta.{threads_in}
+use Rattle.quantum_model.specs.Rows.{threads_in}
 use Rattle.quantum_sched.specs.Rows.{renewals_of}
 use Rattle.quantum_sched.proofs.commit.prepare_row.Given as goal
 

@@ -1,8 +1,9 @@
 use Rattle.std.proofs.Common.{ap, sym, None, ◌∙◌}
 use Rattle.space_model.specs.Space.{Top}
 use Rattle.space_model.specs.Change.{after_spending, after_success, with_count}
-use Rattle.quantum_model.specs.Commit.{commits}
-use Rattle.quantum_model.specs.Quanta.{count_waiting, threads_in, with_commit, writings}
+use Rattle.space_model.specs.Commit.{commits}
+use Rattle.space_model.specs.Quanta.{count_waiting, writings}
+use Rattle.quantum_model.specs.Rows.{threads_in, with_commit}
 use Rattle.quantum_sched.specs.Rows.{renewals_of, with_each}
 use Rattle.quantum_sched.proofs.Edits.{commit_met}
 use Rattle.quantum_sched.proofs.commit.qcommit.Goals as goal

@@ -1,5 +1,5 @@
 use Rattle.std.proofs.Common.{◌≡◌, ◌+◌, ◌-◌, ◌++◌}
-use Rattle.quantum_model.specs.Quanta.{threads_in}
+use Rattle.quantum_model.specs.Rows.{threads_in}
 use Rattle.quantum_sched.specs.Rows.{starts_of}
 use Rattle.quantum_sched.proofs.start.prepare_row.Given as goal
 

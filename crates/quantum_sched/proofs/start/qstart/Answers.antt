@@ -1,6 +1,7 @@
 use Rattle.std.proofs.Common.{ap, sym, Some, ◌∙◌}
 use Rattle.space_model.specs.Change.{after_spending, after_success, with_count}
-use Rattle.quantum_model.specs.Quanta.{count_waiting, threads_in, with_start}
+use Rattle.space_model.specs.Quanta.{count_waiting}
+use Rattle.quantum_model.specs.Rows.{threads_in, with_start}
 use Rattle.quantum_sched.specs.Rows.{starts_of, with_each}
 use Rattle.quantum_sched.proofs.Edits.{start_met}
 use Rattle.quantum_sched.proofs.start.qstart.Goals as goal

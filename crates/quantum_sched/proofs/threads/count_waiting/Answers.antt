@@ -1,5 +1,6 @@
 use Rattle.std.proofs.Common.{◌+◌, ◌-◌, ap, ◌∙◌, arith}
-use Rattle.quantum_model.specs.Quanta.{count_waiting, threads_in}
+use Rattle.space_model.specs.Quanta.{count_waiting}
+use Rattle.quantum_model.specs.Rows.{threads_in}
 use Rattle.quantum_sched.proofs.Loops.{counted_all, counted_more, counted_none}
 use Rattle.quantum_sched.proofs.threads.count_waiting.Goals as goal
 

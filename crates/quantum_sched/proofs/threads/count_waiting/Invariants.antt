@@ -1,5 +1,6 @@
 use Rattle.std.proofs.Common.{◌≡◌, ◌+◌, ◌-◌, ◌≤◌}
-use Rattle.quantum_model.specs.Quanta.{count_waiting, threads_in}
+use Rattle.space_model.specs.Quanta.{count_waiting}
+use Rattle.quantum_model.specs.Rows.{threads_in}
 use Rattle.quantum_sched.proofs.threads.count_waiting.Given as goal
 
 abbrev pub invariant-loop-done : goal.invariant-loop-done

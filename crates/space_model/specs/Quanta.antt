@@ -10,13 +10,12 @@ use Rattle.space_model.specs.declared.Status.{Status}
 use Rattle.space_model.specs.declared.Status.TheVariants.{Stopped}
 use Rattle.space_model.specs.declared.Cause.{Cause}
 use Rattle.space_model.specs.declared.Cause.TheVariants.{Limit}
-use Rattle.space_model.specs.Space.{Space, Children, Top, top_of, children_of}
-use Rattle.space_model.specs.Change.{after_payment, after_success, with_count}
-use Rattle.space_model.specs.Call.{Seen, sees_top, sees_whole, Edit, change, Meeting, seen_of, apply_meeting}
-use Rattle.space_model.specs.Meeting.{in_row}
+use Rattle.space_model.specs.Space.{Top}
+use Rattle.space_model.specs.Change.{after_success, with_count}
+use Rattle.space_model.specs.Call.{Seen, sees_top, Edit, change, Meeting}
 use Rattle.space_model.specs.Part.{Part, copy_part, snapshot_part, start_part}
 use Rattle.space_model.specs.Runtime.{shared_pages}
-use Rattle.quantum_model.specs.Commit.{Written, commits}
+use Rattle.space_model.specs.Commit.{Written, commits}
 
 -- stopped because its limit ran out
 abbrev pub is_limit : Cause → Bool
@@ -37,10 +36,6 @@ abbrev pub threads : ℕ → List Seen → List Thread
 threads n [] = []
 threads n (sees_top (Some t) ∷ others) = record { number = n; top = t } ∷ threads (n + 1) others
 threads n (s ∷ others) = threads (n + 1) others
-
--- the same of a space's children
-abbrev pub threads_in : ℕ → ℕ → Children → List Thread
-threads_in first count cs = threads first (seen_of (in_row first count) cs)
 
 -- how many of them wait for a quantum
 abbrev pub count_waiting : List Thread → ℕ
@@ -85,11 +80,3 @@ commit_meeting first t seen = record {
   caller = after_success (with_count (count_waiting (threads first seen)) (record t { memory = commits t.memory (writings (threads first seen)) }));
   edits = renewals (threads first seen);
 }
-
--- ---- of a caller that has not paid for its call yet, once the children in the row are ready
-
-unfoldable pub with_start : ℕ → ℕ → ℕ → Space → Space
-with_start first count quantum s = apply_meeting (start_meeting first quantum (after_payment (top_of s) (top_of s)) (seen_of (in_row first count) (children_of s))) (children_of s)
-
-unfoldable pub with_commit : ℕ → ℕ → Space → Space
-with_commit first count s = apply_meeting (commit_meeting first (after_payment (top_of s) (top_of s)) (seen_of (in_row first count) (children_of s))) (children_of s)
