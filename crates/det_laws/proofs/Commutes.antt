@@ -1,6 +1,6 @@
 -- Two different events that may happen pass one another: they are of parts of the tree that do not meet, or one is of a space whose call
 -- awaits nothing on the way to the other.
-use Rattle.std.proofs.Common.{◌≡◌, ℕ, pred, ◌≢◌, Bool, true, false, cond, List, [], ◌∷◌, Option, Some, None, refl, sym, ◌∙◌, ap, ap₂, arith, inl, inr, ◌⊎◌, subst, true≢false}
+use Rattle.std.proofs.Common.{◌≡◌, ℕ, pred, ◌≢◌, Bool, true, false, List, [], ◌∷◌, Option, Some, None, refl, sym, ◌∙◌, ap, ap₂, arith, inl, inr, ◌⊎◌, subst, true≢false}
 use Rattle.std.proofs.lemmas.Bool.Decides.{nat_tests}
 use Rattle.std.proofs.lemmas.Bool.{cases_eq, and_parts}
 use Rattle.std.specs.Prelude.{option_map}

@@ -16,7 +16,6 @@ use Rattle.space_model.specs.Path.{under}
 use Rattle.space_model.specs.Call.{Edit, change, place, take_away, Meeting, see, seen_of, below, copy_to, edit, edit_all}
 use Rattle.space_model.specs.Refusals.{first_refusal}
 use Rattle.space_model.specs.Quanta.{Thread, waits, threads, after_start, starts, renewal, renewals}
-use Rattle.space_model.specs.Part.{snapshot_part}
 use Rattle.space_model.specs.Meeting.{awaits, itself, whole, in_row, refusals, action, unless_refused, meeting, meet}
 use Rattle.det_laws.specs.Near.{is_awaited}
 use Rattle.space_model.proofs.Children.{find-over_other, find-over_same, over-put_other, over-put_same, put-over_same, over-remove_other, find-put_other, find-put_same, find-remove_other}

@@ -1,7 +1,7 @@
 -- Local events of the space at a path: they are steps of a schedule, and change the top at that path alone.
 use Rattle.std.proofs.Common.{◌≡◌, ℕ, zero, suc, pred, ◌-◌, true, List, [], ◌∷◌, length, Option, Some, None, refl, sym, ◌∙◌, ap, arith, subst}
 use Rattle.std.specs.Prelude.{option_and_then}
-use Rattle.space_model.specs.Space.{Top, Space, space, Children, top_of, children_of, find, over}
+use Rattle.space_model.specs.Space.{Top, Space, space, top_of, find}
 use Rattle.space_model.specs.Path.{at, replace_top, with_top}
 use Rattle.space_model.specs.Event.{next, moves, Follows}
 use Rattle.space_model.proofs.Children.{over-at}

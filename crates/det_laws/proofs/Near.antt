@@ -1,30 +1,29 @@
 -- What an event at a path lets happen: nothing but on the way to it, and in the children that its call awaits.
-use Rattle.std.proofs.Common.{◌≡◌, ℕ, zero, suc, pred, ◌-◌, ◌+◌, ◌==◌, ◌≢◌, Bool, true, false, cond, ◌||◌, ◌&&◌, List, [], ◌∷◌, ◌++◌, length, Option, Some, None, refl, sym, ◌∙◌, ap, ap₂, arith, inl, inr, ◌⊎◌, subst, true≢false}
+use Rattle.std.proofs.Common.{◌≡◌, ℕ, zero, suc, pred, ◌-◌, ◌+◌, ◌==◌, ◌≢◌, Bool, true, false, cond, ◌||◌, ◌&&◌, List, [], ◌∷◌, ◌++◌, length, Option, Some, None, refl, sym, ◌∙◌, ap, ap₂, arith, inl, inr, ◌⊎◌, subst}
 use Rattle.std.proofs.lemmas.Bool.Decides.{nat_tests}
 use Rattle.std.proofs.lemmas.Bool.{cases_eq, and_parts}
 use Rattle.std.specs.Prelude.{option_map, option_and_then, if◌then◌else◌}
 use Rattle.memory_model.specs.Memory.{Memory}
 use Rattle.call_model.specs.declared.Call.{Call}
-use Rattle.call_model.specs.declared.Call.TheVariants.{Put, PutTree, Get, GetTree, Fork, Wait, Tfork, Tjoin, Qstart, Qcommit}
+use Rattle.call_model.specs.declared.Call.TheVariants.{Put, PutTree, GetTree, Fork, Wait, Tfork, Qstart, Qcommit}
 use Rattle.space_model.specs.declared.Await.{Await}
 use Rattle.space_model.specs.declared.Reach.TheVariants.{Whole}
 use Rattle.space_model.specs.declared.Refusal.{Refusal}
 use Rattle.space_model.specs.Stop.{is_stopped}
 use Rattle.space_model.specs.Space.{Top, Space, space, Children, none, child, top_of, children_of, find, over, put_child, remove_child, is_settled, are_settled}
 use Rattle.space_model.specs.Path.{at, with_top}
-use Rattle.space_model.specs.Call.{Seen, Edit, change, place, take_away, Meeting, seen_of, below, copy_to, edit, edit_all}
+use Rattle.space_model.specs.Call.{Edit, change, place, take_away, Meeting, seen_of, below, copy_to, edit, edit_all}
 use Rattle.space_model.specs.Refusals.{first_refusal}
 use Rattle.space_model.specs.Event.{NextEvent, rests, moves, meets, next}
 use Rattle.space_model.specs.Quanta.{Thread, waits, threads, after_start, starts, renewal, renewals}
-use Rattle.space_model.specs.Meeting.{awaits, itself, in_row, or_fresh, space_or_fresh, with_copy, refusals, action, unless_refused, meeting, meet}
+use Rattle.space_model.specs.Meeting.{awaits, itself, in_row, or_fresh, with_copy, refusals, action, unless_refused, meeting, meet}
 use Rattle.space_model.specs.Sound.{IsSoundAt, AreSound}
 use Rattle.space_model.proofs.Children.{find-over_other, find-over_same, find-put_same, find-put_other, find-remove_other}
-use Rattle.space_model.proofs.Settled.{both, unite, settled_put, settled_remove}
+use Rattle.space_model.proofs.Settled.{unite, settled_put, settled_remove}
 use Rattle.space_model.proofs.Sound.{below_least, found_sound}
 use Rattle.run_model.specs.Schedule.{are_ready, is_ready, may_happen, event, on_child, is_enabled, step, is_local, is_local_at, ready_call, call_at}
-use Rattle.run_model.proofs.Calls.{call_enabled}
 use Rattle.det_laws.specs.Tops.{top_at}
-use Rattle.det_laws.specs.Near.{is_awaited, IsOnWay, IsAwaitedChild, IsAwaitedBelow, IsNear}
+use Rattle.det_laws.specs.Near.{is_awaited, IsOnWay, IsNear}
 use Rattle.det_laws.proofs.Frames.{is_awaited_whole, is_within, are_within, differs, meeting_within, find-meet_other}
 use Rattle.det_laws.proofs.Commutes.{settled_stopped, settled_below, find_settled, child_there, stopped_waits, settled_rests, awaited_settled, awaited_stopped}
 use Rattle.det_laws.proofs.Local.{one_level}
@@ -164,17 +163,17 @@ first_change true e es all one others = (one, others)
 first_change false e es all one others = others
 
 starts_change : (all : List Await) (quantum : ℕ) (t : Top) (cs : List Thread) → ((n : ℕ) → is_awaited_whole n all ≡ false) → AreChanges all (starts quantum t cs)
-starts_change all quantum t [] none = tt
-starts_change all quantum t (c ∷ cs) none =
-    first_change (waits c.top.status) (change c.number (after_start quantum t c.top)) (starts quantum t cs) all (none c.number) (starts_change all quantum t cs none)
+starts_change all quantum t [] alone = tt
+starts_change all quantum t (c ∷ cs) alone =
+    first_change (waits c.top.status) (change c.number (after_start quantum t c.top)) (starts quantum t cs) all (alone c.number) (starts_change all quantum t cs alone)
 
 renewal_change : (all : List Await) (c : Thread) (o : Option Memory) (es : List Edit) → is_awaited_whole c.number all ≡ false → AreChanges all es → AreChanges all (renewal c o ++ es)
 renewal_change all c None es one others = others
 renewal_change all c (Some snapshot) es one others = (one, others)
 
 renewals_change : (all : List Await) (cs : List Thread) → ((n : ℕ) → is_awaited_whole n all ≡ false) → AreChanges all (renewals cs)
-renewals_change all [] none = tt
-renewals_change all (c ∷ cs) none = renewal_change all c c.top.snapshot (renewals cs) (none c.number) (renewals_change all cs none)
+renewals_change all [] alone = tt
+renewals_change all (c ∷ cs) alone = renewal_change all c c.top.snapshot (renewals cs) (alone c.number) (renewals_change all cs alone)
 
 action_places : (k : Call) (t : Top) (cs : Children) → are_ready (awaits k) cs ≡ true → PlacesOrChanges (awaits k) (action k t (seen_of (awaits k) cs)).edits
 action_places (Put x) t cs ready = inl (itself_not_whole x.child, refl)

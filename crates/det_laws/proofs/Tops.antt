@@ -3,7 +3,7 @@ use Rattle.std.proofs.Common.{◌≡◌, ℕ, ◌≢◌, List, [], ◌∷◌, Op
 use Rattle.std.proofs.lemmas.Bool.{cases_eq}
 use Rattle.std.specs.Prelude.{option_map, option_and_then}
 use Rattle.space_model.specs.Space.{Top, Space, space, Children, top_of, find, over}
-use Rattle.space_model.specs.Path.{at, under, replace_top, with_top}
+use Rattle.space_model.specs.Path.{at, replace_top, with_top}
 use Rattle.space_model.proofs.Children.{find-over_same, find-over_other, over-over_same, over-over_other, over-at, over_itself, over_missing}
 use Rattle.det_laws.specs.Tops.{top_at}
 

@@ -1,0 +1,26 @@
+//! Laws of callers and their threads, at any depth.
+
+ghost use Rattle.std.specs.Prelude.{◌≡◌, ℕ, ◌+◌, ◌≤◌, ◌<◌, List, [], Some, true};
+ghost use Rattle.call_model.specs.declared.Call.TheVariants.{Qstart, Qcommit};
+ghost use Rattle.quantum_model.specs.Rows.{threads_in};
+ghost use Rattle.space_model.specs.Commit.{commits};
+ghost use Rattle.space_model.specs.Quanta.{waits, writings};
+ghost use Rattle.space_model.specs.Space.{Space, children_of, find};
+ghost use Rattle.run_model.specs.Schedule.{call_at, step};
+ghost use Rattle.quantum_laws.specs.Between.{HasSnapshot, LeadsBetween, memory_of, status_of};
+
+/// Each thread that a start gives a quantum to has the caller's bytes and permissions of the shared pages as its snapshot: right behind the start, and
+/// after any events of the caller's threads, of all spaces below them, and of the caller itself, as long as none of these is a call of the caller
+/// that meets children.
+pub fn snapshots_stay()
+    ensures { (levels first count quantum n : ℕ) (s t c : Space) (ps : List (List ℕ)) → call_at [] levels s ≡ Some (Qstart first count quantum)
+        → first ≤ n → n < first + count → find n (children_of s) ≡ Some c → waits (status_of c) ≡ true → LeadsBetween levels ps (step [] levels s) t
+        → HasSnapshot n (memory_of s) t }
+{}
+
+/// A commit leaves in the caller's memory what stood there, with what each thread in the row that has a snapshot wrote since, one after the other by
+/// rising numbers, whatever came before.
+pub fn commits_what_was_written()
+    ensures { (levels first count : ℕ) (s : Space) → call_at [] levels s ≡ Some (Qcommit first count)
+        → memory_of (step [] levels s) ≡ commits (memory_of s) (writings (threads_in first count (children_of s))) }
+{}
