@@ -26,12 +26,7 @@ pub(crate) fn start(
 }
 
 /// The same of a commit.
-pub(crate) fn commit(
-    first: u16,
-    count: u8,
-    depth: u8,
-    space: &mut Space,
-) -> Result<(), AllocError>
+pub(crate) fn commit(first: u16, count: u8, depth: u8, space: &mut Space) -> Result<(), AllocError>
     requires row { first + count ≤ 2 ^ 16 }
     requires may { MayCall depth (Qcommit first count) space.old }
     ensures ok { OnOk result (space.new ≡ met_by depth (Qcommit first count) space.old) }
