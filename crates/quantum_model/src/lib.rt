@@ -1,5 +1,4 @@
-//! Definitions of quanta, for contracts: what threads wrote, laid over one memory in their order, and what a start and a commit of threads do. `specs/`
-//! has the definitions, and the laws of commits are here.
+//! Laws of what threads that run for quanta wrote, laid over one memory in the order of their numbers, whose definitions `space_model` has.
 #![tactic(auto)]
 
 mod laws;
