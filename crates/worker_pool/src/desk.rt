@@ -26,7 +26,9 @@ pub(crate) struct Desk<S: Shop, L: Ledger, M: Ledger> {
     pub(crate) asleep: usize,
     /// Whether one of them was rung for and has not come under the lock yet.
     pub(crate) rung: bool,
-    /// How many of them have jobs that are known to last.
+    /// How many of them have jobs in their hands, which they have taken and not handed in.
+    pub(crate) busy: usize,
+    /// How many of these jobs are known to last.
     pub(crate) lasting: usize,
     /// How many results were handed in, since a job lasted, of jobs that did not.
     pub(crate) short: u32,
@@ -71,8 +73,10 @@ impl<S: Shop, L: Ledger, M: Ledger> Desk<S, L, M> {
             return Err(AllocError);
         }
         let turn = self.noted(worker, mine);
-        if turn.is_err() {
-            self.failed = true;
+        match &turn {
+            Ok(Turn::Job(_)) => self.busy = self.busy.saturating_add(1),
+            Ok(_) => {}
+            Err(_) => self.failed = true,
         }
         turn
     }
@@ -133,6 +137,7 @@ impl<S: Shop, L: Ledger, M: Ledger> Desk<S, L, M> {
 
     /// A result is handed in, of a job that lasted or did not.
     pub(crate) fn note(&mut self, lasted: bool) {
+        self.busy = self.busy.saturating_sub(1);
         if lasted {
             self.lasting = self.lasting.saturating_sub(1);
         } else {
@@ -146,19 +151,21 @@ impl<S: Shop, L: Ledger, M: Ledger> Desk<S, L, M> {
         self.short < FEW_SHORT || self.short % BETWEEN_RINGS == 0
     }
 
-    /// Whether a worker is to sleep though there may be jobs: where the last ones were short, workers that come one after another to the lock for such do no
-    /// more than one. Another is awake then, which comes back to the lock at once, or rings when it finds that its job lasts.
-    pub(crate) fn is_crowded(&self) -> bool {
-        self.short >= FEW_SHORT && self.is_beside_another()
+    // Whether another worker is awake beside so many that need not come back soon.
+    fn is_awake_beside(&self, others: usize) -> bool {
+        let awake = self.here.saturating_sub(self.asleep).saturating_sub(others);
+        !self.failed && awake > 1
     }
 
-    /// Whether another worker is awake, and has no job that lasts: it comes back to the lock, or rings when it finds that its job lasts.
+    /// Whether a worker is to sleep though there may be jobs: where the last ones were short, workers that come one after another to the lock for such do no
+    /// more than one. Another is awake then, and has no job that is known to last: it comes back to the lock at once, or rings when it finds that its job lasts.
+    pub(crate) fn is_crowded(&self) -> bool {
+        self.short >= FEW_SHORT && self.is_awake_beside(self.lasting)
+    }
+
+    /// Whether another worker is awake, and has no job in its hands: it is about to take its turn.
     pub(crate) fn is_beside_another(&self) -> bool {
-        let awake = self
-            .here
-            .saturating_sub(self.asleep)
-            .saturating_sub(self.lasting);
-        !self.failed && awake > 1
+        self.is_awake_beside(self.busy)
     }
 
     /// Whom a worker with a job rings for: for one other where there may be more, and where nobody is on the way already.

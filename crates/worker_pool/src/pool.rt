@@ -94,6 +94,7 @@ fn opened<S: Shop, L: Ledger, M: Ledger>(shop: S, out: Book<L>, done: Book<M>) -
         here: 0,
         asleep: 0,
         rung: false,
+        busy: 0,
         lasting: 0,
         short: 0,
         failed: false,

@@ -6,8 +6,9 @@
 //   the last jobs were short (`is_eager`), once it knows that this one lasts; if it does not, the worker is back soon, and looks again. The one that was rung for
 //   looks, and does the same in its turn, so one after another is woken for as long as there may be more. Nobody is rung for while one that
 //   was rung for is on its way to the lock (`rung`): that one looks at whatever there is by then. Whoever wakes takes the note away, rung for or not.
-// - A turn that met: the worker comes back at once, and sleeps only beside another that is awake and has no job that lasts (`is_beside_another`): that one comes
-//   to the lock, too, or rings when it finds that its job lasts. So turns that meet, one after another, are one worker's, and no lock goes from hand to hand for each.
+// - A turn that met: the worker comes back at once, and sleeps only beside another that is awake and has no job in its hands (`is_beside_another`): that one comes
+//   to the lock, too. So turns that meet, one after another, are one worker's, and no lock goes from hand to hand for each; and a worker with a job, whether it works at
+//   it or is held in its gate, keeps no other from meeting.
 // - A result that was handed in: the same worker takes its next turn under the same lock. Where the last jobs were short it sleeps first, but only beside
 //   another that is awake and has no job that lasts (`is_crowded`): that one comes back to the lock, or rings when it finds that its job lasts.
 // - A turn that is `Rest` changes nothing, so whatever it found wanting is wanting still; the shop answers it only while a job is out, and whoever
