@@ -1,6 +1,6 @@
 /*
  * Threads that share one memory, for programs that were written for pthreads. docs/PROGRAMS.md says how such a program is ported, and
- * docs/KERNEL.md, "Threads in rounds", what QSTART and QCOMMIT do.
+ * docs/KERNEL.md, "For programmers: threads in rounds of quanta", what a thread sees when.
  *
  * The root makes threads and calls threads_run. There they run in rounds: each for at most a quantum of events, on a copy of the memory as it
  * was when the round began; then what they wrote is put together. So a thread sees what others wrote from the next round on. Where two wrote one byte
