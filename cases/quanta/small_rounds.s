@@ -9,7 +9,7 @@ next:   addi a1, s0, 0
         ecall
         bne a0, zero, row
         addi s0, s0, 1
-        addi t0, zero, 14
+        addi t0, zero, 15
         bne s0, t0, next
         addi a7, zero, 3        ; Ret
         ecall
@@ -370,6 +370,50 @@ rows:   li t1, seven
         add a0, a0, s4
         addi a7, zero, 3
         ecall
+
+; 14: files are each space's own. Thread 0 makes the file a, and finds it in its second quantum, but not the caller's b: 0x10. The caller finds no a
+files:  addi t0, zero, 97       ; the letter a
+        sb t0, 4(s2)
+        addi t0, zero, 98
+        sb t0, 5(s2)
+        addi a1, s2, 5
+        addi a2, zero, 1
+        addi a3, zero, 0
+        addi a7, zero, 24       ; FNEW of b
+        ecall
+        li t1, makes
+        li t2, ends
+        jal ra, make
+        jal ra, start
+        jal ra, commit
+        addi a1, s2, 4
+        addi a2, zero, 1
+        addi a7, zero, 27       ; FLEN of a: 1, NoFile
+        ecall
+        addi s4, a0, 0
+        jal ra, start
+        jal ra, commit
+        addi a0, s4, 0
+        addi a7, zero, 3
+        ecall
+makes:  addi a1, s2, 4
+        addi a2, zero, 1
+        addi a3, zero, 0
+        addi a7, zero, 24       ; FNEW of a
+        ecall
+        addi t0, zero, 60
+spin:   addi t0, t0, -1
+        bne t0, zero, spin
+        addi a1, s2, 4
+        addi a7, zero, 27       ; FLEN of a: 0
+        ecall
+        addi t0, a0, 0
+        addi a1, s2, 5
+        ecall                   ; FLEN of b: 1
+        slli a0, a0, 4
+        add a0, a0, t0
+        addi a7, zero, 3
+        ecall
 .segment 0x2000 3
         .zero 8
 .segment 0x3000 3
@@ -391,3 +435,4 @@ rows:   li t1, seven
         .word sees
         .word last
         .word rows
+        .word files
