@@ -203,7 +203,7 @@ wait_for(struct thread *thread, enum state state, uint32_t of)
   thread->turn = turns++;
 }
 
-/* A thread that was waked waits for its mutex next. */
+/* A thread that was woken waits for its mutex next. */
 static void
 wake(struct condition *condition)
 {

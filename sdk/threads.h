@@ -38,8 +38,8 @@ struct condition {
 /* ---- For the root ---- */
 
 /*
- * Runs all threads until none can go on, each for so many events a round, one at least. Returns how many have not ended: 0, or as many as wait for one
- * another.
+ * Runs all threads until none can go on, each for so many events a round, one at least. Returns how many have not ended, which wait for what does not
+ * come: 0, mostly.
  */
 int threads_run(uint32_t quantum);
 
