@@ -1,0 +1,8 @@
+//! Links that lose, repeat and reorder: a sender, which keeps the parcels that have no receipt yet, and a receiver, which takes them in their order.
+#![tactic(auto)]
+
+mod fault;
+mod fields;
+
+pub use fault::FrameFault;
+pub use link_model::{FrameError, FrameErrorKind};
