@@ -1,7 +1,9 @@
 -- The two ends of a link, by what they keep: a sender the parcels that have no receipt yet, a receiver the number that it awaits next. What each method does
 -- to its end, and of which links an end is one.
 -- Our choice: a restatement for contracts.
-use Rattle.std.specs.Prelude.{◌≡◌, ℕ, ◌+◌, ◌-◌, ◌≤◌, ◌==◌, List, [], ◌∷◌, ◌++◌, length, drop, slice_get, Option, Some, None, option_map, nat_lt, max, if◌then◌else◌}
+use Rattle.std.specs.Prelude.{◌≡◌, ℕ, ◌+◌, ◌-◌, ◌≤◌, ◌==◌, List, [], ◌∷◌, ◌++◌, length, drop, slice_get, Option, Some, None, option_map, Result, Ok, Err, nat_lt, max, if◌then◌else◌}
+use Rattle.link_model.specs.declared.error.FrameError.{FrameError}
+use Rattle.link_model.specs.Reading.{data_of}
 use Rattle.link_model.specs.Frame.{no_number, window, data_bytes}
 use Rattle.link_model.specs.Link.{Link}
 
@@ -46,6 +48,20 @@ with_receipt n s = record { base = max s.base n; kept = drop (n - s.base) s.kept
 abbrev pub taken_at : ℕ → ℕ × List ℕ → Option (List ℕ)
 taken_at awaited frame = if frame.0 == awaited then Some frame.1 else None
 
+-- the same of the bytes of a frame
+abbrev pub taken_of : ℕ → Result (ℕ × List ℕ) FrameError → Result (Option (List ℕ)) FrameError
+taken_of awaited (Ok frame) = Ok (taken_at awaited frame)
+taken_of awaited (Err e) = Err e
+
+abbrev pub read_at : ℕ → List ℕ → Result (Option (List ℕ)) FrameError
+read_at awaited bytes = taken_of awaited (data_of bytes)
+
+-- what is delivered by it
+abbrev pub one_of : Option (List ℕ) → List (List ℕ)
+one_of None = []
+one_of (Some parcel) = parcel ∷ []
+
+-- the number that is awaited then
 abbrev pub awaited_after : ℕ → Option (List ℕ) → ℕ
 awaited_after awaited None = awaited
 awaited_after awaited (Some parcel) = awaited + 1

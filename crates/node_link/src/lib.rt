@@ -3,6 +3,12 @@
 
 mod fault;
 mod fields;
+mod receiver;
+mod sender;
+#[cfg(test)]
+mod tests;
 
 pub use fault::FrameFault;
 pub use link_model::{FrameError, FrameErrorKind};
+pub use receiver::Receiver;
+pub use sender::{Offered, Sender};
