@@ -1,0 +1,5 @@
+pub mod Names
+pub mod Frame
+pub mod Reading
+pub mod Link
+pub mod Ends
