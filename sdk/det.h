@@ -15,7 +15,7 @@
 enum det_number {
   DET_CALL_PUT = 1, DET_CALL_GET, DET_CALL_RET,
   DET_CALL_WRITE, DET_CALL_READ, DET_CALL_CLOCK, DET_CALL_RANDOM,
-  DET_CALL_FORK = 16, DET_CALL_WAIT, DET_CALL_TFORK, DET_CALL_TJOIN,
+  DET_CALL_FORK = 16, DET_CALL_WAIT, DET_CALL_TFORK, DET_CALL_TJOIN, DET_CALL_QSTART, DET_CALL_QCOMMIT,
   DET_CALL_FNEW = 24, DET_CALL_FPUT, DET_CALL_FGET, DET_CALL_FLEN, DET_CALL_FDEL
 };
 
@@ -196,6 +196,26 @@ det_thread_create(uint32_t child, uint32_t (*function)(void *), void *argument)
 {
   if (det_thread_fork(child))
     det_return(function(argument));
+}
+
+/*
+ * Rounds: of the count children from the first on, which are 1 to 64. Each that has used up its limit gets our memory below DET_SHARED_END, and goes on
+ * for so many events, one at least. Returns how many those are. (threads.h has a scheduler over these two.)
+ */
+static inline uint32_t
+det_quantum_start(uint32_t first, uint32_t count, uint32_t quantum)
+{
+  return det_call(DET_CALL_QSTART, 0, first, count, quantum, 0, 0, 0).a1;
+}
+
+/*
+ * Waits for all of them, and takes what each has changed since its start, in the order of their numbers, whatever stands here. Returns how many have
+ * used up their quantum.
+ */
+static inline uint32_t
+det_quantum_commit(uint32_t first, uint32_t count)
+{
+  return det_call(DET_CALL_QCOMMIT, 0, first, count, 0, 0, 0, 0).a1;
 }
 
 /* ---- Put and Get ---- */

@@ -178,7 +178,7 @@
         jal ra, try             ; 59: no call has this number
         addi s1, zero, 15       ; no call
         jal ra, try             ; 60: no call has this number
-        addi s1, zero, 20       ; no call
+        addi s1, zero, 22       ; no call
         jal ra, try             ; 61: no call has this number
         addi s1, zero, 23       ; no call
         jal ra, try             ; 62: no call has this number

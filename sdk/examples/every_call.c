@@ -156,6 +156,34 @@ put_and_get(void)
   printf("tree: pc %08x, %s\n", block.pc, cause(block.cause));
 }
 
+static uint32_t
+store(void *argument)
+{
+  shared[*(int *)argument] = 77;
+  return 7;
+}
+
+static void
+rounds(void)
+{
+  struct det_end end;
+  uint32_t started;
+  int place = 2;
+
+  /* a thread of TFORK runs without a limit, so it waits for no quantum; a commit brings what it stored, over what we have stored meanwhile */
+  det_thread_create(11, store, &place);
+  shared[2] = 88;
+  started = det_quantum_start(11, 1, 1000);
+  printf("started %u, waiting %u, shared %d\n", started, det_quantum_commit(11, 1), shared[2]);
+  end = det_thread_join(11);
+  printf("joined: %s %u\n", cause(end.cause), end.value);
+
+  /* children 9 and 10, which loop, have used up their limit. Our page comes to them with our permission, and they go on there for 10 events */
+  det_get(DET_PERM | DET_READABLE | DET_WRITABLE | DET_EXECUTABLE, DET_NOBODY, NULL, 0, SPARE, DET_PAGE);
+  started = det_quantum_start(9, 2, 10);
+  printf("started %u, waiting %u\n", started, det_quantum_commit(9, 2));
+}
+
 int
 main(void)
 {
@@ -165,6 +193,7 @@ main(void)
   threads();
   files();
   put_and_get();
+  rounds();
   printf("unknown: ");
   det_call(99, 0, 0, 0, 0, 0, 0, 0);
   return 0;

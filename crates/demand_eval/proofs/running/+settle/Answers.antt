@@ -1,7 +1,7 @@
 use Rattle.std.proofs.Common.{◌-◌, pred, arith, Some, refl, ap, sym, ◌∙◌}
 use Rattle.space_model.specs.Space.{over}
 use Rattle.std.proofs.lemmas.Result.{on_ok_weaker}
-use Rattle.demand_eval.specs.Turns.{end_of, with_awaited}
+use Rattle.demand_eval.specs.Turns.{end_of}
 use Rattle.demand_eval.proofs.Children.{child_below, child_becomes, child_missing, one_below}
 use Rattle.demand_eval.proofs.Turns.{may_meet, may_pay, met, met_devices, told_local, told_meet, told_stopped, advanced_sound, advanced, advanced_then, advanced_stopped}
 use Rattle.demand_eval.proofs.Everyone.{over_all-more, over_all-done, settled_all, one_settled, run_then, ran_sound}
@@ -53,7 +53,7 @@ meet-returns-clause-goes t c =
 pub meet-returns-clause-devices : goal.meet-returns-clause-devices
 meet-returns-clause-devices t c =
     let waited = c.in_ok-wait_for.ensures in
-    on_ok_weaker c.meet.result (λ h. met_devices _ _ _ _ _ waited h) c.meet.ensures.ok
+    on_ok_weaker c.meet.result (λ h. met_devices (8 - c.args.depth) c.args.call _ _ _ waited h) c.meet.ensures.ok
 
 pub turn-meet-requires : goal.turn-meet-requires
 turn-meet-requires t c =
