@@ -1,4 +1,4 @@
-ghost use Rattle.std.specs.Prelude.{◌≡◌, ◌≤◌, [], IfOk};
+ghost use Rattle.std.specs.Prelude.{◌≡◌, ◌≤◌, IfOk};
 ghost use Rattle.space_model.specs.Sound.{IsSound};
 ghost use Rattle.board.specs.Jobs.{IsNoneOut};
 
@@ -221,14 +221,14 @@ pub(crate) fn settled(alloc: Global, source: &[u8]) -> Result<Space, Fail> {
 /// A board over it, on so many nodes, 1 to 64.
 pub(crate) fn board_on(alloc: Global, source: &[u8], nodes: u32) -> Result<Board, Fail>
     requires { (1 ≤ nodes) × (nodes ≤ 64) }
-    ensures { IfOk result (λ b. (b.owed ≡ 0) × (b.history ≡ []) × IsNoneOut b.out) }
+    ensures { IfOk result (λ b. (b.taken ≡ 0) × (b.owed ≡ 0) × IsNoneOut b.out) }
 {
     Ok(Board::begin(alloc, booted(alloc, source)?, nodes)?)
 }
 
 /// A board over it, on one node.
 pub(crate) fn board_of(alloc: Global, source: &[u8]) -> Result<Board, Fail>
-    ensures { IfOk result (λ b. (b.owed ≡ 0) × (b.history ≡ []) × IsNoneOut b.out) }
+    ensures { IfOk result (λ b. (b.taken ≡ 0) × (b.owed ≡ 0) × IsNoneOut b.out) }
 {
     board_on(alloc, source, 1)
 }
