@@ -1,4 +1,5 @@
 -- What a sender answers to an offer, and what it keeps then.
+-- Our choice: a restatement for contracts.
 use Rattle.std.specs.Prelude.{ℕ, ◌==◌, List, length, map, Result, Ok, Err, nat_lt, if◌then◌else◌}
 use Rattle.std.specs.Global.{Vec}
 use Rattle.link_model.specs.declared.error.FrameError.{FrameError}
