@@ -61,7 +61,7 @@ fn framed(alloc: Global, number: u64, parcel: &[u8]) -> Result<Vec<u8>, AllocErr
     Ok(out)
 }
 
-// Takes so many from the front.
+// Takes so many from the front; sixteen stand there at most.
 fn drop_front(kept: &mut Vec<Vec<u8>>, count: usize)
     requires { count ≤ length kept.old.items }
     ensures { kept.new.items ≡ drop count kept.old.items }

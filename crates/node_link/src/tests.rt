@@ -61,6 +61,17 @@ fn a_frame_that_comes_again_is_passed_over(rt: HostRuntime) -> Result<(), Fail> 
 }
 
 #[test]
+fn copies_are_equal_ends(rt: HostRuntime) -> Result<(), Fail> {
+    let alloc = rt.alloc();
+    let mut sender = Sender::new(alloc);
+    assert_eq!(rt; sender.offer(alloc, &[0xAA])?, Offered::Taken(0));
+    let copy = sender.copy(alloc)?;
+    assert!(rt; has_frame(&copy, alloc)?);
+    assert!(rt; Receiver::new().copy().arrive(alloc, &FRAME)?.is_some());
+    Ok(())
+}
+
+#[test]
 fn frames_have_their_faults(rt: HostRuntime) -> Result<(), Fail> {
     for (end, at) in [(3, 0), (11, 4), (19, 12), (20, 20)] {
         let (frame, _) = FRAME.split_at(end);

@@ -16,6 +16,7 @@ use Rattle.space_model.specs.Meeting.{awaits, meet}
 use Rattle.space_model.proofs.Children.{find-over_same, find-over_other}
 use Rattle.space_model.proofs.Next.{next_meets}
 use Rattle.run_model.specs.Schedule.{are_ready, is_local, ready_call, call_at, event, step}
+use Rattle.det_laws.proofs.Near.{ready_found}
 use Rattle.quantum_model.specs.Rows.{threads_in}
 use Rattle.quantum_laws.specs.Between.{memory_of, status_of, MayHappenBetween, LeadsBetween, HasSnapshot}
 use Rattle.quantum_laws.proofs.Keeping.{step_keeps}
@@ -57,20 +58,10 @@ between : (levels n : ℕ) (m : Memory) (ps : List (List ℕ)) (s t : Space) →
 between levels n m [] s t leads has = rw leads has
 between levels n m (p ∷ ps) s t leads has = between levels n m ps (step p levels s) t leads.1 (event_between levels n m p s leads.0 has)
 
--- a call that may meet its children is next
-is_next : (levels : ℕ) (e : NextEvent) (cs : Children) (k : Call) → ready_call e cs ≡ Some k → (u : Top) × (e ≡ meets k u)
-is_next levels rests cs k is = cc
-is_next levels (moves t) cs k is = cc
-is_next levels (meets j u) cs k is = go (are_ready (awaits j) cs) is
-  where
-    go : (b : Bool) → cond b (Some j) None ≡ Some k → (v : Top) × (meets j u ≡ meets k v)
-    go true is = let same : j ≡ k = cc in (u, ap (λ i. meets i u) same)
-    go false is = cc
-
 -- what becomes of its caller and the children
 met : (levels : ℕ) (k : Call) (t : Top) (cs : Children) → call_at [] levels (space t cs) ≡ Some k → step [] levels (space t cs) ≡ meet levels k (after_payment t t) cs
 met levels k t cs is =
-    let found = is_next levels (next levels t) cs k is in
+    let found = ready_found (next levels t) cs k is in
     let paid = (next_meets levels t k found.0 found.1).paid in
     ap (λ e. event levels e (space t cs)) found.1 ∙ ap (λ u. meet levels k u cs) paid
 
