@@ -3,3 +3,4 @@ pub mod Frame
 pub mod Reading
 pub mod Link
 pub mod Ends
+pub mod Carrying

@@ -1,8 +1,9 @@
 //! Laws of frames and of links.
 
-ghost use Rattle.std.specs.Prelude.{◌≡◌, ◌↔◌, ◌<◌, ◌^◌, ◌++◌, ℕ, List, length, Ok};
-ghost use Rattle.link_model.specs.Frame.{IsData, IsReceipt};
-ghost use Rattle.link_model.specs.Link.{Link, Event, after_all, at_rest, IsInOrder};
+ghost use Rattle.std.specs.Prelude.{◌≡◌, ◌↔◌, ◌<◌, ◌^◌, ◌++◌, ◌∷◌, [], ℕ, List, length, Ok};
+ghost use Rattle.link_model.specs.Carrying.{Carrier, IsCarrierOf, turns_of, with_one_more};
+ghost use Rattle.link_model.specs.Frame.{IsData, IsReceipt, no_number};
+ghost use Rattle.link_model.specs.Link.{Link, Event, offer, after_all, at_rest, IsInOrder};
 ghost use Rattle.link_model.specs.Reading.{IsBytes, data_of, receipt_of};
 
 /// What is read from left to right is what the bytes spell: of parcels with their numbers, and of receipts.
@@ -25,4 +26,11 @@ pub fn delivered_in_order()
 /// Events may be taken in parts.
 pub fn sent_in_parts()
     ensures { (before behind : List Event) (w : Link) → after_all (before ++ behind) w ≡ after_all behind (after_all before w) }
+{}
+
+/// A parcel that is offered to a link over which each earlier one has arrived arrives, whatever the numbers make of its frames: it is the last that was sent and the
+/// last that arrived, and has its receipt.
+pub fn goes_over()
+    ensures { (w : Link) (c : Carrier) (parcel : List ℕ) → IsCarrierOf w c → c.carried < no_number
+        → IsCarrierOf (after_all (offer parcel ∷ turns_of c) w) (with_one_more c) × ((after_all (offer parcel ∷ turns_of c) w).sent ≡ w.sent ++ parcel ∷ []) }
 {}
