@@ -77,38 +77,63 @@ fn list_child(
     list_all(alloc, run, calls, child, &below, levels - 1)
 }
 
+// A board over a sound tree, on these nodes.
+fn begin_on(alloc: Global, mut space: Space, pages: Nodes, nodes: u32) -> Result<Board, AllocError>
+    requires sound { IsSound space }
+    requires nodes { (1 ≤ nodes) × (nodes ≤ 64) }
+    requires pages { length pages ≡ nodes }
+    ensures { IfOk result (λ b. b ≡ begun space nodes) }
+{
+    let mut run = Runs::new(alloc, nodes)?;
+    let mut calls = PathSet::new(alloc);
+    list_all(alloc, &mut run, &mut calls, &space, &Path::new(), 8)?;
+    let cache = DecodeCache::new(alloc)?;
+    Ok(Board {
+        alloc,
+        boot: Boot::of(copy_tree(alloc, &mut space)?),
+        tree: space,
+        history: Vec::new(alloc),
+        out: Slab::new(alloc),
+        counts: Counts {
+            next_ticket: 0,
+            taken: 0,
+            owed: 0,
+        },
+        lists: Lists {
+            at_work: PathSet::new(alloc),
+            run,
+            calls,
+            news: Vec::new(alloc),
+            pages,
+            cache,
+        },
+    })
+}
+
 impl Board {
     /// A board over a sound tree, which is the tree that it begins with and the tree that it has, on so many nodes, 1 to 64: each space stands at home, no job is
     /// out, and nothing has happened. The one error is want of memory.
-    pub fn begin(alloc: Global, mut space: Space, nodes: u32) -> Result<Board, AllocError>
+    pub fn begin(alloc: Global, space: Space, nodes: u32) -> Result<Board, AllocError>
         requires sound { IsSound space }
         requires nodes { (1 ≤ nodes) × (nodes ≤ 64) }
         ensures { IfOk result (λ b. b ≡ begun space nodes) }
     {
-        let mut run = Runs::new(alloc, nodes)?;
         let pages = Nodes::new(alloc, nodes)?;
-        let mut calls = PathSet::new(alloc);
-        list_all(alloc, &mut run, &mut calls, &space, &Path::new(), 8)?;
-        let cache = DecodeCache::new(alloc)?;
-        Ok(Board {
-            alloc,
-            boot: Boot::of(copy_tree(alloc, &mut space)?),
-            tree: space,
-            history: Vec::new(alloc),
-            out: Slab::new(alloc),
-            counts: Counts {
-                next_ticket: 0,
-                taken: 0,
-                owed: 0,
-            },
-            lists: Lists {
-                at_work: PathSet::new(alloc),
-                run,
-                calls,
-                news: Vec::new(alloc),
-                pages,
-                cache,
-            },
-        })
+        begin_on(alloc, space, pages, nodes)
+    }
+
+    /// As `begin`, on nodes between which parcels go over links that lose, repeat and reorder, as rows of numbers decide that all begin with one seed.
+    pub fn begin_linked(
+        alloc: Global,
+        space: Space,
+        nodes: u32,
+        seed: u32,
+    ) -> Result<Board, AllocError>
+        requires sound { IsSound space }
+        requires nodes { (1 ≤ nodes) × (nodes ≤ 64) }
+        ensures { IfOk result (λ b. b ≡ begun space nodes) }
+    {
+        let pages = Nodes::linked(alloc, nodes, seed)?;
+        begin_on(alloc, space, pages, nodes)
     }
 }

@@ -7,7 +7,8 @@ use node_store::Nodes;
 use space_tree::{Path, Space, Top};
 use std::alloc::AllocError;
 
-// The state of a space as it arrives at a node: packed at the one, without the pages that the other keeps, and read at the other.
+// The state of a space as it arrives at a node: packed at the one, without the pages that the other keeps, carried over the link between them, where they have one, and
+// read at the other.
 fn arrive(pages: &mut Nodes, top: &Top, from: u32, to: u32) -> Result<Top, AllocError>
     requires from { from < length pages.old }
     requires to { to < length pages.old }
@@ -15,7 +16,8 @@ fn arrive(pages: &mut Nodes, top: &Top, from: u32, to: u32) -> Result<Top, Alloc
     ensures same { IfOk result (λ t. t ≡ top.now) }
     ensures nodes { length pages.new ≡ length pages.old }
 {
-    let parcel = pages.send(from, to, top)?;
+    let sent = pages.send(from, to, top)?;
+    let parcel = pages.carry(from, to, sent)?;
     match pages.receive(to, &parcel, None) {
         Ok(arrived) => Ok(arrived),
         Err(ParcelFault::Memory) => Err(AllocError),

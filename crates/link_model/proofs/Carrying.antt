@@ -159,13 +159,12 @@ module _ (before : List (List ℕ)) (parcel : List ℕ) (rs : List ℕ) (answere
               let there : slice_get fs k ≡ Some n = ap (slice_get fs) (sym place) ∙ last.1 in
               rw (sends before parcel fs rs, arrives before parcel (fs ++ n ∷ []) rs k (before_end fs n n k there)) got
 
-
   all_turns : (left : ℕ) (is_first : Bool) (x frames : ℕ) (fs : List ℕ) → length fs ≡ frames → LastIs is_first fs frames n
       → HasReceipt (after_all (turns (suc left) is_first n x frames) (on_way before parcel fs rs)) before parcel (frames + turns_taken (suc left) is_first x)
   all_turns zero is_first x frames fs sent last = by_fate (fate_with 0 (next x)) is_first fs frames 0 [] sent last (λ none. absurd (true≢false none))
   all_turns (suc left) is_first x frames fs sent last = by_fate (fate_with (suc left) (next x)) is_first fs frames (turns_taken (suc left) false (next x)) (turns (suc left) false n (next x) (frames + 1)) sent last
       (λ none. all_turns left false (next x) (frames + 1) (fs ++ n ∷ []) (one_longer fs n frames sent)
-          (let same : frames + 1 - 1 ≡ frames = omega arith in (omega arith, ap (slice_get (fs ++ n ∷ [])) same ∙ at_end fs n frames sent)))
+      (let same : frames + 1 - 1 ≡ frames = omega arith in (omega arith, ap (slice_get (fs ++ n ∷ [])) same ∙ at_end fs n frames sent)))
 
 -- ---- the whole way
 
@@ -180,14 +179,17 @@ offers parcels parcel fs rs few = ap (λ (b : Bool). cond b (on_way parcels parc
 
 pub goes_over : (w : Link) (c : Carrier) (parcel : List ℕ) → IsCarrierOf w c → c.carried < no_number
     → IsCarrierOf (after_all (offer parcel ∷ turns_of c) w) (with_one_more c) × ((after_all (offer parcel ∷ turns_of c) w).sent ≡ w.sent ++ parcel ∷ [])
-goes_over w c parcel is few = (record {
-  arrived = came.delivered ∙ sym came.sent;
-  carried = ap length came.sent ∙ one_longer w.sent parcel c.carried is.carried;
-  base = came.base ∙ ap (λ (n : ℕ). n + 1) is.carried;
-  receipts = came.receipts ∙ ap (λ (n : ℕ). n + 1) is.carried;
-  frames = came.frames;
-  earlier = λ m last. let low = came.earlier m last in let count = is.carried in omega (arith, low, count);
-}, came.sent)
+goes_over w c parcel is few = (
+  record {
+    arrived = came.delivered ∙ sym came.sent;
+    carried = ap length came.sent ∙ one_longer w.sent parcel c.carried is.carried;
+    base = came.base ∙ ap (λ (n : ℕ). n + 1) is.carried;
+    receipts = came.receipts ∙ ap (λ (n : ℕ). n + 1) is.carried;
+    frames = came.frames;
+    earlier = λ m last. let low = came.earlier m last in let count = is.carried in omega (arith, low, count);
+  },
+  came.sent,
+)
   where
     same : w ≡ resting w.sent w.frames w.receipts
     same = let low : w.base ≡ length w.sent = is.base ∙ sym is.carried in λ i. record { sent = w.sent; delivered = is.arrived i; frames = w.frames; receipts = w.receipts; base = low i }

@@ -1,2 +1,3 @@
 pub mod Offers
 pub mod Events
+pub mod Linked

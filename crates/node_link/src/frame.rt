@@ -37,4 +37,10 @@ impl Frame {
     {
         &self.bytes
     }
+
+    pub(crate) fn number(&self) -> u64
+        ensures { result ≡ self.now.0 }
+    {
+        self.number
+    }
 }

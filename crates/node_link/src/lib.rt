@@ -6,13 +6,18 @@ mod fate;
 mod fault;
 mod fields;
 mod frame;
+mod link;
+mod links;
 mod receiver;
 mod sender;
 #[cfg(test)]
 mod tests;
+mod way;
 
 pub use event::LinkEvent;
 pub use fault::FrameFault;
+pub use link::Link;
 pub use link_model::{FrameError, FrameErrorKind};
+pub use links::{Links, MOST_NODES};
 pub use receiver::Receiver;
 pub use sender::{Offered, Sender};

@@ -1,10 +1,11 @@
 -- The lists of resident pages of nodes, and what a parcel that is sent leaves in them.
 -- Source: OSDI 2010, "Efficient System-Enforced Deterministic Parallelism", "Distribution via Space Migration".
 -- Our choice: both ends keep the pages whose bytes were sent.
-use Rattle.std.specs.Prelude.{ℕ, List, [], Option, Result, Ok, slice_index_or, slice_set}
+use Rattle.std.specs.Prelude.{◌≡◌, ℕ, List, [], Option, None, Some, Result, Ok, slice_index_or, slice_set}
 use Rattle.std.specs.Coded.{Coded, coded_list}
 use Rattle.device_model.specs.Devices.{Devices}
 use Rattle.space_model.specs.Space.{Top}
+use Rattle.node_link.specs.Linked.{Linked}
 use Rattle.parcel_model.specs.declared.error.ParcelError.{ParcelError}
 use Rattle.parcel_model.specs.Packing.{parcel_of}
 use Rattle.parcel_model.specs.Reading.{◌>>=◌, top_at}
@@ -13,6 +14,11 @@ use Rattle.parcel_model.specs.Sent.{pages_sent}
 
 abbrev pub coded_lists : Coded (List (List (List ℕ)))
 coded_lists = coded_list coded_residents
+
+-- links, where there are any, are between so many nodes
+abbrev pub AreLinked : ℕ → Option Linked → Type 0
+AreLinked nodes None = Unit {0}
+AreLinked nodes (Some l) = l.nodes ≡ nodes
 
 -- the list of a node; past the nodes there are no pages
 abbrev pub list_of : List (List (List ℕ)) → ℕ → List (List ℕ)

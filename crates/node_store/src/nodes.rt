@@ -6,16 +6,19 @@ ghost use Rattle.parcel_model.specs.Packing.{parcel_bytes};
 ghost use Rattle.node_store.specs.Lists.{after_sending, list_of, received, with_devices};
 
 use crate::both::add_to_both;
+use node_link::Links;
 use node_parcel::{ParcelFault, Residents, pack_to_send, unpack};
 use space_tree::{Devices, Top};
 use std::alloc::{AllocError, Global};
 use std::marker::Model;
 
-/// Nodes, at least one, each with its list of resident pages. Contracts see the lists, by the number of the node, each the list of its pages.
+/// Nodes, at least one, each with its list of resident pages, and with links between them or without. Contracts see the lists, by the number of the node, each the
+/// list of its pages.
 #[derive(Drop)]
 pub struct Nodes {
     alloc: Global,
     lists: Vec<Residents>,
+    links: Option<Links>,
 }
 
 impl Model for Nodes {
@@ -27,6 +30,11 @@ impl Model for Nodes {
     ghost coded = { coded_lists };
 
     ghost view = { λ n. n.lists.items };
+
+    ghost use Rattle.std.specs.Prelude.{length};
+    ghost use Rattle.node_store.specs.Lists.{AreLinked};
+
+    ghost invariant = { λ n. AreLinked (length n.lists.items) n.links };
 }
 
 impl Nodes {
@@ -39,7 +47,21 @@ impl Nodes {
         for _ in 0..nodes {
             lists.push(Residents::new(alloc))?;
         }
-        Ok(Nodes { alloc, lists })
+        Ok(Nodes {
+            alloc,
+            lists,
+            links: None,
+        })
+    }
+
+    /// As `new`, of up to 64 nodes, with a link between each two, over which parcels go: all begin with one seed.
+    pub fn linked(alloc: Global, nodes: u32, seed: u32) -> Result<Nodes, AllocError>
+        requires { (1 ≤ nodes) × (nodes ≤ 64) }
+        ensures { IfOk result (λ n. n ≡ replicate nodes []) }
+    {
+        let mut all = Nodes::new(alloc, nodes)?;
+        all.links = Some(Links::new(alloc, nodes, seed)?);
+        Ok(all)
     }
 
     // The list of a node.
@@ -86,6 +108,19 @@ impl Nodes {
         ensures nodes { length self.new ≡ length self.old }
     {
         self.pack_and_keep(from, to, top)
+    }
+
+    /// A parcel goes from one node to another, over their link where they have one, and arrives as it is. The one error is want of memory.
+    pub fn carry(&mut self, from: u32, to: u32, parcel: Vec<u8>) -> Result<Vec<u8>, AllocError>
+        requires from { from < length self.old }
+        requires to { to < length self.old }
+        ensures parcel { IfOk result (λ v. v.items ≡ parcel.items) }
+        ensures same { self.new ≡ self.old }
+    {
+        if let Some(links) = &mut self.links {
+            return links.carry(self.alloc, from, to, &parcel);
+        }
+        Ok(parcel)
     }
 
     /// The top that a parcel means at a node, with the devices handed in. Where it has a snapshot, exactly the pages in which memory and
