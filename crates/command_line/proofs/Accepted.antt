@@ -16,7 +16,7 @@ use Rattle.clap.specs.Takes.{is_given}
 use Rattle.clap.specs.Faults.{built_fault, check_fault, entered_fault, fault_of, level_fault, settle_fault, defaults_fault, walk_fault}
 use Rattle.clap.specs.declared.builder.value_parser.ValueParser.TheVariants as vp
 use Rattle.command_line.specs.declared.command.Command.{Command}
-use Rattle.command_line.specs.Line.{Engine, IsRefused, IsUnknown, Line, asm, asm_app, asm_line, bench_app, bench_line, bench_with, command_line, demand, engine_in, engine_name_of, engine_named, engine_rule, engine_with, flag, fuel_of, fuel_rule, greatest_number, has_flag, line, line_of, most_nodes, most_workers, nodes_of, nodes_rule, number_in, number_of, pool, program_app, required_rule, rounds, run_app, run_by, run_line, run_with, schedule, seed_of, seed_rule, walk_app, walk_line, workers_of, workers_rule}
+use Rattle.command_line.specs.Line.{Engine, IsRefused, IsUnknown, Line, asm, asm_app, asm_line, bench_app, bench_line, bench_with, command_line, demand, engine_in, engine_name_of, engine_named, engine_rule, engine_with, flag, fuel_of, fuel_rule, greatest_number, has_flag, line, line_of, link_of, link_rule, most_nodes, most_workers, nodes_of, nodes_rule, number_in, number_of, pool, program_app, required_rule, rounds, run_app, run_by, run_line, run_with, schedule, seed_of, seed_rule, walk_app, walk_line, workers_of, workers_rule}
 use Rattle.command_line.proofs.Complete.{HasValue, level_complete}
 use Rattle.command_line.proofs.Kept.{AreOurs, IsHelp, IsSet, found_is, or_else_none}
 
@@ -30,6 +30,9 @@ workers_filled = with_index 1 (filled workers_rule)
 
 abbrev nodes_filled : Rule
 nodes_filled = with_index 1 (filled nodes_rule)
+
+abbrev link_filled : Rule
+link_filled = with_index 1 (filled link_rule)
 
 abbrev fuel_filled : Rule
 fuel_filled = with_index 1 (filled fuel_rule)
@@ -51,7 +54,7 @@ abbrev built_shape : Text → List Rule → Shape
 built_shape name rules = record (new_shape name) { rules = rules; disable_help_subcommand = true; is_built = true }
 
 abbrev run_built : Shape
-run_built = built_shape (codes "run") (engine_filled ∷ workers_filled ∷ nodes_filled ∷ fuel_filled ∷ digest_filled ∷ name_filled 1 (codes "image") ∷ name_filled 2 (codes "script") ∷ help_filled 3 ∷ [])
+run_built = built_shape (codes "run") (engine_filled ∷ workers_filled ∷ nodes_filled ∷ link_filled ∷ fuel_filled ∷ digest_filled ∷ name_filled 1 (codes "image") ∷ name_filled 2 (codes "script") ∷ help_filled 3 ∷ [])
 
 abbrev walk_built : Shape
 walk_built = built_shape (codes "walk") (fuel_filled ∷ name_filled 1 (codes "image") ∷ name_filled 2 (codes "script") ∷ name_filled 3 (codes "schedule") ∷ help_filled 4 ∷ [])
@@ -60,7 +63,7 @@ abbrev asm_built : Shape
 asm_built = built_shape (codes "asm") (name_filled 1 (codes "source") ∷ help_filled 2 ∷ [])
 
 abbrev bench_built : Shape
-bench_built = built_shape (codes "bench") (engine_filled ∷ workers_filled ∷ nodes_filled ∷ seed_filled ∷ help_filled 2 ∷ [])
+bench_built = built_shape (codes "bench") (engine_filled ∷ workers_filled ∷ nodes_filled ∷ link_filled ∷ seed_filled ∷ help_filled 2 ∷ [])
 
 abbrev built_commands : List Shape
 built_commands = run_built ∷ walk_built ∷ asm_built ∷ bench_built ∷ []
@@ -82,13 +85,16 @@ workers_is_set c found = record { set = inl refl; valued = inl refl; plainly = r
 nodes_is_set : (c : List Rule) → arg_by_id c (codes "nodes") ≡ Some nodes_filled → IsSet c nodes_filled
 nodes_is_set c found = record { set = inl refl; valued = inl refl; plainly = refl; found = found }
 
+link_is_set : (c : List Rule) → arg_by_id c (codes "link") ≡ Some link_filled → IsSet c link_filled
+link_is_set c found = record { set = inl refl; valued = inl refl; plainly = refl; found = found }
+
 help_is_help : (n : ℕ) → IsHelp (help_filled n)
 help_is_help n = record { help = refl; optional = refl; plain = refl }
 
 run_is_ours : AreOurs run_built.rules
 run_is_ours =
     let digest : IsSet run_built.rules digest_filled = record { set = inr refl; valued = inr (omega arith); plainly = refl; found = refl } in
-    (inr (engine_is_set _ refl), (inr (workers_is_set _ refl), (inr (nodes_is_set _ refl), (inr (fuel_is_set _ refl), (inr digest, (inr (name_is_set _ 1 (codes "image") refl), (inr (name_is_set _ 2 (codes "script") refl), (inl (help_is_help 3), tt))))))))
+    (inr (engine_is_set _ refl), (inr (workers_is_set _ refl), (inr (nodes_is_set _ refl), (inr (link_is_set _ refl), (inr (fuel_is_set _ refl), (inr digest, (inr (name_is_set _ 1 (codes "image") refl), (inr (name_is_set _ 2 (codes "script") refl), (inl (help_is_help 3), tt)))))))))
 
 walk_is_ours : AreOurs walk_built.rules
 walk_is_ours =
@@ -100,7 +106,7 @@ asm_is_ours = (inr (name_is_set _ 1 (codes "source") refl), (inl (help_is_help 2
 bench_is_ours : AreOurs bench_built.rules
 bench_is_ours =
     let seed : IsSet bench_built.rules seed_filled = record { set = inl refl; valued = inl refl; plainly = refl; found = refl } in
-    (inr (engine_is_set _ refl), (inr (workers_is_set _ refl), (inr (nodes_is_set _ refl), (inr seed, (inl (help_is_help 2), tt)))))
+    (inr (engine_is_set _ refl), (inr (workers_is_set _ refl), (inr (nodes_is_set _ refl), (inr (link_is_set _ refl), (inr seed, (inl (help_is_help 2), tt))))))
 
 -- ---- what they have
 
@@ -150,27 +156,27 @@ IsDecided o = IsSome (option_and_then command_line o) ⊎ IsUnknown (option_and_
 abbrev IsAccepted : Shape → Type 0
 IsAccepted s = (words : List Text) → level_fault s [] nothing_held words false [] ≡ [] → IsDecided (Some (rows_at s words))
 
--- a name that is no engine's with one number of workers and nodes is none with any
-none_named : (a b c : Bool) (m i n j : ℕ) → cond a (Some demand) (cond b (Some rounds) (cond c (Some (pool m i)) None)) ≡ None
-    → cond a (Some demand) (cond b (Some rounds) (cond c (Some (pool n j)) None)) ≡ None
-none_named true b c m i n j e = absurd cc
-none_named false true c m i n j e = absurd cc
-none_named false false true m i n j e = absurd cc
-none_named false false false m i n j e = refl
+-- a name that is no engine's with one number of workers and nodes and one seed is none with any
+none_named : (a b c : Bool) (m i n j : ℕ) (k l : Option ℕ) → cond a (Some demand) (cond b (Some rounds) (cond c (Some (pool m i k)) None)) ≡ None
+    → cond a (Some demand) (cond b (Some rounds) (cond c (Some (pool n j l)) None)) ≡ None
+none_named true b c m i n j k l e = absurd cc
+none_named false true c m i n j k l e = absurd cc
+none_named false false true m i n j k l e = absurd cc
+none_named false false false m i n j k l e = refl
 
 -- a line with an engine is there, or the name of the engine is none
 by_engine : (rows : List Row) (made : Option Engine → Option Line) → HasValue rows engine_filled → IsSome (workers_of rows) → IsSome (nodes_of rows) → ((e : Engine) → IsSome (made (Some e)))
     → IsSome (made (engine_in rows)) ⊎ IsUnknown (first_of (codes "engine") rows)
-by_engine rows made v staffed placed there = subst (λ o. IsSome (made (engine_with (workers_of rows) (nodes_of rows) o)) ⊎ IsUnknown o) (sym v.1.first) (of_numbers (workers_of rows) (nodes_of rows) staffed placed)
+by_engine rows made v staffed placed there = subst (λ o. IsSome (made (engine_with (workers_of rows) (nodes_of rows) (link_of rows) o)) ⊎ IsUnknown o) (sym v.1.first) (of_numbers (workers_of rows) (nodes_of rows) staffed placed)
   where
-    go : (n j : ℕ) (o : Option Engine) → engine_named n j v.0 ≡ o → IsSome (made (engine_named n j v.0)) ⊎ IsUnknown (Some v.0)
-    go n j None is = inr (λ m i. none_named (bytes_eq v.0 (codes "demand")) (bytes_eq v.0 (codes "rounds")) (bytes_eq v.0 (codes "pool")) n j m i is)
+    go : (n j : ℕ) (o : Option Engine) → engine_named n j (link_of rows) v.0 ≡ o → IsSome (made (engine_named n j (link_of rows) v.0)) ⊎ IsUnknown (Some v.0)
+    go n j None is = inr (λ m i l. none_named (bytes_eq v.0 (codes "demand")) (bytes_eq v.0 (codes "rounds")) (bytes_eq v.0 (codes "pool")) n j m i (link_of rows) l is)
     go n j (Some e) is = inl (subst (λ (o : Option Engine). IsSome (made o)) (sym is) (there e))
 
-    of_numbers : (w k : Option ℕ) → IsSome w → IsSome k → IsSome (made (engine_with w k (Some v.0))) ⊎ IsUnknown (Some v.0)
+    of_numbers : (w k : Option ℕ) → IsSome w → IsSome k → IsSome (made (engine_with w k (link_of rows) (Some v.0))) ⊎ IsUnknown (Some v.0)
     of_numbers None k some more = absurd cc
     of_numbers (Some n) None some more = absurd cc
-    of_numbers (Some n) (Some j) some more = go n j (engine_named n j v.0) refl
+    of_numbers (Some n) (Some j) some more = go n j (engine_named n j (link_of rows) v.0) refl
 
 run_accepted : IsAccepted run_built
 unfolding run_line run_by
@@ -179,9 +185,9 @@ run_accepted words e =
     let l = level_complete run_built words run_is_ours e in
     let workers = workers_there rows (l.1.0 (inr (omega arith))) in
     let nodes = nodes_there rows (l.1.1.0 (inr (omega arith))) in
-    let fuel = fuel_there rows (l.1.1.1.0 (inr (omega arith))) in
-    let image = name_there 1 (codes "image") rows (l.1.1.1.1.1.0 (inl refl)) in
-    let script = name_there 2 (codes "script") rows (l.1.1.1.1.1.1.0 (inl refl)) in
+    let fuel = fuel_there rows (l.1.1.1.1.0 (inr (omega arith))) in
+    let image = name_there 1 (codes "image") rows (l.1.1.1.1.1.1.0 (inl refl)) in
+    let script = name_there 2 (codes "script") rows (l.1.1.1.1.1.1.1.0 (inl refl)) in
     let digest = has_flag (codes "digest") rows in
     by_engine rows (λ o. run_with (fuel_of rows) digest o (first_of (codes "image") rows) (first_of (codes "script") rows)) (l.0 (inr (omega arith))) workers nodes
     (λ x. run_there (fuel_of rows) digest (Some x) (first_of (codes "image") rows) (first_of (codes "script") rows) fuel refl image script)
@@ -206,7 +212,7 @@ bench_accepted words e =
     let l = level_complete bench_built words bench_is_ours e in
     let workers = workers_there rows (l.1.0 (inr (omega arith))) in
     let nodes = nodes_there rows (l.1.1.0 (inr (omega arith))) in
-    let seed = seed_there rows (l.1.1.1.0 (inl refl)) in
+    let seed = seed_there rows (l.1.1.1.1.0 (inl refl)) in
     by_engine rows (λ o. bench_with o (seed_of rows)) (l.0 (inr (omega arith))) workers nodes (λ x. bench_there x (seed_of rows) seed)
 
 all_accepted : AllByRecursion IsAccepted built_commands
@@ -273,11 +279,11 @@ refused words none = none_there (fault_of program_app words) (subcommand_of prog
 
 -- ---- an unknown engine
 
-unknown_engine : (w k : Option ℕ) (o : Option Text) → IsUnknown o → engine_with w k o ≡ None
-unknown_engine w k None unknown = absurd unknown
-unknown_engine None k (Some name) unknown = refl
-unknown_engine (Some workers) None (Some name) unknown = refl
-unknown_engine (Some workers) (Some nodes) (Some name) unknown = unknown workers nodes
+unknown_engine : (w k l : Option ℕ) (o : Option Text) → IsUnknown o → engine_with w k l o ≡ None
+unknown_engine w k l None unknown = absurd unknown
+unknown_engine None k l (Some name) unknown = refl
+unknown_engine (Some workers) None l (Some name) unknown = refl
+unknown_engine (Some workers) (Some nodes) l (Some name) unknown = unknown workers nodes l
 
 run_without : (fuel : Option ℕ) (digest : Bool) (image script : Option Text) → run_with fuel digest None image script ≡ None
 run_without None d i s = refl
@@ -289,10 +295,10 @@ no_run rows unknown =
     let digest = has_flag (codes "digest") rows in
     let image = first_of (codes "image") rows in
     let script = first_of (codes "script") rows in
-    subst (λ (o : Option Engine). run_with (fuel_of rows) digest o image script ≡ None) (sym (unknown_engine (workers_of rows) (nodes_of rows) (first_of (codes "engine") rows) unknown)) (run_without (fuel_of rows) digest image script)
+    subst (λ (o : Option Engine). run_with (fuel_of rows) digest o image script ≡ None) (sym (unknown_engine (workers_of rows) (nodes_of rows) (link_of rows) (first_of (codes "engine") rows) unknown)) (run_without (fuel_of rows) digest image script)
 
 no_bench : (rows : List Row) → IsUnknown (first_of (codes "engine") rows) → bench_line rows ≡ None
-no_bench rows unknown = ap (λ (o : Option Engine). bench_with o (seed_of rows)) (unknown_engine (workers_of rows) (nodes_of rows) (first_of (codes "engine") rows) unknown)
+no_bench rows unknown = ap (λ (o : Option Engine). bench_with o (seed_of rows)) (unknown_engine (workers_of rows) (nodes_of rows) (link_of rows) (first_of (codes "engine") rows) unknown)
 
 -- `walk` and `asm` are not `bench`
 no_line : (r w a b : Bool) (name : Option Text) (one two three four : Option Line) → (w ≡ true → b ≡ false) → (a ≡ true → b ≡ false) → (IsUnknown name → one ≡ None) → (IsUnknown name → four ≡ None)

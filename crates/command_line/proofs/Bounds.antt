@@ -8,7 +8,7 @@ use Rattle.clap.specs.ValueTests.{accepts}
 use Rattle.clap.specs.declared.builder.value_parser.ValueParser.TheVariants as vp
 use Rattle.clap.proofs.ValueTestLemmas.{accepts-Accepts}
 use Rattle.command_line.specs.declared.command.Command.{Command}
-use Rattle.command_line.specs.Line.{Engine, IsInRange, IsStaffed, asm, asm_line, bench_line, bench_with, Line, command_line, demand, engine_in, engine_named, engine_with, fuel_of, greatest_number, line_of, most_nodes, most_workers, nodes_of, number_in, pool, rounds, run_by, run_line, run_with, schedule, seed_of, walk_line, workers_of}
+use Rattle.command_line.specs.Line.{Engine, IsInRange, IsStaffed, asm, asm_line, bench_line, bench_with, Line, command_line, demand, engine_in, engine_named, engine_with, fuel_of, greatest_number, line_of, link_of, most_nodes, most_workers, nodes_of, number_in, pool, rounds, run_by, run_line, run_with, schedule, seed_of, walk_line, workers_of}
 
 pub number_bounds : (low high : ℕ) (t : List ℕ) (n : ℕ) → number_in low high t ≡ Some n → (low ≤ n) × (n ≤ high)
 unfolding number_in
@@ -53,23 +53,23 @@ staffed_if : (b : Bool) (e : Engine) (o : Option Engine) → IsStaffed e → IfS
 staffed_if true e o h k = h
 staffed_if false e o h k = k
 
-named_staffed : (n j : ℕ) (t : Text) → (1 ≤ n) × (n ≤ most_workers) × (1 ≤ j) × (j ≤ most_nodes) → IfSome (engine_named n j t) IsStaffed
-named_staffed n j t h =
-    staffed_if (bytes_eq t (codes "demand")) demand _ tt (staffed_if (bytes_eq t (codes "rounds")) rounds _ tt (staffed_if (bytes_eq t (codes "pool")) (pool n j) None h tt))
+named_staffed : (n j : ℕ) (l : Option ℕ) (t : Text) → (1 ≤ n) × (n ≤ most_workers) × (1 ≤ j) × (j ≤ most_nodes) → IfSome (engine_named n j l t) IsStaffed
+named_staffed n j l t h =
+    staffed_if (bytes_eq t (codes "demand")) demand _ tt (staffed_if (bytes_eq t (codes "rounds")) rounds _ tt (staffed_if (bytes_eq t (codes "pool")) (pool n j l) None h tt))
 
-with_staffed : (workers nodes : Option ℕ) (name : Option Text) → ((n : ℕ) → workers ≡ Some n → (1 ≤ n) × (n ≤ most_workers)) → ((n : ℕ) → nodes ≡ Some n → (1 ≤ n) × (n ≤ most_nodes))
-    → IfSome (engine_with workers nodes name) IsStaffed
-with_staffed None nodes name h g = tt
-with_staffed (Some n) None name h g = tt
-with_staffed (Some n) (Some j) None h g = tt
-with_staffed (Some n) (Some j) (Some t) h g =
+with_staffed : (workers nodes link : Option ℕ) (name : Option Text) → ((n : ℕ) → workers ≡ Some n → (1 ≤ n) × (n ≤ most_workers)) → ((n : ℕ) → nodes ≡ Some n → (1 ≤ n) × (n ≤ most_nodes))
+    → IfSome (engine_with workers nodes link name) IsStaffed
+with_staffed None nodes link name h g = tt
+with_staffed (Some n) None link name h g = tt
+with_staffed (Some n) (Some j) link None h g = tt
+with_staffed (Some n) (Some j) link (Some t) h g =
     let a = h n refl in
     let b = g j refl in
-    named_staffed n j t (a.0, a.1, b.0, b.1)
+    named_staffed n j link t (a.0, a.1, b.0, b.1)
 
 in_staffed : (rows : List Row) → IfSome (engine_in rows) IsStaffed
 in_staffed rows =
-    with_staffed (workers_of rows) (nodes_of rows) (first_of (codes "engine") rows) (number_of_bounds 1 most_workers (one_of (codes "workers") rows)) (number_of_bounds 1 most_nodes (one_of (codes "nodes") rows))
+    with_staffed (workers_of rows) (nodes_of rows) (link_of rows) (first_of (codes "engine") rows) (number_of_bounds 1 most_workers (one_of (codes "workers") rows)) (number_of_bounds 1 most_nodes (one_of (codes "nodes") rows))
 
 schedule_staffed : (name : Option Text) → IfSome (option_map (λ n. schedule n) name) IsStaffed
 schedule_staffed None = tt

@@ -116,15 +116,15 @@ pub engine_cut_short : line (run_words (codes "--eng" ∷ codes "rounds" ∷ cod
 unfolding clap_on_literals line program_app run_app walk_app asm_app bench_app run_line walk_line run_by number_in
 engine_cut_short = refl
 
-pub four_workers : line (run_words (codes "--engine" ∷ codes "pool" ∷ codes "I" ∷ codes "S" ∷ [])) ≡ Some (runs 1000000 false (pool 4 1) (codes "I") (codes "S"))
+pub four_workers : line (run_words (codes "--engine" ∷ codes "pool" ∷ codes "I" ∷ codes "S" ∷ [])) ≡ Some (runs 1000000 false (pool 4 1 None) (codes "I") (codes "S"))
 unfolding clap_on_literals line program_app run_app walk_app asm_app bench_app run_line walk_line run_by number_in
 four_workers = refl
 
-pub most_workers_taken : line (run_words (codes "--workers" ∷ codes "64" ∷ codes "--engine" ∷ codes "pool" ∷ codes "I" ∷ codes "S" ∷ [])) ≡ Some (runs 1000000 false (pool 64 1) (codes "I") (codes "S"))
+pub most_workers_taken : line (run_words (codes "--workers" ∷ codes "64" ∷ codes "--engine" ∷ codes "pool" ∷ codes "I" ∷ codes "S" ∷ [])) ≡ Some (runs 1000000 false (pool 64 1 None) (codes "I") (codes "S"))
 unfolding clap_on_literals line program_app run_app walk_app asm_app bench_app run_line walk_line run_by number_in
 most_workers_taken = refl
 
-pub workers_behind_names : line (run_words (codes "I" ∷ codes "S" ∷ codes "--engine=pool" ∷ codes "--workers=+5" ∷ codes "--digest" ∷ [])) ≡ Some (runs 1000000 true (pool 5 1) (codes "I") (codes "S"))
+pub workers_behind_names : line (run_words (codes "I" ∷ codes "S" ∷ codes "--engine=pool" ∷ codes "--workers=+5" ∷ codes "--digest" ∷ [])) ≡ Some (runs 1000000 true (pool 5 1 None) (codes "I") (codes "S"))
 unfolding clap_on_literals line program_app run_app walk_app asm_app bench_app run_line walk_line run_by number_in
 workers_behind_names = refl
 
@@ -148,11 +148,11 @@ pub workers_given_again : line (run_words (codes "--workers" ∷ codes "2" ∷ c
 unfolding clap_on_literals line program_app run_app walk_app asm_app bench_app run_line walk_line run_by number_in
 workers_given_again = refl
 
-pub two_nodes : line (run_words (codes "--engine" ∷ codes "pool" ∷ codes "--nodes" ∷ codes "2" ∷ codes "I" ∷ codes "S" ∷ [])) ≡ Some (runs 1000000 false (pool 4 2) (codes "I") (codes "S"))
+pub two_nodes : line (run_words (codes "--engine" ∷ codes "pool" ∷ codes "--nodes" ∷ codes "2" ∷ codes "I" ∷ codes "S" ∷ [])) ≡ Some (runs 1000000 false (pool 4 2 None) (codes "I") (codes "S"))
 unfolding clap_on_literals line program_app run_app walk_app asm_app bench_app run_line walk_line run_by number_in
 two_nodes = refl
 
-pub most_nodes_taken : line (run_words (codes "--nodes=64" ∷ codes "--workers" ∷ codes "8" ∷ codes "I" ∷ codes "S" ∷ codes "--engine" ∷ codes "pool" ∷ [])) ≡ Some (runs 1000000 false (pool 8 64) (codes "I") (codes "S"))
+pub most_nodes_taken : line (run_words (codes "--nodes=64" ∷ codes "--workers" ∷ codes "8" ∷ codes "I" ∷ codes "S" ∷ codes "--engine" ∷ codes "pool" ∷ [])) ≡ Some (runs 1000000 false (pool 8 64 None) (codes "I") (codes "S"))
 unfolding clap_on_literals line program_app run_app walk_app asm_app bench_app run_line walk_line run_by number_in
 most_nodes_taken = refl
 
@@ -179,6 +179,30 @@ nodes_given_again = refl
 pub nodes_without_value : line (run_words (codes "I" ∷ codes "S" ∷ codes "--nodes" ∷ [])) ≡ None
 unfolding clap_on_literals line program_app run_app walk_app asm_app bench_app run_line walk_line run_by number_in
 nodes_without_value = refl
+
+pub a_link : line (run_words (codes "--engine" ∷ codes "pool" ∷ codes "--nodes" ∷ codes "3" ∷ codes "--link" ∷ codes "7" ∷ codes "I" ∷ codes "S" ∷ [])) ≡ Some (runs 1000000 false (pool 4 3 (Some 7)) (codes "I") (codes "S"))
+unfolding clap_on_literals line program_app run_app walk_app asm_app bench_app run_line walk_line run_by number_in
+a_link = refl
+
+pub link_of_zero : line (run_words (codes "I" ∷ codes "S" ∷ codes "--link=0" ∷ codes "--engine=pool" ∷ [])) ≡ Some (runs 1000000 false (pool 4 1 (Some 0)) (codes "I") (codes "S"))
+unfolding clap_on_literals line program_app run_app walk_app asm_app bench_app run_line walk_line run_by number_in
+link_of_zero = refl
+
+pub greatest_link : line (run_words (codes "--link" ∷ codes "4294967295" ∷ codes "--engine" ∷ codes "pool" ∷ codes "I" ∷ codes "S" ∷ [])) ≡ Some (runs 1000000 false (pool 4 1 (Some 4294967295)) (codes "I") (codes "S"))
+unfolding clap_on_literals line program_app run_app walk_app asm_app bench_app run_line walk_line run_by number_in
+greatest_link = refl
+
+pub too_great_a_link : line (run_words (codes "--link" ∷ codes "4294967296" ∷ codes "I" ∷ codes "S" ∷ [])) ≡ None
+unfolding clap_on_literals line program_app run_app walk_app asm_app bench_app run_line walk_line run_by number_in
+too_great_a_link = refl
+
+pub link_of_no_engine : line (run_words (codes "--link" ∷ codes "3" ∷ codes "I" ∷ codes "S" ∷ [])) ≡ Some (runs 1000000 false demand (codes "I") (codes "S"))
+unfolding clap_on_literals line program_app run_app walk_app asm_app bench_app run_line walk_line run_by number_in
+link_of_no_engine = refl
+
+pub link_given_again : line (run_words (codes "--link" ∷ codes "3" ∷ codes "--link" ∷ codes "3" ∷ codes "I" ∷ codes "S" ∷ [])) ≡ None
+unfolding clap_on_literals line program_app run_app walk_app asm_app bench_app run_line walk_line run_by number_in
+link_given_again = refl
 
 pub program_alone : line (codes "det" ∷ []) ≡ None
 unfolding clap_on_literals line program_app run_app walk_app asm_app bench_app run_line walk_line run_by number_in
@@ -268,11 +292,11 @@ pub bench_on_rounds : line (bench_words (codes "--engine" ∷ codes "rounds" ∷
 unfolding clap_on_literals line program_app run_app walk_app asm_app bench_app run_line walk_line run_by number_in
 bench_on_rounds = refl
 
-pub bench_on_a_pool : line (bench_words (codes "1" ∷ codes "--engine" ∷ codes "pool" ∷ codes "--workers" ∷ codes "8" ∷ [])) ≡ Some (bench (pool 8 1) 1)
+pub bench_on_a_pool : line (bench_words (codes "1" ∷ codes "--engine" ∷ codes "pool" ∷ codes "--workers" ∷ codes "8" ∷ [])) ≡ Some (bench (pool 8 1 None) 1)
 unfolding clap_on_literals line program_app run_app walk_app asm_app bench_app run_line walk_line run_by number_in
 bench_on_a_pool = refl
 
-pub bench_on_nodes : line (bench_words (codes "--nodes" ∷ codes "3" ∷ codes "--engine" ∷ codes "pool" ∷ codes "1" ∷ [])) ≡ Some (bench (pool 4 3) 1)
+pub bench_on_nodes : line (bench_words (codes "--nodes" ∷ codes "3" ∷ codes "--engine" ∷ codes "pool" ∷ codes "1" ∷ [])) ≡ Some (bench (pool 4 3 None) 1)
 unfolding clap_on_literals line program_app run_app walk_app asm_app bench_app run_line walk_line run_by number_in
 bench_on_nodes = refl
 
@@ -306,7 +330,7 @@ run_files = refl
 pub run_files_of_rounds : files_of (runs 2 false rounds (codes "I") (codes "S")) ≡ codes "I" ∷ codes "S" ∷ []
 run_files_of_rounds = refl
 
-pub run_files_of_a_pool : files_of (runs 2 false (pool 3 1) (codes "I") (codes "S")) ≡ codes "I" ∷ codes "S" ∷ []
+pub run_files_of_a_pool : files_of (runs 2 false (pool 3 1 None) (codes "I") (codes "S")) ≡ codes "I" ∷ codes "S" ∷ []
 run_files_of_a_pool = refl
 
 pub walk_files : files_of (runs 2 false (schedule (codes "T")) (codes "I") (codes "S")) ≡ codes "I" ∷ codes "S" ∷ codes "T" ∷ []

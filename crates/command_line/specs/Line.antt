@@ -71,12 +71,16 @@ workers_rule = number (codes "workers") 1 most_workers (codes "4")
 abbrev pub nodes_rule : Rule
 nodes_rule = number (codes "nodes") 1 most_nodes (codes "1")
 
+-- `--link`, a seed, which only the pool's engine uses, and which may be left out
+abbrev pub link_rule : Rule
+link_rule = record (new_rule (codes "link")) { long = Some (codes "link"); parser = Some (vp.Unsigned 0 greatest_number) }
+
 -- the number from which a large image is made
 abbrev pub seed_rule : Rule
 seed_rule = required_number (codes "seed") 0 greatest_number
 
 unfoldable pub run_app : App
-run_app = with_rules (new_app (codes "run")) (engine_rule ∷ workers_rule ∷ nodes_rule ∷ fuel_rule ∷ flag (codes "digest") ∷ required_rule (codes "image") ∷ required_rule (codes "script") ∷ [])
+run_app = with_rules (new_app (codes "run")) (engine_rule ∷ workers_rule ∷ nodes_rule ∷ link_rule ∷ fuel_rule ∷ flag (codes "digest") ∷ required_rule (codes "image") ∷ required_rule (codes "script") ∷ [])
 
 unfoldable pub walk_app : App
 walk_app = with_rules (new_app (codes "walk")) (fuel_rule ∷ required_rule (codes "image") ∷ required_rule (codes "script") ∷ required_rule (codes "schedule") ∷ [])
@@ -85,7 +89,7 @@ unfoldable pub asm_app : App
 asm_app = with_rules (new_app (codes "asm")) (required_rule (codes "source") ∷ [])
 
 unfoldable pub bench_app : App
-bench_app = with_rules (new_app (codes "bench")) (engine_rule ∷ workers_rule ∷ nodes_rule ∷ seed_rule ∷ [])
+bench_app = with_rules (new_app (codes "bench")) (engine_rule ∷ workers_rule ∷ nodes_rule ∷ link_rule ∷ seed_rule ∷ [])
 
 -- a command has to follow the program's name, and none of them is called `help`
 abbrev pub start : App
@@ -104,11 +108,11 @@ IsApp c a = (app_of c ≡ a) × ((out-Command c).has_globals ≡ false)
 -- ---- the line
 
 -- In which order events happen: each space runs when its parent waits for it; or all spaces that can go on run side by side, round by round; or
--- so many workers take whichever space can go on, as they come, over so many nodes; or first the events of a schedule happen, by its file name.
+-- so many workers take whichever space can go on, as they come, over so many nodes, between which links lose, repeat and reorder, as a seed decides, or do not; or first the events of a schedule happen, by its file name.
 pub data Engine : Type 0 where
   demand : Engine
   rounds : Engine
-  pool : ℕ → ℕ → Engine
+  pool : ℕ → ℕ → Option ℕ → Engine
   schedule : Text → Engine
 
 -- a run: its fuel, whether digests are asked for, its engine, and the file names of an image and a script
@@ -129,7 +133,7 @@ pub data Line : Type 0 where
 abbrev pub files_of_engine : Engine → List Text
 files_of_engine demand = []
 files_of_engine rounds = []
-files_of_engine (pool workers nodes) = []
+files_of_engine (pool workers nodes link) = []
 files_of_engine (schedule name) = name ∷ []
 
 abbrev pub files_of : Line → List Text
@@ -141,7 +145,7 @@ files_of (bench engine seed) = files_of_engine engine
 abbrev pub IsStaffed : Engine → Type 0
 IsStaffed demand = Unit {0}
 IsStaffed rounds = Unit {0}
-IsStaffed (pool workers nodes) = (1 ≤ workers) × (workers ≤ most_workers) × (1 ≤ nodes) × (nodes ≤ most_nodes)
+IsStaffed (pool workers nodes link) = (1 ≤ workers) × (workers ≤ most_workers) × (1 ≤ nodes) × (nodes ≤ most_nodes)
 IsStaffed (schedule name) = Unit {0}
 
 -- numbers are in their ranges
@@ -174,20 +178,24 @@ workers_of = number_of 1 most_workers (codes "workers")
 abbrev pub nodes_of : List Row → Option ℕ
 nodes_of = number_of 1 most_nodes (codes "nodes")
 
--- the engine of a name, with so many workers and nodes if it has any
-abbrev pub engine_named : ℕ → ℕ → Text → Option Engine
-engine_named workers nodes name = if bytes_eq name (codes "demand") then Some demand
+-- the seed of the links, where one is given
+abbrev pub link_of : List Row → Option ℕ
+link_of = number_of 0 greatest_number (codes "link")
+
+-- the engine of a name, with so many workers and nodes, and such links, if it has any
+abbrev pub engine_named : ℕ → ℕ → Option ℕ → Text → Option Engine
+engine_named workers nodes link name = if bytes_eq name (codes "demand") then Some demand
     else if bytes_eq name (codes "rounds") then Some rounds
-    else if bytes_eq name (codes "pool") then Some (pool workers nodes)
+    else if bytes_eq name (codes "pool") then Some (pool workers nodes link)
     else None
 
--- the engine of a name and two numbers, where all are there
-abbrev pub engine_with : Option ℕ → Option ℕ → Option Text → Option Engine
-engine_with (Some workers) (Some nodes) (Some name) = engine_named workers nodes name
-engine_with _ _ _ = None
+-- the engine of a name and two numbers, where all are there, and of a seed, which may be left out
+abbrev pub engine_with : Option ℕ → Option ℕ → Option ℕ → Option Text → Option Engine
+engine_with (Some workers) (Some nodes) link (Some name) = engine_named workers nodes link name
+engine_with _ _ _ _ = None
 
 abbrev pub engine_in : List Row → Option Engine
-engine_in rows = engine_with (workers_of rows) (nodes_of rows) (first_of (codes "engine") rows)
+engine_in rows = engine_with (workers_of rows) (nodes_of rows) (link_of rows) (first_of (codes "engine") rows)
 
 -- the parts of a run, where all are there
 abbrev pub run_with : Option ℕ → Bool → Option Engine → Option Text → Option Text → Option Line
@@ -231,10 +239,10 @@ line words = if is_empty (fault_of program_app words)
 abbrev pub engine_name_of : Text × List Row → Option Text
 engine_name_of p = if bytes_eq p.0 (codes "run") || bytes_eq p.0 (codes "bench") then first_of (codes "engine") p.1 else None
 
--- and it is no engine's, whatever the numbers of workers and nodes
+-- and it is no engine's, whatever the numbers of workers and nodes, and the seed
 abbrev pub IsUnknown : Option Text → Type 0
 IsUnknown None = ⊥
-IsUnknown (Some name) = (workers nodes : ℕ) → engine_named workers nodes name ≡ None
+IsUnknown (Some name) = (workers nodes : ℕ) (link : Option ℕ) → engine_named workers nodes link name ≡ None
 
 -- the words are refused: `clap` has a kind of error for them, or the name that is given to `--engine`, which to `clap` is any text, is no engine's
 abbrev pub IsRefused : List Text → Type 0
@@ -244,7 +252,7 @@ IsRefused words = ¬ (fault_of program_app words ≡ []) ⊎ IsUnknown (option_a
 abbrev pub engine_of : engine.Engine → Engine
 engine_of Demand = demand
 engine_of Rounds = rounds
-engine_of (Pool workers nodes) = pool workers nodes
+engine_of (Pool workers nodes link) = pool workers nodes link
 engine_of (Schedule name) = schedule name.now
 
 abbrev pub run_of : command_run.Run → Run

@@ -1,7 +1,7 @@
 //! The commands as `clap` reads them.
 
 ghost use Rattle.std.specs.Prelude.{IfOk};
-ghost use Rattle.command_line.specs.Line.{IsApp, IsRule, asm_app, bench_app, engine_rule, fuel_rule, nodes_rule, program_app, run_app, seed_rule, walk_app, workers_rule};
+ghost use Rattle.command_line.specs.Line.{IsApp, IsRule, asm_app, bench_app, engine_rule, fuel_rule, link_rule, nodes_rule, program_app, run_app, seed_rule, walk_app, workers_rule};
 ghost use Rattle.command_line.specs.Line.{required_rule, flag as flag_rule, number as number_rule, required_number as required_number_rule};
 
 use clap::builder::ValueParser;
@@ -11,7 +11,7 @@ use std::alloc::{AllocError, Global};
 /// The most fuel that a command line may give: 2^32 - 1.
 pub(crate) const GREATEST_FUEL: u32 = 4_294_967_295;
 
-/// The greatest seed: 2^32 - 1.
+/// The greatest seed, of an image or of links: 2^32 - 1.
 pub(crate) const GREATEST_SEED: u32 = 4_294_967_295;
 
 /// The most workers that a pool may have.
@@ -76,6 +76,15 @@ fn nodes_argument<'a>(alloc: Global) -> Arg<'a>
     number(alloc, "nodes", 1, u64::from(MOST_NODES), "1")
 }
 
+// `clap` reads it whatever the engine; it may be left out.
+fn link_argument<'a>(alloc: Global) -> Arg<'a>
+    ensures { IsRule result link_rule }
+{
+    Arg::new(alloc, "link")
+        .long("link")
+        .value_parser(ValueParser::unsigned(0, u64::from(GREATEST_SEED)))
+}
+
 fn seed_argument<'a>(alloc: Global) -> Arg<'a>
     ensures { IsRule result seed_rule }
 {
@@ -88,6 +97,7 @@ fn run_command<'a>(alloc: Global) -> Result<Command<'a>, AllocError>
     let engine = engine_argument(alloc);
     let workers = workers_argument(alloc);
     let nodes = nodes_argument(alloc);
+    let link = link_argument(alloc);
     let fuel = fuel_argument(alloc);
     let digest = flag(alloc, "digest");
     let image = required_argument(alloc, "image");
@@ -96,6 +106,7 @@ fn run_command<'a>(alloc: Global) -> Result<Command<'a>, AllocError>
         .arg(engine)?
         .arg(workers)?
         .arg(nodes)?
+        .arg(link)?
         .arg(fuel)?
         .arg(digest)?
         .arg(image)?
@@ -129,11 +140,13 @@ fn bench_command<'a>(alloc: Global) -> Result<Command<'a>, AllocError>
     let engine = engine_argument(alloc);
     let workers = workers_argument(alloc);
     let nodes = nodes_argument(alloc);
+    let link = link_argument(alloc);
     let seed = seed_argument(alloc);
     Command::new(alloc, "bench")
         .arg(engine)?
         .arg(workers)?
         .arg(nodes)?
+        .arg(link)?
         .arg(seed)
 }
 

@@ -1,7 +1,7 @@
 ghost use Rattle.std.specs.Prelude.{◌≡◌, ◌↔◌, IfOk, IsNone, codes, map, option_map, option_and_then, IfSome};
 ghost use Rattle.std.specs.String.{string_bytes};
 ghost use Rattle.clap.specs.Words.{first_of, found_of, rows_of, subcommand_rows_of};
-ghost use Rattle.command_line.specs.Line.{IsInRange, IsRefused, asm_line, bench_line, bench_with, command_line, engine_in, engine_named, engine_of, engine_with, fuel_of, has_flag, line, line_of, nodes_of, number_of, run_by, run_line, run_with, schedule, seed_of, walk_line, workers_of};
+ghost use Rattle.command_line.specs.Line.{IsInRange, IsRefused, asm_line, bench_line, bench_with, command_line, engine_in, engine_named, engine_of, engine_with, fuel_of, has_flag, line, line_of, link_of, nodes_of, number_of, run_by, run_line, run_with, schedule, seed_of, walk_line, workers_of};
 
 use crate::apps::{GREATEST_FUEL, GREATEST_SEED, MOST_NODES, MOST_WORKERS, program_command};
 use crate::command::{Command, Engine, Run};
@@ -61,30 +61,41 @@ fn nodes_from(matches: &ArgMatches<'_>) -> Option<u32>
     number_from(matches, "nodes", 1, MOST_NODES)
 }
 
-// The engine of a name, with so many workers and nodes if it has any.
-fn engine_named<'a>(workers: u32, nodes: u32, name: &str) -> Option<Engine<'a>>
-    ensures { option_map engine_of result ≡ engine_named workers nodes name.now }
+fn link_from(matches: &ArgMatches<'_>) -> Option<u32>
+    ensures { result ≡ link_of (rows_of (found_of matches.now)) }
+{
+    number_from(matches, "link", 0, GREATEST_SEED)
+}
+
+// The engine of a name, with so many workers and nodes, and such links, if it has any.
+fn engine_named<'a>(workers: u32, nodes: u32, link: Option<u32>, name: &str) -> Option<Engine<'a>>
+    ensures { option_map engine_of result ≡ engine_named workers nodes link name.now }
 {
     if name == "demand" {
         Some(Engine::Demand)
     } else if name == "rounds" {
         Some(Engine::Rounds)
     } else if name == "pool" {
-        Some(Engine::Pool { workers, nodes })
+        Some(Engine::Pool {
+            workers,
+            nodes,
+            link,
+        })
     } else {
         None
     }
 }
 
-// The engine of a name and two numbers, where all are there.
+// The engine of a name and two numbers, where all are there, and of a seed, which may be left out.
 fn engine_with<'a>(
     workers: Option<u32>,
     nodes: Option<u32>,
+    link: Option<u32>,
     name: Option<&str>,
 ) -> Option<Engine<'a>>
-    ensures { option_map engine_of result ≡ engine_with workers nodes (option_map (λ s. s.now) name.entry) }
+    ensures { option_map engine_of result ≡ engine_with workers nodes link (option_map (λ s. s.now) name.entry) }
 {
-    engine_named(workers?, nodes?, name?)
+    engine_named(workers?, nodes?, link, name?)
 }
 
 // The engine that is named, or the one that stands for no name.
@@ -93,8 +104,9 @@ fn engine_from<'a>(matches: &ArgMatches<'a>) -> Option<Engine<'a>>
 {
     let workers = workers_from(matches);
     let nodes = nodes_from(matches);
+    let link = link_from(matches);
     let name = text_from(matches, "engine");
-    engine_with(workers, nodes, name)
+    engine_with(workers, nodes, link, name)
 }
 
 // The parts of a run, where all are there.

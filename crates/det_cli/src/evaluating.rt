@@ -50,7 +50,11 @@ pub(crate) fn read_plan<L: Loader>(
     match engine {
         Engine::Demand => Ok(Plan::Demand),
         Engine::Rounds => Ok(Plan::Rounds),
-        Engine::Pool { workers, nodes } => Ok(Plan::Pool(staff_of(workers, nodes))),
+        Engine::Pool {
+            workers,
+            nodes,
+            link,
+        } => Ok(Plan::Pool(staff_of(workers, nodes, link))),
         Engine::Schedule(name) => {
             let paths = load_as::<L, Vec<Path>>(alloc, files, name)?;
             Ok(Plan::Schedule(paths))

@@ -53,7 +53,10 @@ fn settle_by_workers<R: Threads + Wait + Sync, G: Gate>(
 {
     let mut root = root;
     let copy = copy_tree(alloc, &mut root)?;
-    let board = Board::begin(alloc, root, staff.nodes)?;
+    let board = match staff.link {
+        Some(seed) => Board::begin_linked(alloc, root, staff.nodes, seed)?,
+        None => Board::begin(alloc, root, staff.nodes)?,
+    };
     let closed = run_together(rt, board, staff.workers, gate)?;
     match end_from(closed, &copy) {
         Some(end) => Ok(end),

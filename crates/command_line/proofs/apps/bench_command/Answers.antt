@@ -11,4 +11,5 @@ returns c =
     let one = arg_added _ _ (new_app (codes "bench")) _ _ c.in_ok-arg.ensures (c.new.ensures.app, c.new.ensures.local) c.engine_argument-engine.ensures in
     let two = arg_added _ _ _ _ _ c.in_ok-arg-2.ensures one c.workers_argument-workers.ensures in
     let three = arg_added _ _ _ _ _ c.in_ok-arg-3.ensures two c.nodes_argument-nodes.ensures in
-    IfOk-weaker c.arg-4.result _ _ (λ r adds. arg_added _ r _ _ _ adds three c.seed_argument-seed.ensures) c.arg-4.ensures
+    let four = arg_added _ _ _ _ _ c.in_ok-arg-4.ensures three c.link_argument-link.ensures in
+    IfOk-weaker c.arg-5.result _ _ (λ r adds. arg_added _ r _ _ _ adds four c.seed_argument-seed.ensures) c.arg-5.ensures

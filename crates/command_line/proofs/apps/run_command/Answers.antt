@@ -11,7 +11,8 @@ returns c =
     let one = arg_added _ _ (new_app (codes "run")) _ _ c.in_ok-arg.ensures (c.new.ensures.app, c.new.ensures.local) c.engine_argument-engine.ensures in
     let two = arg_added _ _ _ _ _ c.in_ok-arg-2.ensures one c.workers_argument-workers.ensures in
     let three = arg_added _ _ _ _ _ c.in_ok-arg-3.ensures two c.nodes_argument-nodes.ensures in
-    let four = arg_added _ _ _ _ _ c.in_ok-arg-4.ensures three c.fuel_argument-fuel.ensures in
-    let five = arg_added _ _ _ _ _ c.in_ok-arg-5.ensures four c.flag-digest.ensures in
-    let six = arg_added _ _ _ _ _ c.in_ok-arg-6.ensures five c.required_argument-image.ensures in
-    IfOk-weaker c.arg-7.result _ _ (λ r adds. arg_added _ r _ _ _ adds six c.required_argument-script.ensures) c.arg-7.ensures
+    let four = arg_added _ _ _ _ _ c.in_ok-arg-4.ensures three c.link_argument-link.ensures in
+    let five = arg_added _ _ _ _ _ c.in_ok-arg-5.ensures four c.fuel_argument-fuel.ensures in
+    let six = arg_added _ _ _ _ _ c.in_ok-arg-6.ensures five c.flag-digest.ensures in
+    let seven = arg_added _ _ _ _ _ c.in_ok-arg-7.ensures six c.required_argument-image.ensures in
+    IfOk-weaker c.arg-8.result _ _ (λ r adds. arg_added _ r _ _ _ adds seven c.required_argument-script.ensures) c.arg-8.ensures
