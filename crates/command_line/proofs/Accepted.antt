@@ -34,23 +34,23 @@ nodes_filled = with_index 1 (filled nodes_rule)
 abbrev link_filled : Rule
 link_filled = with_index 1 (filled link_rule)
 
-abbrev fuel_filled : Rule
+abbrev pub fuel_filled : Rule
 fuel_filled = with_index 1 (filled fuel_rule)
 
 abbrev digest_filled : Rule
 digest_filled = with_index 1 (filled (flag (codes "digest")))
 
 -- the n-th of a command's names
-abbrev name_filled : ℕ → Text → Rule
+abbrev pub name_filled : ℕ → Text → Rule
 name_filled n id = with_index n (filled (required_rule id))
 
 abbrev seed_filled : Rule
 seed_filled = with_index 1 (filled seed_rule)
 
-abbrev help_filled : ℕ → Rule
+abbrev pub help_filled : ℕ → Rule
 help_filled n = with_index n (filled help_rule)
 
-abbrev built_shape : Text → List Rule → Shape
+abbrev pub built_shape : Text → List Rule → Shape
 built_shape name rules = record (new_shape name) { rules = rules; disable_help_subcommand = true; is_built = true }
 
 abbrev run_built : Shape
@@ -70,10 +70,10 @@ built_commands = run_built ∷ walk_built ∷ asm_built ∷ bench_built ∷ []
 
 -- ---- their arguments
 
-name_is_set : (c : List Rule) (n : ℕ) (id : Text) → arg_by_id c id ≡ Some (name_filled n id) → IsSet c (name_filled n id)
+pub name_is_set : (c : List Rule) (n : ℕ) (id : Text) → arg_by_id c id ≡ Some (name_filled n id) → IsSet c (name_filled n id)
 name_is_set c n id found = record { set = inl refl; valued = inl refl; plainly = refl; found = found }
 
-fuel_is_set : (c : List Rule) → arg_by_id c (codes "limit") ≡ Some fuel_filled → IsSet c fuel_filled
+pub fuel_is_set : (c : List Rule) → arg_by_id c (codes "limit") ≡ Some fuel_filled → IsSet c fuel_filled
 fuel_is_set c found = record { set = inl refl; valued = inl refl; plainly = refl; found = found }
 
 engine_is_set : (c : List Rule) → arg_by_id c (codes "engine") ≡ Some engine_filled → IsSet c engine_filled
@@ -88,7 +88,7 @@ nodes_is_set c found = record { set = inl refl; valued = inl refl; plainly = ref
 link_is_set : (c : List Rule) → arg_by_id c (codes "link") ≡ Some link_filled → IsSet c link_filled
 link_is_set c found = record { set = inl refl; valued = inl refl; plainly = refl; found = found }
 
-help_is_help : (n : ℕ) → IsHelp (help_filled n)
+pub help_is_help : (n : ℕ) → IsHelp (help_filled n)
 help_is_help n = record { help = refl; optional = refl; plain = refl }
 
 run_is_ours : AreOurs run_built.rules
@@ -117,7 +117,7 @@ number_taken low high t e = subst (λ (b : Bool). IsSome (cond b (Some (digits_v
 number_there : (low high : ℕ) (id : Text) (rows : List Row) (t : Text) → one_of id rows ≡ Some t → accepts false (vp.Unsigned low high) t ≡ true → IsSome (number_of low high id rows)
 number_there low high id rows t one taken = subst (λ o. IsSome (option_and_then (number_in low high) o)) (sym one) (number_taken low high t taken)
 
-fuel_there : (rows : List Row) → HasValue rows fuel_filled → IsSome (fuel_of rows)
+pub fuel_there : (rows : List Row) → HasValue rows fuel_filled → IsSome (fuel_of rows)
 fuel_there rows v = number_there 1 greatest_number (codes "limit") rows v.0 v.1.one v.1.taken
 
 workers_there : (rows : List Row) → HasValue rows workers_filled → IsSome (workers_of rows)
@@ -129,7 +129,7 @@ nodes_there rows v = number_there 1 most_nodes (codes "nodes") rows v.0 v.1.one 
 seed_there : (rows : List Row) → HasValue rows seed_filled → IsSome (seed_of rows)
 seed_there rows v = number_there 0 greatest_number (codes "seed") rows v.0 v.1.one v.1.taken
 
-name_there : (n : ℕ) (id : Text) (rows : List Row) → HasValue rows (name_filled n id) → IsSome (first_of id rows)
+pub name_there : (n : ℕ) (id : Text) (rows : List Row) → HasValue rows (name_filled n id) → IsSome (first_of id rows)
 name_there n id rows v = subst (λ (o : Option Text). IsSome o) (sym v.1.first) refl
 
 run_there : (fuel : Option ℕ) (digest : Bool) (engine : Option Engine) (image script : Option Text) → IsSome fuel → IsSome engine → IsSome image → IsSome script → IsSome (run_with fuel digest engine image script)
@@ -225,7 +225,7 @@ wanted : (x z : Bool) → check_kinds x true z ≡ [] → ⊥
 wanted true z e = absurd cc
 wanted false z e = absurd cc
 
-no_subcommand : (top : Shape) (rows : List Row) → top.subcommand_required ≡ true → check_fault top rows false ≡ [] → ⊥
+pub no_subcommand : (top : Shape) (rows : List Row) → top.subcommand_required ≡ true → check_fault top rows false ≡ [] → ⊥
 no_subcommand top rows required e =
     let x : Bool = top.arg_required_else_help && not (list_any (λ (r : Row). explicit_source r.source) rows) in
     let z : Bool = not (top.subcommand_negates_reqs && false) && list_any (λ (a : Rule). a.required && not (is_given a.id rows)) top.rules in

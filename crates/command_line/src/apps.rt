@@ -35,7 +35,8 @@ fn flag<'a>(alloc: Global, id: &'a str) -> Arg<'a>
     Arg::new(alloc, id).long(id).action(ArgAction::SetTrue)
 }
 
-fn required_argument<'a>(alloc: Global, id: &'a str) -> Arg<'a>
+/// A word that has to be there.
+pub fn required_argument<'a>(alloc: Global, id: &'a str) -> Arg<'a>
     ensures { IsRule result (required_rule id.entry.now) }
 {
     Arg::new(alloc, id).required(true)
@@ -47,7 +48,8 @@ fn required_number<'a>(alloc: Global, id: &'a str, low: u64, high: u64) -> Arg<'
     required_argument(alloc, id).value_parser(ValueParser::unsigned(low, high))
 }
 
-fn fuel_argument<'a>(alloc: Global) -> Arg<'a>
+/// `--limit`, how many events a space may take.
+pub fn fuel_argument<'a>(alloc: Global) -> Arg<'a>
     ensures { IsRule result fuel_rule }
 {
     number(alloc, "limit", 1, u64::from(GREATEST_FUEL), "1000000")

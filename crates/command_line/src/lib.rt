@@ -5,5 +5,6 @@ mod apps;
 mod command;
 mod reading;
 
+pub use apps::{fuel_argument, required_argument};
 pub use command::{Command, Engine, Run};
-pub use reading::read_line;
+pub use reading::{fuel_from, read_line, text_from};

@@ -24,7 +24,8 @@ fn number_from(matches: &ArgMatches<'_>, id: &str, low: u32, high: u32) -> Optio
     }
 }
 
-fn text_from<'a>(matches: &ArgMatches<'a>, id: &str) -> Option<&'a str>
+/// The first value of an argument.
+pub fn text_from<'a>(matches: &ArgMatches<'a>, id: &str) -> Option<&'a str>
     ensures { option_map (λ s. s.now) result ≡ first_of id.now (rows_of (found_of matches.now)) }
 {
     matches.get_str(id)
@@ -37,7 +38,8 @@ fn flag_from(matches: &ArgMatches<'_>, id: &str) -> bool
     matches.get_one::<bool>(id).unwrap_or(false)
 }
 
-fn fuel_from(matches: &ArgMatches<'_>) -> Option<u32>
+/// The fuel that `--limit` gives.
+pub fn fuel_from(matches: &ArgMatches<'_>) -> Option<u32>
     ensures { result ≡ fuel_of (rows_of (found_of matches.now)) }
 {
     number_from(matches, "limit", 1, GREATEST_FUEL)
