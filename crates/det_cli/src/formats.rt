@@ -18,7 +18,7 @@ use space_tree::Path;
 use std::alloc::Global;
 
 /// What a file is read as.
-pub(crate) trait FileFormat: Drop + Sized {
+pub trait FileFormat: Drop + Sized {
     /// The most bytes of a file.
     const ROOM: u64;
 

@@ -18,5 +18,8 @@ mod staff;
 
 pub use end::{End, status};
 pub use fault_line::write_fault;
+pub use formats::FileFormat;
 pub use main_call::{det_main, det_still};
 pub use program::{Exit, det_program};
+pub use reading::load_as;
+pub use running::write_end;

@@ -32,7 +32,7 @@ fn load<L: Loader>(alloc: Global, files: &mut L, name: &str, room: u64) -> Resul
 }
 
 /// What a file is read as. It is loaded once.
-pub(crate) fn load_as<L: Loader, T: FileFormat>(
+pub fn load_as<L: Loader, T: FileFormat>(
     alloc: Global,
     files: &mut L,
     name: &str,

@@ -54,7 +54,7 @@ fn end_of(space: &Space) -> End
 }
 
 /// The end of a write that failed.
-pub(crate) fn write_end(error: SinkError) -> End
+pub fn write_end(error: SinkError) -> End
     ensures failed { error ≡ SinkError.Failed → result ≡ End.WriteFault }
     ensures memory { error ≡ SinkError.Memory → result ≡ End.NoMemory }
 {
