@@ -1,0 +1,9 @@
+//! Tests of links, over which parcels are carried, and of their two ends.
+#![tactic(auto)]
+
+#[cfg(test)]
+mod any_order;
+#[cfg(test)]
+mod carrying;
+#[cfg(test)]
+mod frames;
