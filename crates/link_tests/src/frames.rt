@@ -129,3 +129,17 @@ fn a_receipt_of_all_is_taken_and_one_more_is_ahead(rt: HostRuntime) -> Result<()
     assert_eq!(rt; fault_of_receipt(&mut sender, &RECEIPT), None);
     Ok(())
 }
+
+#[test]
+fn a_byte_behind_a_receipt_is_trailing(rt: HostRuntime) -> Result<(), Fail> {
+    let (mut sender, _) = offered(rt.alloc(), 4)?;
+    let mut long = [0; 13];
+    for at in 0..12 {
+        long[at] = RECEIPT[at];
+    }
+    assert_eq!(rt;
+        fault_of_receipt(&mut sender, &long),
+        Some((12, FrameErrorKind::Trailing))
+    );
+    Ok(())
+}
