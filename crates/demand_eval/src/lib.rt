@@ -7,5 +7,5 @@ mod running;
 mod streaming;
 
 pub use console::write_console;
-pub use running::settle;
+pub use running::{Runner, STRETCH, settle, wait_for};
 pub use streaming::{StreamFault, settle_on, settle_to};

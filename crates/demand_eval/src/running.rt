@@ -16,13 +16,13 @@ use std::collections::BTreeMap;
 use trap_ret::{AcceptedCall, Call, awaits};
 
 /// For how many events a space runs before it is asked again what is next.
-pub(crate) const STRETCH: u32 = 1 << 20;
+pub const STRETCH: u32 = 1 << 20;
 
 /// What one space after the other runs by: where memory comes from, and the decoded instructions.
 #[derive(Drop)]
-pub(crate) struct Runner {
-    pub(crate) alloc: Global,
-    pub(crate) cache: DecodeCache,
+pub struct Runner {
+    pub alloc: Global,
+    pub cache: DecodeCache,
 }
 
 // The child of that number, where it is there, runs until it stops, or settles.
@@ -44,9 +44,10 @@ fn wait_for_child(
     }
 }
 
-// What a call waits for is ready: each child that it names, one after the other, has run until it stopped, or settled.
+/// What a call of a space at a depth of at most 8 waits for is ready: each child that it names, one after the other, has run until it stopped, or
+/// settled. The one error is want of memory; the space is somewhere on its way then.
 #[cycle(settle)]
-fn wait_for(
+pub fn wait_for(
     runner: &mut Runner,
     call: AcceptedCall,
     space: &mut Space,

@@ -7,5 +7,6 @@ mod reporting;
 mod summing;
 
 pub use digesting::digest;
+pub use line::stop_text;
 pub use reporting::report;
 pub use summing::summary;

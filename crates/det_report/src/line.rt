@@ -31,7 +31,7 @@ fn word(cause: Cause) -> &'static str
 }
 
 /// The cause and the value of a space that has stopped.
-pub(crate) fn stop_text(alloc: Global, status: Status) -> Result<String, AllocError>
+pub fn stop_text(alloc: Global, status: Status) -> Result<String, AllocError>
     requires { is_stopped status ≡ true }
     ensures { IfOk result (λ s. string_bytes s ≡ stop_text status) }
 {

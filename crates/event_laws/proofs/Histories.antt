@@ -35,7 +35,7 @@ other_path p q ne = go (is_same_path p q) refl
     go true is = absurd (ne (same_path p q is))
 
 -- two paths are one or differ
-pub cases_path : (p q : List ℕ) → (p ≡ q) ⊎ (p ≡ q → ⊥)
+cases_path : (p q : List ℕ) → (p ≡ q) ⊎ (p ≡ q → ⊥)
 cases_path p q = go (is_same_path p q) refl
   where
     go : (b : Bool) → is_same_path p q ≡ b → (p ≡ q) ⊎ (p ≡ q → ⊥)
@@ -43,7 +43,7 @@ cases_path p q = go (is_same_path p q) refl
     go false is = inr (λ e. true≢false (sym (same_itself p) ∙ ap (is_same_path p) e ∙ is))
 
 -- where no event may happen there is no own event
-pub no_event : (p : List ℕ) (levels : ℕ) (s : Space) → is_enabled p levels s ≡ false → own_event_at p levels s ≡ None
+no_event : (p : List ℕ) (levels : ℕ) (s : Space) → is_enabled p levels s ≡ false → own_event_at p levels s ≡ None
 no_event [] levels s un = rw un refl
 no_event (n ∷ p) levels s un = go (find n (children_of s)) un (λ c. no_event p (pred levels) c)
   where
@@ -52,7 +52,7 @@ no_event (n ∷ p) levels s un = go (find n (children_of s)) un (λ c. no_event 
     go None un below = refl
     go (Some c) un below = below c un
 
-pub idle : (p r : List ℕ) (rs : List (List ℕ)) (s : Space) → is_enabled r 8 s ≡ false → own_events p (r ∷ rs) s ≡ own_events p rs s
+idle : (p r : List ℕ) (rs : List (List ℕ)) (s : Space) → is_enabled r 8 s ≡ false → own_events p (r ∷ rs) s ≡ own_events p rs s
 idle p r rs s un = go (is_same_path p r) refl
   where
     go : (b : Bool) → is_same_path p r ≡ b → own_events p (r ∷ rs) s ≡ own_events p rs s
@@ -61,10 +61,10 @@ idle p r rs s un = go (is_same_path p r) refl
         let none : own_event_at p 8 s ≡ None = ap (λ q. own_event_at q 8 s) (same_path p r is) ∙ no_event r 8 s un in
         rw (is, none, un) refl
 
-pub elsewhere : (p r : List ℕ) (rs : List (List ℕ)) (s : Space) → p ≢ r → is_enabled r 8 s ≡ true → own_events p (r ∷ rs) s ≡ own_events p rs (step r 8 s)
+elsewhere : (p r : List ℕ) (rs : List (List ℕ)) (s : Space) → p ≢ r → is_enabled r 8 s ≡ true → own_events p (r ∷ rs) s ≡ own_events p rs (step r 8 s)
 elsewhere p r rs s ne may = rw (other_path p r ne, may) refl
 
-pub here : (p : List ℕ) (rs : List (List ℕ)) (s : Space) → is_enabled p 8 s ≡ true → own_events p (p ∷ rs) s ≡ and_others (own_event_at p 8 s) (own_events p rs (step p 8 s))
+here : (p : List ℕ) (rs : List (List ℕ)) (s : Space) → is_enabled p 8 s ≡ true → own_events p (p ∷ rs) s ≡ and_others (own_event_at p 8 s) (own_events p rs (step p 8 s))
 here p rs s may = rw (same_itself p, may) refl
 
 after_one : (r : List ℕ) (rs : List (List ℕ)) (s : Space) → is_enabled r 8 s ≡ true → after_all (r ∷ rs) s ≡ after_all rs (step r 8 s)
@@ -287,7 +287,7 @@ entry_of (q ∷ qs) s p k e is = by_path (is_same_path p q) refl is (λ j. entry
     by_path false away is rest = behind None (rw away refl) k (omega arith) (rest k is)
 
 -- where an event may happen there is an own event
-pub event_here : (p : List ℕ) (levels : ℕ) (s : Space) → is_enabled p levels s ≡ true → (e : OwnEvent) × (own_event_at p levels s ≡ Some e)
+event_here : (p : List ℕ) (levels : ℕ) (s : Space) → is_enabled p levels s ≡ true → (e : OwnEvent) × (own_event_at p levels s ≡ Some e)
 event_here [] levels s may = (record { before = top_of s; sees = seen_by (next levels (top_of s)) (children_of s); after = top_of (event levels (next levels (top_of s)) s) }, rw may refl)
 event_here (n ∷ p) levels s may =
     let c = child_there (is_enabled p (pred levels)) (find n (children_of s)) may in
@@ -330,17 +330,3 @@ others_stay (n ∷ p) (m ∷ q) levels (space t cs) away = go (cases_eq n m) (λ
         let found : find n (over m f cs) ≡ option_map f (find n cs) = ap (λ i. find i (over m f cs)) e ∙ find-over_same m f cs ∙ ap (λ i. option_map f (find i cs)) (sym e) in
         ap (λ o. option_map top_of (option_and_then (at p) o)) found ∙ below (λ c. each c (λ w. away (sym e, w))) (find n cs)
     go (inr apart) each = ap (λ o. option_map top_of (option_and_then (at p) o)) (find-over_other n m f cs apart)
-
--- schedules in parts
-pub after_parts : (ps qs : List (List ℕ)) (s : Space) → after_all (ps ++ qs) s ≡ after_all qs (after_all ps s)
-after_parts [] qs s = refl
-after_parts (p ∷ ps) qs s = after_parts ps qs (try_step p 8 s)
-
-pub own_in_parts : (p : List ℕ) (ps qs : List (List ℕ)) (s : Space) → own_events p (ps ++ qs) s ≡ own_events p ps s ++ own_events p qs (after_all ps s)
-own_in_parts p [] qs s = refl
-own_in_parts p (r ∷ ps) qs s = go (if is_same_path p r then own_event_at p 8 s else None) (own_in_parts p ps qs (try_step r 8 s))
-  where
-    go : (o : Option OwnEvent) → own_events p (ps ++ qs) (try_step r 8 s) ≡ own_events p ps (try_step r 8 s) ++ own_events p qs (after_all ps (try_step r 8 s))
-        → and_others o (own_events p (ps ++ qs) (try_step r 8 s)) ≡ and_others o (own_events p ps (try_step r 8 s)) ++ own_events p qs (after_all ps (try_step r 8 s))
-    go None same = same
-    go (Some e) same = ap (λ xs. e ∷ xs) same
