@@ -1,3 +1,6 @@
-pub mod Searching
+pub mod Schedules
+pub mod Stopped
+pub mod Awaiting
+pub mod Turns
 pub mod Coming
 pub mod Lines

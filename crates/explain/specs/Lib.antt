@@ -1,2 +1,4 @@
+pub mod Going
+pub mod Instructions
 pub mod Reached
 pub mod Text

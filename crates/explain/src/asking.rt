@@ -4,8 +4,9 @@ ghost use Rattle.space_model.specs.Sound.{IsSound};
 ghost use Rattle.run_model.specs.Demand.{settle_tree};
 ghost use Rattle.explain.specs.Reached.{NeverHappens, ShowsEvent, ShowsSpace};
 
-use crate::reaching::{run_out, run_to};
-use crate::showing::{show_space, show_top};
+use crate::going::run_to;
+use crate::showing::{show_end, show_event};
+use demand_eval::settle;
 use space_tree::{Path, Space, at};
 use std::alloc::{AllocError, Global};
 
@@ -28,7 +29,7 @@ pub fn after_event(
         return Ok(None);
     }
     match at(&tree, path) {
-        Some(space) => Ok(Some(show_top(alloc, &space.top)?)),
+        Some(space) => Ok(Some(show_event(alloc, path, number, &space.top)?)),
         None => Ok(None),
     }
 }
@@ -40,10 +41,9 @@ pub fn at_end(alloc: Global, tree: Space, path: &Path) -> Result<Option<Vec<u8>>
     ensures some { IfOk result (λ o. IfSome o (λ v. ShowsSpace path.now.items (settle_tree tree) v.items)) }
     ensures none { IfOk result (λ o. IsNone o → at path.now.items (settle_tree tree) ≡ None) }
 {
-    let mut tree = tree;
-    run_out(alloc, &mut tree)?;
-    match at(&tree, path) {
-        Some(space) => Ok(Some(show_space(alloc, space)?)),
+    let settled = settle(alloc, tree)?;
+    match at(&settled, path) {
+        Some(space) => Ok(Some(show_end(alloc, path, space)?)),
         None => Ok(None),
     }
 }

@@ -2,8 +2,10 @@
 #![tactic(auto)]
 
 mod asking;
-mod reaching;
+mod going;
+mod instructions;
+mod paths;
 mod showing;
 
 pub use asking::{after_event, at_end};
-pub use reaching::{run_out, run_to};
+pub use going::run_to;

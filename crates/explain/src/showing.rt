@@ -1,32 +1,12 @@
-ghost use Rattle.std.specs.Prelude.{◌≡◌, ◌++◌, IfOk, OnOk, string_bytes};
-ghost use Rattle.space_model.specs.Stop.{cause_word};
-ghost use Rattle.space_model.specs.Space.{top_of, children_of};
-ghost use Rattle.explain.specs.Text.{child_text, children_text, four, high_registers, limit_text, low_registers, register_text, space_text, state_text, status_text, top_text};
+ghost use Rattle.std.specs.Prelude.{◌≡◌, ◌++◌, ◌+◌, ◌<◌, [], IfOk, OnOk, codes, string_bytes};
+ghost use Rattle.std.specs.Fmt.{decimal};
+ghost use Rattle.explain.specs.Text.{child_text, children_text, end_text, event_text, limit_text, line_of, pc_text, register_text, registers_text, space_text, state_text, status_text, top_text};
 
-use space_tree::{Cause, Children, Regs, Space, Status, Top};
+use crate::instructions::{instruction_part, register_name};
+use crate::paths::path_text;
+use det_report::stop_text;
+use space_tree::{Children, Path, Regs, Space, Status, Top};
 use std::alloc::{AllocError, Global};
-
-// The word of a cause.
-fn word(cause: Cause) -> &'static str
-    ensures { result.now ≡ cause_word cause }
-{
-    match cause {
-        Cause::FetchMisaligned => "fetch-misaligned",
-        Cause::FetchFault => "fetch-fault",
-        Cause::Illegal => "illegal",
-        Cause::Breakpoint => "breakpoint",
-        Cause::LoadMisaligned => "load-misaligned",
-        Cause::LoadFault => "load-fault",
-        Cause::StoreMisaligned => "store-misaligned",
-        Cause::StoreFault => "store-fault",
-        Cause::Badcall => "badcall",
-        Cause::Conflict => "conflict",
-        Cause::Limit => "limit",
-        Cause::Fuel => "fuel",
-        Cause::Ret => "ret",
-        Cause::Fresh => "fresh",
-    }
-}
 
 // A space that runs, or the cause and the value with which it has stopped.
 fn status_text(alloc: Global, status: Status) -> Result<String, AllocError>
@@ -34,10 +14,7 @@ fn status_text(alloc: Global, status: Status) -> Result<String, AllocError>
 {
     match status {
         Status::Running => String::from_str(alloc, "running"),
-        Status::Stopped { cause, value } => {
-            let word = word(cause);
-            format!(in alloc; "{word} {value:08x}")
-        }
+        Status::Stopped { .. } => stop_text(alloc, status),
     }
 }
 
@@ -50,97 +27,75 @@ fn limit_text(alloc: Global, limit: Option<u32>) -> Result<String, AllocError>
     }
 }
 
-// How a space stands: its status, pc, and what it may take and has taken.
+// pc, and the instruction there.
+fn pc_text(alloc: Global, top: &Top) -> Result<String, AllocError>
+    ensures { IfOk result (λ s. string_bytes s ≡ pc_text top.now) }
+{
+    let pc = top.registers.pc;
+    let instruction = instruction_part(alloc, top)?;
+    format!(in alloc; "pc {pc:08x}{instruction}\n")
+}
+
+fn status_line(alloc: Global, status: Status) -> Result<String, AllocError>
+    ensures { IfOk result (λ s. string_bytes s ≡ line_of (codes "status") (status_text status)) }
+{
+    let status = status_text(alloc, status)?;
+    format!(in alloc; "status {status}\n")
+}
+
+fn limit_line(alloc: Global, limit: Option<u32>) -> Result<String, AllocError>
+    ensures { IfOk result (λ s. string_bytes s ≡ line_of (codes "limit") (limit_text limit)) }
+{
+    let limit = limit_text(alloc, limit)?;
+    format!(in alloc; "limit {limit}\n")
+}
+
+// A word and how many events.
+fn events_line(alloc: Global, word: &str, events: u32) -> Result<String, AllocError>
+    ensures { IfOk result (λ s. string_bytes s ≡ line_of word.now (decimal events)) }
+{
+    format!(in alloc; "{word} {events}\n")
+}
+
+// How a space stands: its status, pc and the instruction there, and what it may take and has taken.
 fn state_text(alloc: Global, top: &Top) -> Result<String, AllocError>
     ensures { IfOk result (λ s. string_bytes s ≡ state_text top.now) }
 {
-    let status = status_text(alloc, top.status)?;
-    let pc = top.registers.pc;
-    let fuel = top.fuel;
-    let limit = limit_text(alloc, top.limit)?;
-    let used = top.used;
-    format!(in alloc; "status {status} pc {pc:08x} fuel {fuel} limit {limit} used {used}\n")
+    let status = status_line(alloc, top.status)?;
+    let pc = pc_text(alloc, top)?;
+    let fuel = events_line(alloc, "fuel", top.fuel)?;
+    let limit = limit_line(alloc, top.limit)?;
+    let used = events_line(alloc, "used", top.used)?;
+    format!(in alloc; "{status}{pc}{fuel}{limit}{used}")
 }
 
 // A register by its number and its name.
-fn register_text(alloc: Global, name: &str, value: u32) -> Result<String, AllocError>
-    ensures { IfOk result (λ s. string_bytes s ≡ register_text name.now value) }
+fn register_text(alloc: Global, number: u8, value: u32) -> Result<String, AllocError>
+    requires { number < 32 }
+    ensures { IfOk result (λ s. string_bytes s ≡ register_text number value) }
 {
-    format!(in alloc; "{name} {value:08x}")
+    let name = register_name(number);
+    format!(in alloc; "x{number} {name} {value:08x}\n")
 }
 
-// Four registers, each by its number and its name.
-fn four_text(
-    alloc: Global,
-    a: &str,
-    w: u32,
-    b: &str,
-    x: u32,
-    c: &str,
-    y: u32,
-    d: &str,
-    z: u32,
-) -> Result<String, AllocError>
-    ensures { IfOk result (λ s. string_bytes s ≡ four a.now w b.now x c.now y d.now z) }
+// Appends a line for each register.
+fn push_registers(alloc: Global, text: &mut Vec<u8>, registers: &Regs) -> Result<(), AllocError>
+    ensures { OnOk result (text.new.items ≡ text.old.items ++ registers_text 0 registers.now.x) }
 {
-    let first = register_text(alloc, a, w)?;
-    let second = register_text(alloc, b, x)?;
-    let third = register_text(alloc, c, y)?;
-    let fourth = register_text(alloc, d, z)?;
-    format!(in alloc; "{first} {second} {third} {fourth}\n")
+    for number in 0..32 {
+        let line = register_text(alloc, number, registers.register(number))?;
+        text.extend_from_slice(line.as_bytes())?;
+    }
+    Ok(())
 }
 
-// The first half of the registers.
-#[tactic(auto, unfolding(crate::specs::Text::low_registers))]
-fn low_text(alloc: Global, registers: &Regs) -> Result<String, AllocError>
-    ensures { IfOk result (λ s. string_bytes s ≡ low_registers registers.now.x) }
-{
-    let x = &registers.x;
-    let a = four_text(
-        alloc, "x0 zero", x[0], "x1 ra", x[1], "x2 sp", x[2], "x3 gp", x[3],
-    )?;
-    let b = four_text(
-        alloc, "x4 tp", x[4], "x5 t0", x[5], "x6 t1", x[6], "x7 t2", x[7],
-    )?;
-    let c = four_text(
-        alloc, "x8 s0", x[8], "x9 s1", x[9], "x10 a0", x[10], "x11 a1", x[11],
-    )?;
-    let d = four_text(
-        alloc, "x12 a2", x[12], "x13 a3", x[13], "x14 a4", x[14], "x15 a5", x[15],
-    )?;
-    format!(in alloc; "{a}{b}{c}{d}")
-}
-
-// The second half.
-#[tactic(auto, unfolding(crate::specs::Text::high_registers))]
-fn high_text(alloc: Global, registers: &Regs) -> Result<String, AllocError>
-    ensures { IfOk result (λ s. string_bytes s ≡ high_registers registers.now.x) }
-{
-    let x = &registers.x;
-    let a = four_text(
-        alloc, "x16 a6", x[16], "x17 a7", x[17], "x18 s2", x[18], "x19 s3", x[19],
-    )?;
-    let b = four_text(
-        alloc, "x20 s4", x[20], "x21 s5", x[21], "x22 s6", x[22], "x23 s7", x[23],
-    )?;
-    let c = four_text(
-        alloc, "x24 s8", x[24], "x25 s9", x[25], "x26 s10", x[26], "x27 s11", x[27],
-    )?;
-    let d = four_text(
-        alloc, "x28 t3", x[28], "x29 t4", x[29], "x30 t5", x[30], "x31 t6", x[31],
-    )?;
-    format!(in alloc; "{a}{b}{c}{d}")
-}
-
-/// What is shown of a space without its children: status, pc, fuel, limit and used, and the registers by number and name.
-pub(crate) fn show_top(alloc: Global, top: &Top) -> Result<Vec<u8>, AllocError>
-    ensures { IfOk result (λ v. v.items ≡ top_text top.now) }
+// Appends what is shown of a space without its children.
+fn push_top(alloc: Global, text: &mut Vec<u8>, top: &Top) -> Result<(), AllocError>
+    ensures { OnOk result (text.new.items ≡ text.old.items ++ top_text top.now) }
 {
     let state = state_text(alloc, top)?;
-    let low = low_text(alloc, &top.registers)?;
-    let high = high_text(alloc, &top.registers)?;
-    let text = format!(in alloc; "{state}{low}{high}")?;
-    Ok(text.into_bytes())
+    text.extend_from_slice(state.as_bytes())?;
+    push_registers(alloc, text, &top.registers)
 }
 
 // A child by its number, and its status.
@@ -162,11 +117,32 @@ fn push_children(alloc: Global, text: &mut Vec<u8>, children: &Children) -> Resu
     Ok(())
 }
 
-/// What is shown of a space: what is shown of it without its children, and a line for each child with its number and status.
-pub(crate) fn show_space(alloc: Global, space: &Space) -> Result<Vec<u8>, AllocError>
-    ensures { IfOk result (λ v. v.items ≡ space_text space.now) }
+/// What is shown of a space just behind its own event of a number, from 1 on: a line that names the event, and what is shown of the space without its
+/// children.
+pub(crate) fn show_event(
+    alloc: Global,
+    path: &Path,
+    number: u64,
+    top: &Top,
+) -> Result<Vec<u8>, AllocError>
+    ensures { IfOk result (λ v. v.items ≡ event_text path.now.items number top.now) }
 {
-    let mut text = show_top(alloc, &space.top)?;
+    let place = path_text(alloc, path)?;
+    let head = format!(in alloc; "space {place} event {number}\n")?;
+    let mut text = head.into_bytes();
+    push_top(alloc, &mut text, top)?;
+    Ok(text)
+}
+
+/// What is shown of a space at the end of a run: a line that names it, what is shown of it without its children, and a line for each child with its
+/// number and status.
+pub(crate) fn show_end(alloc: Global, path: &Path, space: &Space) -> Result<Vec<u8>, AllocError>
+    ensures { IfOk result (λ v. v.items ≡ end_text path.now.items space.now) }
+{
+    let place = path_text(alloc, path)?;
+    let head = format!(in alloc; "space {place} end\n")?;
+    let mut text = head.into_bytes();
+    push_top(alloc, &mut text, &space.top)?;
     push_children(alloc, &mut text, &space.children)?;
     Ok(text)
 }
