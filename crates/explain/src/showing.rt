@@ -5,7 +5,7 @@ ghost use Rattle.explain.specs.Text.{child_text, children_text, end_text, event_
 use crate::instructions::{instruction_part, register_name};
 use crate::paths::path_text;
 use det_report::stop_text;
-use space_tree::{Children, Path, Regs, Space, Status, Top};
+use space_tree::{Children, Path, Space, Status, Top};
 use std::alloc::{AllocError, Global};
 
 // A space that runs, or the cause and the value with which it has stopped.
@@ -79,11 +79,11 @@ fn register_text(alloc: Global, number: u8, value: u32) -> Result<String, AllocE
 }
 
 // Appends a line for each register.
-fn push_registers(alloc: Global, text: &mut Vec<u8>, registers: &Regs) -> Result<(), AllocError>
-    ensures { OnOk result (text.new.items ≡ text.old.items ++ registers_text 0 registers.now.x) }
+fn push_registers(alloc: Global, text: &mut Vec<u8>, x: &[u32; 32]) -> Result<(), AllocError>
+    ensures { OnOk result (text.new.items ≡ text.old.items ++ registers_text 0 x.now) }
 {
     for number in 0..32 {
-        let line = register_text(alloc, number, registers.register(number))?;
+        let line = register_text(alloc, number, x[number as usize])?;
         text.extend_from_slice(line.as_bytes())?;
     }
     Ok(())
@@ -95,7 +95,7 @@ fn push_top(alloc: Global, text: &mut Vec<u8>, top: &Top) -> Result<(), AllocErr
 {
     let state = state_text(alloc, top)?;
     text.extend_from_slice(state.as_bytes())?;
-    push_registers(alloc, text, &top.registers)
+    push_registers(alloc, text, &top.registers.x)
 }
 
 // A child by its number, and its status.
