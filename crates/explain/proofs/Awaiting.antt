@@ -108,9 +108,10 @@ child_onward levels fuel reach m t cs c d ok is ends = record {
         let later : WayStopped p d = subst (WayStopped p) ends.leads (way_stays ends.schedule p (pred levels) c way) in
         let now : find n (over m (λ x. d) cs) ≡ Some d = ap (λ i. find i (over m (λ x. d) cs)) e ∙ now_there m d c cs is in
         (record { schedule = lifted; leads = leads; events = ap (λ i. own_below levels (i ∷ p) lifted (space t cs)) e ∙ none }, subst (λ o. IfSome o (WayStopped p)) (sym now) later)
-    go n p still (inr ne) =
-        (record { schedule = lifted; leads = leads; events = own_elsewhere ends.schedule levels m (n ∷ p) (space t cs) (apart n p ne) },
-        subst (λ o. IfSome o (WayStopped p)) (sym (find-over_other n m (λ x. d) cs ne)) still)
+    go n p still (inr ne) = (
+      record { schedule = lifted; leads = leads; events = own_elsewhere ends.schedule levels m (n ∷ p) (space t cs) (apart n p ne) },
+      subst (λ o. IfSome o (WayStopped p)) (sym (find-over_other n m (λ x. d) cs ne)) still,
+    )
 
     ready : (v : Reach) (n : ℕ) → is_ready v (find n cs) ≡ true → (n ≡ m) ⊎ (n ≡ m → ⊥) → is_ready v (find n (over m (λ x. d) cs)) ≡ true
     ready v n h (inl e) =

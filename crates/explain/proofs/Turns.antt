@@ -19,7 +19,7 @@ use Rattle.demand_eval.specs.Turns.{IsSoundBelow, with_awaited}
 use Rattle.demand_eval.proofs.Turns.{advanced, advanced_sound, advanced_then, met}
 use Rattle.event_laws.specs.OwnEvents.{OwnEvent}
 use Rattle.explain.specs.declared.going.Turn.{Turn}
-use Rattle.explain.specs.Going.{GoesBy, EndsWith, BelowStopped, TakesTurn}
+use Rattle.explain.specs.Going.{GoesBy, StartsWith, EndsWith, BelowStopped, TakesTurn}
 use Rattle.explain.proofs.Schedules.{goes_then, stays}
 use Rattle.explain.proofs.Awaiting.{all_waited}
 
@@ -36,6 +36,11 @@ ends_append (x ∷ xs) ys o some last = go (xs ++ ys) refl (ends_append xs ys o 
     go [] none later = let long = sym (length-append xs ys) ∙ ap length none in absurd (omega (arith, long, some))
     go (z ∷ zs) is later = subst (λ vs. EndsWith vs o) is later
 
+-- before others the first one is the first
+starts_append : (xs ys : List OwnEvent) (t : Top) → StartsWith xs t → (length xs ≡ 0 → StartsWith ys t) → StartsWith (xs ++ ys) t
+starts_append [] ys t first other = other refl
+starts_append (x ∷ xs) ys t first other = first
+
 -- one local event
 local_event : (levels : ℕ) (t v : Top) (cs : Children) → next levels t ≡ moves v → GoesBy levels [] (record { before = t; sees = []; after = v } ∷ []) (space t cs) (space v cs)
 local_event levels t v cs is = record { schedule = [] ∷ []; leads = rw is refl; events = rw is refl }
@@ -43,15 +48,21 @@ local_event levels t v cs is = record { schedule = [] ∷ []; leads = rw is refl
 local_below : (levels : ℕ) (n : ℕ) (p : List ℕ) (t v : Top) (cs : Children) → next levels t ≡ moves v → GoesBy levels (n ∷ p) [] (space t cs) (space v cs)
 local_below levels n p t v cs is = record { schedule = [] ∷ []; leads = rw is refl; events = refl }
 
+-- no event leaves a top as it is
+none_before : (levels n : ℕ) (t u : Top) → Follows levels n t u → n ≡ 0 → u ≡ t
+none_before levels zero t u is none = is
+none_before levels (suc n) t u is none = absurd (omega (arith, none))
+
 -- so many local events are so many own events
 record OwnLocal (levels n : ℕ) (t u : Top) (cs : Children) : Type 0 where
   own : List OwnEvent
   goes : GoesBy levels [] own (space t cs) (space u cs)
   count : length own ≡ n
+  first : StartsWith own t
   last : EndsWith own (Some u)
 
 own_local : (levels n : ℕ) (t u : Top) (cs : Children) → Follows levels n t u → OwnLocal levels n t u cs
-own_local levels zero t u cs is = record { own = []; goes = subst (λ v. GoesBy levels [] [] (space t cs) (space v cs)) (sym is) (stays levels [] (space t cs)); count = refl; last = tt }
+own_local levels zero t u cs is = record { own = []; goes = subst (λ v. GoesBy levels [] [] (space t cs) (space v cs)) (sym is) (stays levels [] (space t cs)); count = refl; first = tt; last = tt }
 own_local levels (suc n) t u cs is =
     let e : OwnEvent = record { before = t; sees = []; after = is.0 } in
     let rest = own_local levels n is.0 u cs is.2 in
@@ -59,6 +70,7 @@ own_local levels (suc n) t u cs is =
       own = e ∷ rest.own;
       goes = goes_then levels [] (e ∷ []) rest.own (space t cs) (space is.0 cs) (space u cs) (local_event levels t is.0 cs is.1) rest.goes;
       count = ap suc rest.count;
+      first = refl;
       last = go e n is.0 is.2 rest.own rest.count refl rest.last;
     }
   where
@@ -99,6 +111,7 @@ turn_local levels most ran t u cs s ok is follows some all =
       itself = subst (λ r. GoesBy levels [] l.own r (space u cs)) is l.goes;
       count = l.count;
       within = omega (arith, all);
+      first = subst (λ v. StartsWith l.own (top_of v)) is l.first;
       last = l.last;
       below = λ n p still. subst (λ r. GoesBy levels (n ∷ p) [] r (space u cs)) is (follows_below levels ran n p t u cs follows);
       fewer = λ e. on.fewer;
@@ -115,6 +128,7 @@ turn_stopped levels most ran t u cs s is follows few ends =
       itself = subst (λ r. GoesBy levels [] l.own r (space u cs)) is l.goes;
       count = l.count;
       within = omega (arith, few);
+      first = subst (λ v. StartsWith l.own (top_of v)) is l.first;
       last = l.last;
       below = λ n p still. subst (λ r. GoesBy levels (n ∷ p) [] r (space u cs)) is (follows_below levels ran n p t u cs follows);
       fewer = λ e. cc;
@@ -142,6 +156,7 @@ turn_met levels most ran k t u cs s w r ok is follows few calls waited done =
       itself = subst (GoesBy levels [] (l.own ++ e ∷ []) s) (sym here) (subst (λ v. GoesBy levels [] (l.own ++ e ∷ []) v m) is whole);
       count = length-append l.own (e ∷ []) ∙ ap (λ n. n + 1) count;
       within = omega (arith, few);
+      first = subst (λ v. StartsWith (l.own ++ e ∷ []) (top_of v)) is (starts_append l.own (e ∷ []) t l.first (λ none. none_before levels ran t u follows (sym count ∙ none)));
       last = subst (λ v. EndsWith (l.own ++ e ∷ []) (Some (top_of v))) (sym here) (ends_append l.own (e ∷ []) (Some (top_of m)) (omega arith) refl);
       below = λ n p still. subst (GoesBy levels (n ∷ p) [] s) (sym here) (subst (λ v. GoesBy levels (n ∷ p) [] v m) is
           (goes_then levels (n ∷ p) [] [] (space t cs) (space u cs) m (follows_below levels ran n p t u cs follows)

@@ -172,7 +172,11 @@ fn target_text(alloc: Global, pc: u32, distance: u32) -> Result<String, AllocErr
 }
 
 /// The instruction at an address, as the assembler takes it.
-pub(crate) fn instruction_text(alloc: Global, pc: u32, instruction: Instr) -> Result<String, AllocError>
+pub(crate) fn instruction_text(
+    alloc: Global,
+    pc: u32,
+    instruction: Instr,
+) -> Result<String, AllocError>
     ensures { IfOk result (λ s. string_bytes s ≡ instruction_text pc instruction) }
 {
     match instruction.instruction() {
@@ -237,7 +241,13 @@ pub(crate) fn instruction_text(alloc: Global, pc: u32, instruction: Instr) -> Re
             rs2,
         } => {
             let name = operation_name(operation);
-            three_operands(alloc, name, register_name(rd), register_name(rs1), register_name(rs2))
+            three_operands(
+                alloc,
+                name,
+                register_name(rd),
+                register_name(rs1),
+                register_name(rs2),
+            )
         }
         Instruction::Fence => String::from_str(alloc, "fence"),
         Instruction::Ecall => String::from_str(alloc, "ecall"),
@@ -245,8 +255,8 @@ pub(crate) fn instruction_text(alloc: Global, pc: u32, instruction: Instr) -> Re
     }
 }
 
-// The instruction at pc, where it can be fetched.
-fn instruction_at_pc(top: &Top) -> Option<Instr>
+/// The instruction at pc, where it can be fetched.
+pub(crate) fn instruction_at_pc(top: &Top) -> Option<Instr>
     ensures { result ≡ instruction_at_pc top.now }
 {
     let pc = top.registers.pc;
@@ -259,13 +269,17 @@ fn instruction_at_pc(top: &Top) -> Option<Instr>
     }
 }
 
-/// A space and the instruction at pc, where it can be fetched; else nothing.
-pub(crate) fn instruction_part(alloc: Global, top: &Top) -> Result<String, AllocError>
-    ensures { IfOk result (λ s. string_bytes s ≡ instruction_part top.now.registers.pc (instruction_at_pc top.now)) }
+/// A space and an instruction at pc, where there is one; else nothing.
+pub(crate) fn instruction_part(
+    alloc: Global,
+    pc: u32,
+    instruction: Option<Instr>,
+) -> Result<String, AllocError>
+    ensures { IfOk result (λ s. string_bytes s ≡ instruction_part pc instruction) }
 {
-    match instruction_at_pc(top) {
+    match instruction {
         Some(instruction) => {
-            let text = instruction_text(alloc, top.registers.pc, instruction)?;
+            let text = instruction_text(alloc, pc, instruction)?;
             format!(in alloc; " {text}")
         }
         None => String::from_str(alloc, ""),

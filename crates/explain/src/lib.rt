@@ -6,6 +6,7 @@ mod going;
 mod instructions;
 mod paths;
 mod showing;
+mod tracing;
 
 pub use asking::{after_event, at_end};
-pub use going::run_to;
+pub use going::{run_to, trace};

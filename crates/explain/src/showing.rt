@@ -2,7 +2,7 @@ ghost use Rattle.std.specs.Prelude.{◌≡◌, ◌++◌, ◌+◌, ◌<◌, [], I
 ghost use Rattle.std.specs.Fmt.{decimal};
 ghost use Rattle.explain.specs.Text.{child_text, children_text, end_text, event_text, limit_text, line_of, pc_text, register_text, registers_text, space_text, state_text, status_text, top_text};
 
-use crate::instructions::{instruction_part, register_name};
+use crate::instructions::{instruction_at_pc, instruction_part, register_name};
 use crate::paths::path_text;
 use det_report::stop_text;
 use space_tree::{Children, Path, Space, Status, Top};
@@ -32,7 +32,7 @@ fn pc_text(alloc: Global, top: &Top) -> Result<String, AllocError>
     ensures { IfOk result (λ s. string_bytes s ≡ pc_text top.now) }
 {
     let pc = top.registers.pc;
-    let instruction = instruction_part(alloc, top)?;
+    let instruction = instruction_part(alloc, pc, instruction_at_pc(top))?;
     format!(in alloc; "pc {pc:08x}{instruction}\n")
 }
 

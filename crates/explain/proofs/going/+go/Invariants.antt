@@ -15,7 +15,7 @@ abbrev pub decreases-go_below : goal.decreases-go_below
 decreases-go_below l = 3 * length l.rest.now + 1
 
 abbrev pub invariant-go_through-turns : goal.invariant-go_through-turns
-invariant-go_through-turns l = SoFar (8 - l.depth) (l.number ∷ l.rest) l.wanted l.left l.fn.space l.space × (1 ≤ l.left) × IsSoundBelow (8 - l.depth) l.space
+invariant-go_through-turns l = SoFar (8 - l.depth) (l.number ∷ l.rest) l.asked l.wanted l.left l.fn.lines.items l.lines.items l.fn.space l.space × (1 ≤ l.left) × (l.left ≤ l.wanted) × IsSoundBelow (8 - l.depth) l.space
 
 abbrev pub decreases-go_through-turns : goal.decreases-go_through-turns
 decreases-go_through-turns l = left_of (top_of l.space)
