@@ -43,7 +43,7 @@ cases_path p q = go (is_same_path p q) refl
     go false is = inr (λ e. true≢false (sym (same_itself p) ∙ ap (is_same_path p) e ∙ is))
 
 -- where no event may happen there is no own event
-no_event : (p : List ℕ) (levels : ℕ) (s : Space) → is_enabled p levels s ≡ false → own_event_at p levels s ≡ None
+pub no_event : (p : List ℕ) (levels : ℕ) (s : Space) → is_enabled p levels s ≡ false → own_event_at p levels s ≡ None
 no_event [] levels s un = rw un refl
 no_event (n ∷ p) levels s un = go (find n (children_of s)) un (λ c. no_event p (pred levels) c)
   where

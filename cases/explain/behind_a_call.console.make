@@ -1,0 +1,2 @@
+. ./shown
+shown "/ event 4" running "00001010 addi a7, zero, 3" 999996 none 4 a1=00002000 a2=0000000d a7=00000004

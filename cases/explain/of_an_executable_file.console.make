@@ -1,0 +1,2 @@
+. ./shown
+shown "/ event 2" running "0000105c ecall" 999998 none 2 sp=fffffff0 a0=00000007 a7=00000003

@@ -1,0 +1,265 @@
+-- A space goes on for the sake of a path, and its own events there are counted: what that says of a whole tree.
+use Rattle.std.proofs.Common.{◌≡◌, ℕ, zero, suc, pred, ◌+◌, ◌-◌, ◌<◌, ◌≤◌, Bool, true, false, List, [], ◌∷◌, ◌++◌, length, length-append, take, Option, Some, None, refl, sym, ap, ap₂, ◌∙◌, subst, arith, inl, inr, ◌⊎◌}
+use Rattle.std.proofs.lemmas.Bool.Decides.{nat_tests}
+use Rattle.std.proofs.lemmas.Bool.{cases_eq}
+use Rattle.std.proofs.lemmas.List.{append-nil, take_all}
+use Rattle.std.proofs.lemmas.Option.{slice_get_within}
+use Rattle.std.specs.List.{slice_get}
+use Rattle.std.specs.Prelude.{IfSome, nat_eq, option_map, option_and_then}
+use Rattle.space_model.specs.declared.Reach.TheVariants.{Whole}
+use Rattle.space_model.specs.Stop.{is_stopped}
+use Rattle.space_model.specs.Space.{Space, space, Top, Children, top_of, children_of, find, over}
+use Rattle.space_model.specs.Path.{at}
+use Rattle.space_model.specs.Sound.{IsSound, IsSoundAt}
+use Rattle.run_model.specs.Schedule.{is_enabled}
+use Rattle.run_model.specs.Replay.{replay}
+use Rattle.run_model.specs.Demand.{left_of, settle}
+use Rattle.run_model.proofs.Settled.{settle-settled}
+use Rattle.run_model.proofs.Sound.{replay_sound}
+use Rattle.demand_eval.proofs.Children.{one_below}
+use Rattle.det_laws.specs.Tops.{top_at}
+use Rattle.det_laws.specs.Tree.{NoneMayHappen, after_all}
+use Rattle.det_laws.proofs.Commutes.{settled_rests}
+use Rattle.det_laws.proofs.Reaching.{meaning_reached}
+use Rattle.event_laws.specs.OwnEvents.{OwnEvent, IsOwnEvent, own_events}
+use Rattle.event_laws.proofs.Histories.{one_meaning, has_all, all_alike}
+use Rattle.explain.specs.declared.going.Turn.{Turn}
+use Rattle.explain.specs.declared.going.Asked.{Asked}
+use Rattle.explain.specs.Going.{own_below, GoesBy, WayStopped, BelowStopped, EndsWith, TakesTurn, TellsTurn, HasCome, HasComeBelow}
+use Rattle.explain.specs.Reached.{HasJustHappened, IsTrace, NeverHappens, ShowsEvent}
+use Rattle.explain.specs.Trace.{trace_lines}
+use Rattle.explain.specs.Text.{event_text}
+use Rattle.explain.proofs.Schedules.{whole, replay_parts, own_parts, goes_then, stays, leads_replay, child_goes, now_there}
+use Rattle.explain.proofs.Stopped.{none_own}
+use Rattle.explain.proofs.Traces.{front, lines_then}
+use Rattle.explain.proofs.Turns.{ends_append}
+
+-- so many own events so far, with the lines for them, and so many are left
+pub record SoFar (levels : ℕ) (p : List ℕ) (a : Asked) (wanted left : ℕ) (old mid : List ℕ) (s now : Space) : Type 0 where
+  pub own : List OwnEvent
+  pub goes : GoesBy levels p own s now
+  pub count : length own + left ≡ wanted
+  pub lines : mid ≡ old ++ trace_lines a.path.items a.from (a.to - wanted) own
+
+pub at_first : (levels : ℕ) (p : List ℕ) (a : Asked) (wanted : ℕ) (old : List ℕ) (s : Space) → SoFar levels p a wanted wanted old old s s
+at_first levels p a wanted old s = record { own = []; goes = stays levels p s; count = omega arith; lines = sym (append-nil old) }
+
+-- more of them
+pub more : (levels : ℕ) (p : List ℕ) (a : Asked) (wanted left later : ℕ) (old mid new : List ℕ) (s t u : Space) (ys : List OwnEvent) → wanted ≤ a.to → SoFar levels p a wanted left old mid s t → GoesBy levels p ys t u
+    → length ys + later ≡ left → new ≡ mid ++ trace_lines a.path.items a.from (a.to - left) ys → SoFar levels p a wanted later old new s u
+more levels p a wanted left later old mid new s t u ys fits far goes count lines =
+    let before = far.count in
+    let long = length-append far.own ys in
+    record {
+      own = far.own ++ ys;
+      goes = goes_then levels p far.own ys s t u far.goes goes;
+      count = omega (arith, long, before, count);
+      lines = lines_then a wanted left old mid new far.own ys fits before far.lines lines;
+    }
+
+-- a turn of the space itself
+pub one_turn : (levels : ℕ) (a : Asked) (wanted left later : ℕ) (turn : Turn) (old mid new : List ℕ) (s t u : Space) → wanted ≤ a.to → SoFar levels [] a wanted left old mid s t → TellsTurn levels left a turn mid new t u
+    → later + turn.events ≡ left → SoFar levels [] a wanted later old new s u
+one_turn levels a wanted left later turn old mid new s t u fits far tells rest =
+    let takes = tells.takes in
+    let count = takes.count in
+    more levels [] a wanted left later old mid new s t u takes.own fits far takes.itself (omega (arith, count, rest)) tells.lines
+
+-- after which no more are left, or it has stopped
+pub come_itself : (levels : ℕ) (a : Asked) (wanted left later : ℕ) (turn : Turn) (old mid new : List ℕ) (s t u : Space) → wanted ≤ a.to → SoFar levels [] a wanted left old mid s t → TellsTurn levels left a turn mid new t u
+    → later + turn.events ≡ left → 1 ≤ left → (0 < later → turn.stopped ≡ true) → HasCome levels [] a wanted later old new s u
+come_itself levels a wanted left later turn old mid new s t u fits far tells rest some stops =
+    let takes = tells.takes in
+    let count = takes.count in
+    let all = one_turn levels a wanted left later turn old mid new s t u fits far tells rest in
+    let before = far.count in
+    let long = length-append far.own takes.own in
+    record {
+      own = far.own ++ takes.own;
+      goes = goes_then levels [] far.own takes.own s t u far.goes takes.itself;
+      count = omega (arith, long, before, count, rest);
+      lines = lines_then a wanted left old mid new far.own takes.own fits before far.lines tells.lines;
+      last = λ none. ends_append far.own takes.own (Some (top_of u)) (omega (arith, count, rest, some, none)) takes.last;
+      over = λ left. (takes.stopped (stops left)).0;
+    }
+
+-- a child that is on the way has gone on
+come_below : (levels n : ℕ) (a : Asked) (wanted left : ℕ) (p old new : List ℕ) (t : Top) (cs : Children) (c d : Space) → find n cs ≡ Some c → HasCome (pred levels) p a wanted left old new c d
+    → HasComeBelow levels (n ∷ p) a wanted left old new (space t cs) (space t (over n (λ x. d) cs))
+come_below levels n a wanted left p old new t cs c d is come =
+    let now : find n (over n (λ x. d) cs) ≡ Some d = now_there n d c cs is in
+    record {
+      own = come.own;
+      goes = child_goes levels n p come.own t cs c d is come.goes;
+      count = come.count;
+      lines = come.lines;
+      last = λ none. subst (EndsWith come.own) (sym (ap (λ o. option_map top_of (option_and_then (at p) o)) now)) (come.last none);
+      over = λ some. subst (λ o. IfSome o (WayStopped p)) (sym now) (come.over some);
+      top = refl;
+    }
+
+-- none is on the way
+none_below : (levels n : ℕ) (a : Asked) (wanted : ℕ) (p old : List ℕ) (t : Top) (cs : Children) → find n cs ≡ None → HasComeBelow levels (n ∷ p) a wanted wanted old old (space t cs) (space t cs)
+none_below levels n a wanted p old t cs is = record {
+  own = [];
+  goes = stays levels (n ∷ p) (space t cs);
+  count = omega arith;
+  lines = sym (append-nil old);
+  last = λ none. tt;
+  over = λ some. subst (λ o. IfSome o (WayStopped p)) (sym is) tt;
+  top = refl;
+}
+
+-- in the words of a depth
+pub come_child : (depth n : ℕ) (a : Asked) (wanted left : ℕ) (p old new : List ℕ) (t : Top) (s c d : Space) (cs : Children) → space t cs ≡ s → Some c ≡ find n cs → HasCome (8 - (depth + 1)) p a wanted left old new c d
+    → HasComeBelow (8 - depth) (n ∷ p) a wanted left old new s (space t (over n (λ x. d) cs))
+come_child depth n a wanted left p old new t s c d cs is found come =
+    subst (λ r. HasComeBelow (8 - depth) (n ∷ p) a wanted left old new r (space t (over n (λ x. d) cs))) is
+    (come_below (8 - depth) n a wanted left p old new t cs c d (sym found) (subst (λ k. HasCome k p a wanted left old new c d) (one_below depth) come))
+
+pub none_child : (depth n : ℕ) (a : Asked) (wanted : ℕ) (p old : List ℕ) (t : Top) (s : Space) (cs : Children) → space t cs ≡ s → None ≡ find n cs → HasComeBelow (8 - depth) (n ∷ p) a wanted wanted old old s (space t cs)
+none_child depth n a wanted p old t s cs is found = subst (λ r. HasComeBelow (8 - depth) (n ∷ p) a wanted wanted old old r (space t cs)) is (none_below (8 - depth) n a wanted p old t cs (sym found))
+
+-- no more are left
+pub come_through : (levels : ℕ) (a : Asked) (wanted left later : ℕ) (p old mid new : List ℕ) (s t u : Space) → wanted ≤ a.to → SoFar levels p a wanted left old mid s t → 1 ≤ left → later ≡ 0 → HasComeBelow levels p a left later mid new t u
+    → HasCome levels p a wanted 0 old new s u
+come_through levels a wanted left later p old mid new s t u fits far some none come =
+    let count = come.count in
+    let before = far.count in
+    let long = length-append far.own come.own in
+    record {
+      own = far.own ++ come.own;
+      goes = goes_then levels p far.own come.own s t u far.goes come.goes;
+      count = omega (arith, long, before, count, none);
+      lines = lines_then a wanted left old mid new far.own come.own fits before far.lines come.lines;
+      last = λ e. ends_append far.own come.own (top_at p u) (omega (arith, count, some, none)) (come.last none);
+      over = λ more. absurd (omega (arith, more));
+    }
+
+-- a turn of a space above
+pub turn_above : (levels most n : ℕ) (a : Asked) (wanted left later : ℕ) (p old mid new : List ℕ) (turn : Turn) (s t u v : Space) → wanted ≤ a.to → SoFar levels (n ∷ p) a wanted left old mid s t
+    → HasComeBelow levels (n ∷ p) a left later mid new t u → 0 < later → TakesTurn levels most turn u v → SoFar levels (n ∷ p) a wanted later old new s v
+turn_above levels most n a wanted left later p old mid new turn s t u v fits far come some takes =
+    let far' = more levels (n ∷ p) a wanted left later old mid new s t u come.own fits far come.goes come.count come.lines in
+    more levels (n ∷ p) a wanted later later old new new s u v [] fits far' (takes.below n p (come.over some)) (omega arith) (sym (append-nil new))
+
+-- which has stopped then
+pub come_stopped : (levels most n : ℕ) (a : Asked) (wanted left later : ℕ) (p old mid new : List ℕ) (turn : Turn) (s t u v : Space) → wanted ≤ a.to → SoFar levels (n ∷ p) a wanted left old mid s t
+    → HasComeBelow levels (n ∷ p) a left later mid new t u → 0 < later → TakesTurn levels most turn u v → turn.stopped ≡ true → HasCome levels (n ∷ p) a wanted later old new s v
+come_stopped levels most n a wanted left later p old mid new turn s t u v fits far come some takes stops =
+    let far' = turn_above levels most n a wanted left later p old mid new turn s t u v fits far come some takes in
+    let still = takes.stopped stops in
+    record {
+      own = far'.own;
+      goes = far'.goes;
+      count = far'.count;
+      lines = far'.lines;
+      last = λ none. absurd (omega (arith, none, some));
+      over = λ more. (still.0, subst (BelowStopped (n ∷ p)) (sym still.1) (come.over some));
+    }
+
+-- the last of so many own events
+last_of : (xs : List OwnEvent) (n : ℕ) (o : Option Top) → length xs ≡ suc n → EndsWith xs o → (e : OwnEvent) × (slice_get xs n ≡ Some e) × (o ≡ Some e.after)
+last_of [] n o long ends = absurd (omega (arith, long))
+last_of (e ∷ []) zero o long ends = (e, refl, ends)
+last_of (e ∷ []) (suc n) o long ends = absurd (omega (arith, long))
+last_of (e ∷ f ∷ es) zero o long ends = absurd (omega (arith, long))
+last_of (e ∷ f ∷ es) (suc n) o long ends = last_of (f ∷ es) n o (omega (arith, long)) ends
+
+-- none is left: the last one has just happened
+happened : (start now : Space) (p : List ℕ) (a : Asked) (number : ℕ) (old new : List ℕ) → 1 ≤ number → HasCome 8 p a number 0 old new start now → HasJustHappened start p (number - 1) now
+happened start now p a number old new some come =
+    let count = come.count in
+    let goes = come.goes in
+    let e = last_of come.own (number - 1) (top_at p now) (omega (arith, count, some)) (come.last refl) in
+    record {
+      schedule = goes.schedule;
+      leads = goes.leads;
+      event = e.0;
+      happens = ap (λ xs. slice_get xs (number - 1)) (sym (whole p goes.schedule start) ∙ goes.events) ∙ e.1;
+      top = e.2;
+    }
+
+-- every space on the way has stopped: these are all own events that any schedule has
+all_own : (start now : Space) (p : List ℕ) (a : Asked) (wanted left : ℕ) (old new : List ℕ) → IsSound start → 0 < left → (come : HasCome 8 p a wanted left old new start now)
+    → (full : List (List ℕ)) × NoneMayHappen (after_all full start) × (own_events p full start ≡ come.own)
+all_own start now p a wanted left old new sound more come =
+    let goes = come.goes in
+    let ok : IsSoundAt 8 true sound.0 now = subst (IsSoundAt 8 true sound.0) goes.leads (replay_sound goes.schedule 8 true sound.0 start sound.1.2) in
+    let rest = meaning_reached 8 Whole true sound.0 now ok in
+    let full = goes.schedule ++ rest.0 in
+    let end : after_all full start ≡ settle 8 now = replay_parts goes.schedule rest.0 8 start ∙ ap (replay rest.0 8) goes.leads ∙ leads_replay rest.0 8 now (settle 8 now) rest.2 in (
+      full,
+      (λ q may. settled_rests q 8 (settle 8 now) (settle-settled 8 true sound.0 now ok) (ap (λ x. is_enabled q 8 x) (sym end) ∙ may)),
+      sym (whole p full start) ∙ own_parts 8 p goes.schedule rest.0 start
+          ∙ ap₂ (λ xs ys. xs ++ ys) goes.events (ap (own_below 8 p rest.0) goes.leads ∙ none_own rest.0 p 8 now (come.over more)) ∙ append-nil come.own,
+    )
+
+-- every space on the way has stopped before there were so many
+never : (start now : Space) (p : List ℕ) (a : Asked) (number left : ℕ) (old new : List ℕ) → IsSound start → 1 ≤ number → 0 < left → HasCome 8 p a number left old new start now → NeverHappens start p (number - 1)
+never start now p a number left old new sound some more come ps e is =
+    let all = all_own start now p a number left old new sound more come in
+    let within = slice_get_within (own_events p all.0 start) (number - 1) e (has_all ps all.0 p start all.1 (number - 1) e is) in
+    let long = ap length all.2 in
+    let count = come.count in
+    absurd (omega (arith, within, long, count, some, more))
+
+-- in each schedule that has the event, the top behind it is the one here
+in_every : (start : Space) (p : List ℕ) (k : ℕ) (now : Space) → HasJustHappened start p k now → (ps : List (List ℕ)) (e : OwnEvent) → IsOwnEvent ps start p k e → top_at p now ≡ Some e.after
+in_every start p k now h ps e is = h.top ∙ ap (λ x. Some x.after) (one_meaning ps h.schedule p start k h.event e h.happens is)
+
+-- the text of the space there shows the event
+pub shows : (start : Space) (p : List ℕ) (number : ℕ) (now c : Space) (text : List ℕ) → 1 ≤ number → HasJustHappened start p (number - 1) now → at p now ≡ Some c
+    → text ≡ event_text p number (top_of c) → ShowsEvent start p (number - 1) text
+shows start p number now c text some h there is = record {
+  schedule = h.schedule;
+  event = h.event;
+  happens = h.happens;
+  shown = λ ps e happens. is ∙ ap₂ (event_text p) one_more (same (sym (ap (option_map top_of) there) ∙ in_every start p (number - 1) now h ps e happens));
+}
+  where
+    one_more : number ≡ number - 1 + 1
+    one_more = omega arith
+
+    same : {t u : Top} → Some t ≡ Some u → t ≡ u
+    same e = cc
+
+-- in the words of the answer
+pub has_happened : (start now : Space) (p : List ℕ) (a : Asked) (number left : ℕ) (old new : List ℕ) → 1 ≤ number → nat_eq left 0 ≡ true → HasCome 8 p a number left old new start now → HasJustHappened start p (number - 1) now
+has_happened start now p a number left old new some none come =
+    let none' : left ≡ 0 = grind (arith, nat_tests) in
+    happened start now p a number old new some (subst (λ k. HasCome 8 p a number k old new start now) none' come)
+
+pub cannot_happen : (start now : Space) (p : List ℕ) (a : Asked) (number left : ℕ) (old new : List ℕ) → IsSound start → 1 ≤ number → nat_eq left 0 ≡ false → HasCome 8 p a number left old new start now → NeverHappens start p (number - 1)
+cannot_happen start now p a number left old new sound some more come =
+    let more' : 0 < left = grind (arith, nat_tests) in
+    never start now p a number left old new sound some more' come
+
+-- the lines are those of the first own events of each schedule that has ended
+pub is_trace : (start now : Space) (p : List ℕ) (a : Asked) (left : ℕ) (new : List ℕ) → a.path.items ≡ p → IsSound start → HasCome 8 p a a.to left [] new start now → IsTrace start p a.from a.to new
+is_trace start now p a left new is sound come ps ended =
+    let none : a.to - a.to ≡ 0 = omega arith in
+    come.lines ∙ ap₂ (λ q k. trace_lines q a.from k come.own) is none ∙ ap (trace_lines p a.from 0) (sym (first (cases_eq left 0)))
+  where
+    goes : GoesBy 8 p come.own start now
+    goes = come.goes
+
+    count : length come.own + left ≡ a.to
+    count = come.count
+
+    mine : own_events p goes.schedule start ≡ come.own
+    mine = sym (whole p goes.schedule start) ∙ goes.events
+
+    first : (left ≡ 0) ⊎ (left ≡ 0 → ⊥) → take a.to (own_events p ps start) ≡ come.own
+    first (inl none) =
+        let long : length come.own ≡ a.to = omega (arith, none, count) in
+        ap (λ n. take n (own_events p ps start)) (sym long)
+        ∙ front (own_events p ps start) come.own (λ k e at. has_all goes.schedule ps p start ended k e (ap (λ xs. slice_get xs k) mine ∙ at))
+    first (inr some) =
+        let more : 0 < left = omega (arith, some) in
+        let all = all_own start now p a a.to left [] new sound more come in
+        let same : own_events p ps start ≡ come.own = all_alike ps all.0 p start ended all.1 ∙ all.2 in
+        ap (take a.to) same ∙ take_all a.to come.own (omega (arith, count))
+
+pub not_gone : (start : Space) (p : List ℕ) (k : ℕ) (now : Space) → HasJustHappened start p k now → at p now ≡ None → ⊥
+not_gone start p k now h gone = let top = h.top in let none : top_at p now ≡ None = ap (option_map top_of) gone in cc

@@ -1,0 +1,5 @@
+pub mod Going
+pub mod Instructions
+pub mod Reached
+pub mod Text
+pub mod Trace

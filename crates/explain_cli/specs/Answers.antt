@@ -1,0 +1,113 @@
+-- What a call of the program answers and writes.
+-- Our choice: the ends of a call, their causes, and what each leaves.
+use Rattle.std.specs.Prelude.{◌≡◌, ◌⊎◌, ℕ, List, [], ◌∷◌, Option, Some, None, Result, Ok}
+use Rattle.det_host.specs.Outside.{Rose}
+use Rattle.det_host.specs.Writing.{Output, IsUntouched, Wrote, WrotePrefix, StopsWithin}
+use Rattle.image_model.specs.Image.{Image}
+use Rattle.device_model.specs.Devices.{Devices}
+use Rattle.run_model.specs.Boot.{boot}
+use Rattle.det_cli.specs.declared.end.End as det
+use Rattle.det_cli.specs.declared.end.End.TheVariants.{ReadFault, WriteFault, NoMemory}
+use Rattle.det_cli.specs.Status.{IsBad}
+use Rattle.det_cli.specs.Files.{Expectation, Input, ReadFiles, Step, refusal_at, told_files}
+use Rattle.det_cli.specs.Commands.{devices_of_file, expectation_of_bytes, image_of_file, image_step, script_step}
+use Rattle.det_cli.specs.Answers.{IsUnasked, Later}
+use Rattle.explain_words.specs.Line.{At, line, IsRefused}
+use Rattle.explain_cli.specs.declared.end.End.{End}
+use Rattle.explain_cli.specs.declared.end.End.TheVariants.{Shown, Usage, Failed}
+use Rattle.explain_cli.specs.Ends.{line_text}
+use Rattle.explain_cli.specs.Explains.{Explains, NeverComes, Shows, absent}
+
+-- the files of a run, in the order of the words
+abbrev pub steps_of : At → List Step
+steps_of a = image_step a.image ∷ script_step a.script ∷ []
+
+-- that none of them is refused decides as well, so that no more are asked for
+abbrev pub all_read : List (List ℕ) → Option Expectation
+all_read files = Some (expectation_of_bytes [])
+
+-- what the first files decide: nothing as yet; or that one is refused, and how; or what is to be run
+pub data Decision : Type 0 where
+  undecided : Decision
+  refused : det.End → Decision
+  run : Image → Devices → Decision
+
+-- a refusal, where there is one; else the rest
+abbrev pub refused_or : Option det.End → Decision → Decision
+refused_or None rest = rest
+refused_or (Some e) rest = refused e
+
+abbrev pub run_of : Result Image det.End → Result Devices det.End → Decision
+run_of (Ok image) (Ok devices) = run image devices
+run_of image devices = undecided
+
+abbrev pub decision_of : At → List (List ℕ) → Decision
+decision_of a [] = undecided
+decision_of a (image ∷ []) = refused_or (refusal_at (image_step a.image) image) undecided
+decision_of a (image ∷ script ∷ rest) = refused_or (refusal_at (image_step a.image) image)
+    (refused_or (refusal_at (script_step a.script) script) (run_of (image_of_file image) (devices_of_file script)))
+
+-- What comes of that which the files decide. While they decide nothing, a load failed or memory ran out, and nothing is written. At a refusal
+-- nothing is written. Else the moment is shown, of the tree that the image boots to with these devices and this fuel.
+abbrev pub Ends : At → Decision → Input → Output → End → Type 0
+Ends a undecided i out end = IsUntouched out × (((end ≡ Failed ReadFault) × Rose i.faults_before i.faults_after) ⊎ (end ≡ Failed NoMemory))
+Ends a (refused e) i out end = IsBad e × IsUntouched out × ((end ≡ Failed e) ⊎ (end ≡ Failed NoMemory))
+Ends a (run image devices) i out end = Explains (boot image devices a.fuel) a.moment out end
+
+-- How a command goes: there are files, those that are told among them, which decide how it ends.
+pub record Course (a : At) (i : Input) (out : Output) (end : End) : Type 0 where
+  pub contents : List (List ℕ)
+  pub files : ReadFiles (steps_of a) all_read contents i
+  pub ends : Ends a (decision_of a contents) i out end
+
+-- with no command nothing is loaded and nothing is written
+abbrev pub NoCourse : Input → Output → End → Type 0
+NoCourse i out end = ((end ≡ Usage) ⊎ (end ≡ Failed NoMemory)) × IsUnasked i × IsUntouched out
+
+abbrev pub CourseOf : Option At → Input → Output → End → Type 0
+CourseOf None i out end = NoCourse i out end
+CourseOf (Some a) i out end = Course a i out end
+
+-- The line of an end, in a sink behind what it had taken: the whole line; or a part of it, where a fault stopped it; or memory ran out, behind some
+-- first bytes of some end's line.
+abbrev pub Says : Output → End → Type 0
+Says o end = Wrote o (line_text end) ⊎ StopsWithin o (line_text end) ⊎ ((end ≡ Failed NoMemory) × ((ended : End) × WrotePrefix o (line_text ended)))
+
+-- no load failed, and no write of the text
+abbrev pub IsQuiet : Input → Output → Type 0
+IsQuiet i out = Rose i.faults_before i.faults_after ⊎ Rose out.faults_before out.faults_after → ⊥
+
+-- a call: its words, its loader and its sinks, and its end
+pub record Answer : Type 0 where
+  pub words : List (List ℕ)
+  pub input : Input
+  pub out : Output
+  pub err : Output
+  pub end : End
+
+-- what a call promises before its line is written
+pub record Begun (words : List (List ℕ)) (i : Input) (out : Output) (end : End) : Type 0 where
+  -- the words alone decide Usage
+  pub usage : end ≡ Usage → IsRefused words × (line words ≡ None)
+  pub refused : IsRefused words ⊎ (line words ≡ None) → (end ≡ Usage) ⊎ (end ≡ Failed NoMemory)
+  -- what is loaded and written, whatever is told
+  pub course : CourseOf (line words) i out end
+  -- what is told decides: then that is the end, or a load failed
+  pub expected : (a : At) → line words ≡ Some a → (d : Decision) → decision_of a (told_files (steps_of a) i.told) ≡ d → (d ≡ undecided → ⊥)
+      → Ends a d i out end ⊎ Ends a undecided i out end
+  -- where what is told is a run and no count rose, the moment is shown whole, or it never comes, unless memory ran out
+  pub complete : (a : At) → line words ≡ Some a → (image : Image) (devices : Devices) → decision_of a (told_files (steps_of a) i.told) ≡ run image devices → IsQuiet i out
+      → ((end ≡ Shown) × (text : List ℕ) × Shows (boot image devices a.fuel) a.moment text × Wrote out text)
+      ⊎ ((end ≡ absent a.moment.event) × NeverComes (boot image devices a.fuel) a.moment × IsUntouched out)
+      ⊎ (end ≡ Failed NoMemory)
+  -- the causes that the files do not tell
+  pub read_fault : end ≡ Failed ReadFault → Rose i.faults_before i.faults_after
+  pub write_fault : end ≡ Failed WriteFault → Rose out.faults_before out.faults_after
+
+-- what a call promises
+pub record Answers (a : Answer) : Type 0 where
+  -- which end it has, and what it has loaded and written to `out`
+  pub begun : Begun a.words a.input a.out a.end
+  -- what it has written to `err`
+  pub said : Says a.err a.end
+  pub later : Later a.input a.out a.err

@@ -1,0 +1,4 @@
+pub mod Ends
+pub mod Explains
+pub mod Answers
+pub mod Stages

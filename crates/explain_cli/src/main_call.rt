@@ -1,0 +1,46 @@
+ghost use Rattle.std.specs.Prelude.{◌≤◌, map, string_bytes};
+ghost use Rattle.det_cli.specs.Files.{input_of};
+ghost use Rattle.det_host.specs.Writing.{output_of};
+ghost use Rattle.explain_words.specs.Line.{IsInRange, line_of};
+ghost use Rattle.explain_cli.specs.Answers.{Begun, Course};
+
+use crate::end::End;
+use crate::explaining::show_moment;
+use crate::reading::read_run;
+use det_cli::End as Failure;
+use det_host::{Loader, Sink};
+use explain_words::{At, read_line};
+use std::alloc::Global;
+
+// Does what a command asks for.
+fn carry_out<L: Loader, O: Sink>(alloc: Global, at: &At<'_>, files: &mut L, out: &mut O) -> End
+    requires { IsInRange (line_of at.now) }
+    ensures course { Course (line_of at.now) (input_of L.told L.asked L.faults files.old files.new) (output_of O.taken O.faults out.old out.new) result }
+    ensures files_later { L.faults files.old ≤ L.faults files.new }
+    ensures out_later { O.faults out.old ≤ O.faults out.new }
+{
+    match read_run(alloc, files, at) {
+        Ok((image, devices)) => show_moment(alloc, at, &image, devices, out),
+        Err(failure) => End::Failed(failure),
+    }
+}
+
+/// Does all that the program does but for the line that names its end.
+pub(crate) fn begin<L: Loader, O: Sink>(
+    alloc: Global,
+    words: &[String],
+    files: &mut L,
+    out: &mut O,
+) -> End
+    ensures begun { Begun (map string_bytes words.now) (input_of L.told L.asked L.faults files.old files.new) (output_of O.taken O.faults out.old out.new) result }
+    ensures files_later { L.faults files.old ≤ L.faults files.new }
+    ensures out_later { O.faults out.old ≤ O.faults out.new }
+{
+    let Ok(named) = read_line(alloc, words) else {
+        return End::Failed(Failure::NoMemory);
+    };
+    match named {
+        Some(at) => carry_out(alloc, &at, files, out),
+        None => End::Usage,
+    }
+}
