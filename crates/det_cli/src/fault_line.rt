@@ -7,41 +7,58 @@ use crate::end::End;
 use det_host::{Sink, SinkError, write_all};
 use std::alloc::{AllocError, Global};
 
-// The line of an end, empty where all went well.
-fn line_text(alloc: Global, end: &End) -> Result<String, AllocError>
-    ensures { IfOk result (λ s. string_bytes s ≡ fault_line end.now) }
+// Writes the line of an end, which was made, or for which memory ran out.
+fn write_made<E: Sink>(
+    end: &End,
+    made: Result<String, AllocError>,
+    err: &mut E,
+) -> Result<(), SinkError>
+    requires { IfOk made (λ s. string_bytes s ≡ fault_line end.now) }
+    ensures ok { OnOk result (Takes (E.taken err.old) (E.taken err.new) (fault_line end.now)) }
+    ensures prefix { TakesPrefix (E.taken err.old) (E.taken err.new) (fault_line end.now) }
+    ensures failed { IsErrOf result SinkError.Failed → StopsWithin (output_of E.taken E.faults err.old err.new) (fault_line end.now) }
+    ensures later { E.faults err.old ≤ E.faults err.new }
 {
-    match end {
-        End::Ret | End::Trapped => Ok(String::new(alloc)),
-        End::Usage => format!(in alloc; "det: usage: run|walk|asm|bench\n"),
-        End::BadImage(e) => format!(in alloc; "det: image: {e}\n"),
-        End::BadElf(e) => format!(in alloc; "det: elf: {e}\n"),
-        End::BadScript(e) => format!(in alloc; "det: script: {e}\n"),
-        End::BadSchedule(e) => format!(in alloc; "det: schedule: {e}\n"),
-        End::BadSource(e) => {
-            let line = e.line;
-            let kind = e.kind.name();
-            format!(in alloc; "det: source: line {line}: {kind}\n")
-        }
-        End::TooLarge { read } => {
-            let read = *read;
-            format!(in alloc; "det: too large: {read} bytes read\n")
-        }
-        End::ReadFault => format!(in alloc; "det: read fault\n"),
-        End::WriteFault => format!(in alloc; "det: write fault\n"),
-        End::NoMemory => format!(in alloc; "det: out of memory\n"),
-    }
+    let Ok(line) = made else {
+        return Err(SinkError::Memory);
+    };
+    write_all(err, line.as_bytes())
 }
 
-/// Writes the line that names an end's cause; nothing for `Ret` and `Trapped`. An error leaves a first part of it written.
+/// Writes the line that names an end's cause; nothing for `Ret` and `Trapped`. An error leaves a first part of it written. A line that says no number is written without
+/// memory, that of want of memory among them.
 pub fn write_fault<E: Sink>(alloc: Global, end: &End, err: &mut E) -> Result<(), SinkError>
     ensures ok { OnOk result (Takes (E.taken err.old) (E.taken err.new) (fault_line end.now)) }
     ensures prefix { TakesPrefix (E.taken err.old) (E.taken err.new) (fault_line end.now) }
     ensures failed { IsErrOf result SinkError.Failed → StopsWithin (output_of E.taken E.faults err.old err.new) (fault_line end.now) }
     ensures later { E.faults err.old ≤ E.faults err.new }
 {
-    let Ok(line) = line_text(alloc, end) else {
-        return Err(SinkError::Memory);
-    };
-    write_all(err, line.as_bytes())
+    match end {
+        End::Ret | End::Trapped => write_all(err, "".as_bytes()),
+        End::Usage => write_all(err, "det: usage: run|walk|asm|bench\n".as_bytes()),
+        End::ReadFault => write_all(err, "det: read fault\n".as_bytes()),
+        End::WriteFault => write_all(err, "det: write fault\n".as_bytes()),
+        End::NoMemory => write_all(err, "det: out of memory\n".as_bytes()),
+        End::BadImage(e) => write_made(end, format!(in alloc; "det: image: {e}\n"), err),
+        End::BadElf(e) => write_made(end, format!(in alloc; "det: elf: {e}\n"), err),
+        End::BadScript(e) => write_made(end, format!(in alloc; "det: script: {e}\n"), err),
+        End::BadSchedule(e) => write_made(end, format!(in alloc; "det: schedule: {e}\n"), err),
+        End::BadSource(e) => {
+            let line = e.line;
+            let kind = e.kind.name();
+            write_made(
+                end,
+                format!(in alloc; "det: source: line {line}: {kind}\n"),
+                err,
+            )
+        }
+        End::TooLarge { read } => {
+            let read = *read;
+            write_made(
+                end,
+                format!(in alloc; "det: too large: {read} bytes read\n"),
+                err,
+            )
+        }
+    }
 }

@@ -32,11 +32,7 @@ fn load<L: Loader>(alloc: Global, files: &mut L, name: &str, room: u64) -> Resul
 }
 
 /// What a file is read as. It is loaded once.
-pub fn load_as<L: Loader, T: FileFormat>(
-    alloc: Global,
-    files: &mut L,
-    name: &str,
-) -> Result<T, End>
+pub fn load_as<L: Loader, T: FileFormat>(alloc: Global, files: &mut L, name: &str) -> Result<T, End>
     ensures file { ReadsFile T.reads (record { name = name.now; room = T.ROOM; refuse = T.refusal })
         (input_of L.told L.asked L.faults files.old files.new) result }
     ensures later { L.faults files.old ≤ L.faults files.new }

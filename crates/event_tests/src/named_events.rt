@@ -45,7 +45,8 @@ fn tries(rt: &impl Abort, text: Option<Vec<u8>>, begins: &[u8], ends: &[u8]) {
 #[test]
 fn a_child_has_one_event(rt: HostRuntime) -> Result<(), Fail> {
     let alloc = rt.alloc();
-    let begins = b"space /5 event 1\nstatus fetch-fault 00000000\npc 00000000\nfuel 99\nlimit none\nused 1\nx0 zero 00000000\n";
+    let begins =
+        b"space /5 event 1\nstatus fetch-fault 00000000\npc 00000000\nfuel 99\nlimit none\nused 1\nx0 zero 00000000\n";
     let first = after_event(alloc, booted(alloc)?, &child(), 1)?;
     tries(&rt, first, begins, b"x31 t6 00000000\n");
     let second = after_event(alloc, booted(alloc)?, &child(), 2)?;
@@ -56,9 +57,15 @@ fn a_child_has_one_event(rt: HostRuntime) -> Result<(), Fail> {
 #[test]
 fn the_root_ends_behind_its_child(rt: HostRuntime) -> Result<(), Fail> {
     let alloc = rt.alloc();
-    let begins = b"space / end\nstatus illegal 00000000\npc 00001018\nfuel 93\nlimit none\nused 7\n";
+    let begins =
+        b"space / end\nstatus illegal 00000000\npc 00001018\nfuel 93\nlimit none\nused 7\n";
     let end = at_end(alloc, booted(alloc)?, &Path::new())?;
-    tries(&rt, end, begins, b"x31 t6 00000000\nchild 5 fetch-fault 00000000\n");
+    tries(
+        &rt,
+        end,
+        begins,
+        b"x31 t6 00000000\nchild 5 fetch-fault 00000000\n",
+    );
     Ok(())
 }
 
@@ -66,7 +73,8 @@ fn the_root_ends_behind_its_child(rt: HostRuntime) -> Result<(), Fail> {
 fn the_root_starts_its_child_and_waits_for_it(rt: HostRuntime) -> Result<(), Fail> {
     let alloc = rt.alloc();
     let lines = trace(alloc, booted(alloc)?, &Path::new(), 4, 9)?;
-    let wanted = b"/:4 pc 0000100c ecall put a0 00000000 x10 a0 00000040 -> 00000000\n/:5 pc 00001010 addi a7, zero, 2 x17 a7 00000001 -> 00000002\n/:6 pc 00001014 ecall get a0 00000000\n/:7 pc 00001018 stops illegal 00000000\n";
+    let wanted =
+        b"/:4 pc 0000100c ecall put a0 00000000 x10 a0 00000040 -> 00000000\n/:5 pc 00001010 addi a7, zero, 2 x17 a7 00000001 -> 00000002\n/:6 pc 00001014 ecall get a0 00000000\n/:7 pc 00001018 stops illegal 00000000\n";
     assert_eq!(rt; lines.as_slice(), wanted.as_slice());
     Ok(())
 }
