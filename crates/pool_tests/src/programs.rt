@@ -1,0 +1,107 @@
+ghost use Rattle.std.specs.Prelude.{◌≤◌};
+ghost use Rattle.space_model.specs.Sound.{IsSound};
+
+use det_core::boot;
+use rv_asm::assemble;
+use space_tree::{Devices, Space};
+use std::alloc::Global;
+use std::process::Abort;
+use std::test::*;
+
+/// Two threads write neighbouring bytes, and the joins bring both to the root, as in examples/two_threads.s.
+pub(crate) const TWO_THREADS: &[u8] = b"
+.segment 0x1000 1
+        addi s0, zero, 0
+fork:   addi a1, s0, 0
+        addi a7, zero, 18
+        ecall
+        bne a0, zero, thread
+        addi s0, s0, 1
+        addi t0, zero, 2
+        bne s0, t0, fork
+        addi a1, zero, 0
+        addi a7, zero, 19
+        ecall
+        addi a1, zero, 1
+        ecall
+        lui t0, 2
+        lhu a0, 0(t0)
+        addi a7, zero, 3
+        ecall
+thread: lui t0, 2
+        add t0, t0, s0
+        addi t1, s0, 65
+        sb t1, 0(t0)
+        addi a7, zero, 3
+        ecall
+.segment 0x2000 3
+        .byte 0
+";
+
+/// One space, which returns 7.
+pub(crate) const RETURN_SEVEN: &[u8] = b"
+.segment 0x1000 1
+        addi a7, zero, 3
+        addi a0, zero, 7
+        ecall
+";
+
+/// The root forks process 256, which forks process 513, which does not end; none waits.
+pub(crate) const FAR: &[u8] = b"
+.segment 0x1000 1
+        addi a1, zero, 256
+        addi a7, zero, 16
+        ecall
+        bne a0, zero, child
+        addi a7, zero, 3
+        ecall
+child:  addi a1, zero, 513
+        addi a7, zero, 16
+        ecall
+        bne a0, zero, turn
+        addi a7, zero, 3
+        ecall
+turn:   jal zero, turn
+";
+
+/// The root forks threads 256 and 1, and then has child 1 become a copy of child 0 of 256. Thread 256 forks thread 0, and thread 1 forks thread 256.
+pub(crate) const TWO_AWAY: &[u8] = b"
+.segment 0x1000 1
+        addi a1, zero, 256
+        addi a7, zero, 18
+        ecall
+        bne a0, zero, far
+        addi a1, zero, 1
+        ecall
+        bne a0, zero, near
+        addi a0, zero, 256
+        addi a1, zero, 256
+        addi a4, zero, 1
+        addi a7, zero, 2
+        ecall
+        addi a7, zero, 3
+        ecall
+far:    addi a1, zero, 0
+        beq zero, zero, both
+near:   addi a1, zero, 256
+both:   ecall
+        addi a7, zero, 3
+        ecall
+";
+
+/// The source of two threads, with one byte more in its last segment.
+pub(crate) fn with_one_byte_more(rt: &impl Abort, alloc: Global) -> Vec<u8> {
+    let mut source = TWO_THREADS.to_vec(alloc).expect(rt, "memory");
+    source
+        .extend_from_slice(b"        .byte 1\n")
+        .expect(rt, "memory");
+    source
+}
+
+/// The tree that a source boots to.
+pub(crate) fn booted(rt: &impl Abort, alloc: Global, source: &[u8]) -> Space
+    ensures { IsSound result }
+{
+    let image = assemble(alloc, source).expect(rt, "an image");
+    boot(alloc, &image, Devices::new(alloc), 1_000_000).expect(rt, "memory")
+}
