@@ -7,6 +7,17 @@ use crate::end::End;
 use det_host::{Sink, SinkError, write_all};
 use std::alloc::{AllocError, Global};
 
+// Writes the line of an end, which is this one.
+fn write_fixed<E: Sink>(end: &End, line: &str, err: &mut E) -> Result<(), SinkError>
+    requires { line.now ≡ fault_line end.now }
+    ensures ok { OnOk result (Takes (E.taken err.old) (E.taken err.new) (fault_line end.now)) }
+    ensures prefix { TakesPrefix (E.taken err.old) (E.taken err.new) (fault_line end.now) }
+    ensures failed { IsErrOf result SinkError.Failed → StopsWithin (output_of E.taken E.faults err.old err.new) (fault_line end.now) }
+    ensures later { E.faults err.old ≤ E.faults err.new }
+{
+    write_all(err, line.as_bytes())
+}
+
 // Writes the line of an end, which was made, or for which memory ran out.
 fn write_made<E: Sink>(
     end: &End,
@@ -34,11 +45,11 @@ pub fn write_fault<E: Sink>(alloc: Global, end: &End, err: &mut E) -> Result<(),
     ensures later { E.faults err.old ≤ E.faults err.new }
 {
     match end {
-        End::Ret | End::Trapped => write_all(err, "".as_bytes()),
-        End::Usage => write_all(err, "det: usage: run|walk|asm|bench\n".as_bytes()),
-        End::ReadFault => write_all(err, "det: read fault\n".as_bytes()),
-        End::WriteFault => write_all(err, "det: write fault\n".as_bytes()),
-        End::NoMemory => write_all(err, "det: out of memory\n".as_bytes()),
+        End::Ret | End::Trapped => write_fixed(end, "", err),
+        End::Usage => write_fixed(end, "det: usage: run|walk|asm|bench\n", err),
+        End::ReadFault => write_fixed(end, "det: read fault\n", err),
+        End::WriteFault => write_fixed(end, "det: write fault\n", err),
+        End::NoMemory => write_fixed(end, "det: out of memory\n", err),
         End::BadImage(e) => write_made(end, format!(in alloc; "det: image: {e}\n"), err),
         End::BadElf(e) => write_made(end, format!(in alloc; "det: elf: {e}\n"), err),
         End::BadScript(e) => write_made(end, format!(in alloc; "det: script: {e}\n"), err),
