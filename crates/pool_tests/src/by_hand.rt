@@ -43,7 +43,8 @@ fn result_as(rt: &impl Abort, alloc: Global, source: &[u8], slot: usize, ticket:
         .work(rt, alloc)
 }
 
-// What becomes of a result of another board on a board over two threads whose root is out, in slot 0 with ticket 0; and whether the root may be taken again then.
+// What becomes of a result of another board, handed in on a board over two threads whose root is out, in slot 0 with ticket 0. The root may be taken again then, or
+// not, as `is_free` says.
 fn hand_in(rt: &impl Abort, alloc: Global, done: TestDone, is_free: bool) -> Commit {
     let mut board = TestBoard::over(rt, alloc, TWO_THREADS, 1);
     let _job = first_job(rt, &mut board);
