@@ -1,20 +1,20 @@
 -- The children that a call awaits run or settle by a schedule without own events of the space itself, nor of a path below it on which all have stopped; and
 -- then the call may happen.
-use Rattle.std.proofs.Common.{◌≡◌, ℕ, zero, suc, pred, ◌==◌, ◌&&◌, Bool, true, false, List, [], ◌∷◌, map, Option, Some, None, refl, sym, ap, ◌∙◌, subst, arith, inl, inr, ◌⊎◌}
+use Rattle.std.proofs.Common.{◌≡◌, ℕ, zero, suc, pred, true, false, List, [], ◌∷◌, map, Option, Some, None, refl, sym, ap, ◌∙◌, subst, arith, inl, inr, ◌⊎◌}
 use Rattle.std.proofs.lemmas.Bool.Decides.{nat_tests}
 use Rattle.std.proofs.lemmas.Bool.{cases_eq, and_from}
-use Rattle.std.specs.Prelude.{IfSome, option_map}
+use Rattle.std.specs.Prelude.{IfSome}
 use Rattle.space_model.specs.declared.Reach.{Reach}
 use Rattle.space_model.specs.declared.Reach.TheVariants.{Itself, Whole}
 use Rattle.space_model.specs.declared.Await.{Await}
 use Rattle.space_model.specs.Stop.{is_stopped}
 use Rattle.space_model.specs.Space.{Top, Space, space, Children, top_of, find, over, is_settled}
 use Rattle.space_model.specs.Sound.{IsSoundAt, AreSound}
-use Rattle.space_model.proofs.Children.{find-over_same, find-over_other}
+use Rattle.space_model.proofs.Children.{find-over_other}
 use Rattle.space_model.proofs.Sound.{no_child, found_sound, over_found_sound}
 use Rattle.run_model.specs.Schedule.{is_ready, are_ready}
 use Rattle.run_model.specs.Replay.{replay}
-use Rattle.run_model.specs.Demand.{Meaning, meaning, wait_for_child, wait_for, of_children}
+use Rattle.run_model.specs.Demand.{meaning, wait_for_child, wait_for, of_children}
 use Rattle.run_model.proofs.Run.{run-stops}
 use Rattle.run_model.proofs.Settled.{settle-settled}
 use Rattle.run_model.proofs.Sound.{meaning_sound}

@@ -1,5 +1,5 @@
 -- A space goes on for the sake of a path, and its own events there are counted: what that says of a whole tree.
-use Rattle.std.proofs.Common.{◌≡◌, ℕ, zero, suc, pred, ◌+◌, ◌-◌, ◌<◌, ◌≤◌, Bool, true, false, List, [], ◌∷◌, ◌++◌, length, length-append, take, Option, Some, None, refl, sym, ap, ap₂, ◌∙◌, subst, arith, inl, inr, ◌⊎◌}
+use Rattle.std.proofs.Common.{◌≡◌, ℕ, zero, suc, pred, ◌+◌, ◌-◌, ◌<◌, ◌≤◌, true, false, List, [], ◌∷◌, ◌++◌, length, length-append, take, Option, Some, None, refl, sym, ap, ap₂, ◌∙◌, subst, arith, inl, inr, ◌⊎◌}
 use Rattle.std.proofs.lemmas.Bool.Decides.{nat_tests}
 use Rattle.std.proofs.lemmas.Bool.{cases_eq}
 use Rattle.std.proofs.lemmas.List.{append-nil, take_all}
@@ -7,13 +7,12 @@ use Rattle.std.proofs.lemmas.Option.{slice_get_within}
 use Rattle.std.specs.List.{slice_get}
 use Rattle.std.specs.Prelude.{IfSome, nat_eq, option_map, option_and_then}
 use Rattle.space_model.specs.declared.Reach.TheVariants.{Whole}
-use Rattle.space_model.specs.Stop.{is_stopped}
-use Rattle.space_model.specs.Space.{Space, space, Top, Children, top_of, children_of, find, over}
+use Rattle.space_model.specs.Space.{Space, space, Top, Children, top_of, find, over}
 use Rattle.space_model.specs.Path.{at}
 use Rattle.space_model.specs.Sound.{IsSound, IsSoundAt}
 use Rattle.run_model.specs.Schedule.{is_enabled}
 use Rattle.run_model.specs.Replay.{replay}
-use Rattle.run_model.specs.Demand.{left_of, settle}
+use Rattle.run_model.specs.Demand.{settle}
 use Rattle.run_model.proofs.Settled.{settle-settled}
 use Rattle.run_model.proofs.Sound.{replay_sound}
 use Rattle.demand_eval.proofs.Children.{one_below}

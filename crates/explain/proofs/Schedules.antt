@@ -1,10 +1,10 @@
 -- Schedules in parts, and schedules of a child as schedules of its parent: which own events of a path are in them.
-use Rattle.std.proofs.Common.{◌≡◌, ℕ, pred, ◌==◌, ◌&&◌, Bool, true, false, cond, List, [], ◌∷◌, ◌++◌, append_assoc, map, Option, Some, None, refl, sym, ap, ap₂, ◌∙◌, arith}
+use Rattle.std.proofs.Common.{◌≡◌, ℕ, pred, Bool, true, false, List, [], ◌∷◌, ◌++◌, map, Option, Some, None, refl, sym, ap, ap₂, ◌∙◌, arith}
 use Rattle.std.proofs.lemmas.Bool.Decides.{nat_tests}
 use Rattle.std.specs.Prelude.{option_map, option_and_then, if◌then◌else◌}
 use Rattle.space_model.specs.Space.{Top, Space, space, Children, find, over}
 use Rattle.space_model.proofs.Children.{find-over_same, over-over_same, over-at, over_itself}
-use Rattle.run_model.specs.Schedule.{on_child, is_enabled, step, try_step}
+use Rattle.run_model.specs.Schedule.{is_enabled, step, try_step}
 use Rattle.run_model.specs.Replay.{replay}
 use Rattle.det_laws.specs.Leads.{Leads}
 use Rattle.event_laws.specs.OwnEvents.{OwnEvent, own_event_at, is_same_path, and_others, own_events}

@@ -1,16 +1,15 @@
 -- Where every space on the way to a path has stopped, no event happens at the path any more, and they stay stopped.
-use Rattle.std.proofs.Common.{◌≡◌, ℕ, pred, ◌==◌, ◌&&◌, Bool, true, false, List, [], ◌∷◌, ◌++◌, Option, Some, None, refl, sym, ap, ◌∙◌, subst, arith, inl, inr, ◌⊎◌, true≢false}
-use Rattle.std.proofs.lemmas.Bool.Decides.{nat_tests}
+use Rattle.std.proofs.Common.{◌≡◌, ℕ, pred, Bool, true, false, List, [], ◌∷◌, Option, Some, None, refl, sym, ap, ◌∙◌, subst, inl, inr, ◌⊎◌}
 use Rattle.std.proofs.lemmas.Bool.{cases_eq}
 use Rattle.std.specs.Prelude.{IfSome, option_map, if◌then◌else◌}
-use Rattle.space_model.specs.Space.{Space, space, Children, children_of, find, over}
+use Rattle.space_model.specs.Space.{Space, space, find, over}
 use Rattle.space_model.proofs.Children.{find-over_same, find-over_other}
 use Rattle.run_model.specs.Schedule.{is_enabled, step, try_step}
 use Rattle.run_model.specs.Replay.{replay}
 use Rattle.det_laws.proofs.Commutes.{child_there, stopped_waits}
-use Rattle.event_laws.specs.OwnEvents.{OwnEvent, own_event_at, is_same_path, and_others}
+use Rattle.event_laws.specs.OwnEvents.{own_event_at, is_same_path, and_others}
 use Rattle.event_laws.proofs.Histories.{no_event}
-use Rattle.explain.specs.Going.{own_below, WayStopped, BelowStopped}
+use Rattle.explain.specs.Going.{own_below, WayStopped}
 
 -- the child on the way, if it is there
 pub below_found : (n : ℕ) (p : List ℕ) (o : Option Space) (c : Space) → IfSome o (WayStopped p) → o ≡ Some c → WayStopped p c

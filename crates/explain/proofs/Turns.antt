@@ -1,7 +1,6 @@
 -- A turn of a space as a schedule: its local events, and the call that is next, once what it waits for is ready.
-use Rattle.std.proofs.Common.{◌≡◌, ℕ, zero, suc, pred, ◌+◌, ◌≤◌, ◌<◌, Bool, true, false, List, [], ◌∷◌, ◌++◌, length, length-append, Option, Some, None, refl, sym, ap, ap₂, ◌∙◌, subst, arith}
+use Rattle.std.proofs.Common.{◌≡◌, ℕ, zero, suc, ◌+◌, ◌≤◌, ◌<◌, true, false, List, [], ◌∷◌, ◌++◌, length, length-append, Option, Some, refl, sym, ap, ◌∙◌, subst, arith}
 use Rattle.call_model.specs.declared.Call.{Call}
-use Rattle.space_model.specs.Stop.{is_stopped}
 use Rattle.space_model.specs.Space.{Top, Space, space, Children, top_of, children_of}
 use Rattle.space_model.specs.Sound.{IsSoundAt}
 use Rattle.space_model.specs.Change.{after_payment}
@@ -18,7 +17,6 @@ use Rattle.run_model.proofs.Sound.{replay_sound}
 use Rattle.demand_eval.specs.Turns.{IsSoundBelow, with_awaited}
 use Rattle.demand_eval.proofs.Turns.{advanced, advanced_sound, advanced_then, met}
 use Rattle.event_laws.specs.OwnEvents.{OwnEvent}
-use Rattle.explain.specs.declared.going.Turn.{Turn}
 use Rattle.explain.specs.Going.{GoesBy, StartsWith, EndsWith, BelowStopped, TakesTurn}
 use Rattle.explain.proofs.Schedules.{goes_then, stays}
 use Rattle.explain.proofs.Awaiting.{all_waited}

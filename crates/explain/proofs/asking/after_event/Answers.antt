@@ -1,5 +1,5 @@
-use Rattle.std.proofs.Common.{◌-◌, rules}
-use Rattle.explain.proofs.Coming.{not_gone, shows}
+use Rattle.std.proofs.Common.{rules}
+use Rattle.explain.proofs.Coming.{shows}
 use Rattle.explain.proofs.asking.after_event.Goals as goal
 
 pub returns-then-not-happened-clause-none : goal.returns-then-not-happened-clause-none

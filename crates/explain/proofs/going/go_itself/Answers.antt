@@ -1,4 +1,4 @@
-use Rattle.std.proofs.Common.{◌≡◌, ◌+◌, ◌-◌, ◌<◌, true, arith, []}
+use Rattle.std.proofs.Common.{◌≡◌, ◌-◌, ◌<◌, true, arith, []}
 use Rattle.explain.proofs.Turns.{goes_sound}
 use Rattle.explain.proofs.Coming.{come_itself, one_turn}
 use Rattle.explain.proofs.going.go_itself.Goals as goal

@@ -1,4 +1,4 @@
-use Rattle.std.proofs.Common.{◌+◌, ◌-◌, arith}
+use Rattle.std.proofs.Common.{◌-◌, arith}
 use Rattle.explain.proofs.Traces.{tells_none}
 use Rattle.explain.proofs.going.take_told_turn.Goals as goal
 

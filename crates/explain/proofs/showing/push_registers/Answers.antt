@@ -1,4 +1,4 @@
-use Rattle.std.proofs.Common.{◌≡◌, ◌∙◌, ap, sym, arith, rules, length}
+use Rattle.std.proofs.Common.{rules}
 use Rattle.explain.proofs.Lines.{all_registers, one_register}
 use Rattle.explain.proofs.showing.push_registers.Goals as goal
 
