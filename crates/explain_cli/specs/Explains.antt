@@ -1,4 +1,4 @@
--- What is shown of a space of a run's tree at a moment.
+-- What is shown of a space of a run's tree at a moment, or of its own events.
 -- Our choice: what comes of a moment that never comes.
 use Rattle.std.specs.Prelude.{◌≡◌, ◌⊎◌, ℕ, ◌-◌, List, Option, Some, None}
 use Rattle.space_model.specs.Space.{Space}
@@ -6,27 +6,30 @@ use Rattle.space_model.specs.Path.{at}
 use Rattle.run_model.specs.Demand.{settle_tree}
 use Rattle.det_host.specs.Writing.{Output, IsUntouched, Wrote, WrotePrefix, StopsWithin}
 use Rattle.det_cli.specs.declared.end.End.TheVariants.{WriteFault, NoMemory}
-use Rattle.explain.specs.Reached.{NeverHappens, ShowsEvent, ShowsSpace}
+use Rattle.explain.specs.Reached.{IsTrace, NeverHappens, ShowsEvent, ShowsSpace}
 use Rattle.explain_words.specs.Line.{Moment}
 use Rattle.explain_cli.specs.declared.end.End.{End}
 use Rattle.explain_cli.specs.declared.end.End.TheVariants.{Shown, NoEvent, NoSpace, Failed}
 
 -- A text shows the space at a path behind an event: it is the text of its top there, the same in every schedule of the tree that has the event. With
--- no event it shows the space that stands there in the settled tree.
-abbrev pub ShowsAt : Option ℕ → Space → List ℕ → List ℕ → Type 0
-ShowsAt (Some k) root path text = ShowsEvent root path (k - 1) text
-ShowsAt None root path text = ShowsSpace path (settle_tree root) text
+-- no event it shows the space that stands there in the settled tree. With a last event it has a line for each own event from the one to the other, those of every
+-- schedule that has ended.
+abbrev pub ShowsAt : Option ℕ → Option ℕ → Space → List ℕ → List ℕ → Type 0
+ShowsAt (Some k) (Some last) root path text = IsTrace root path k last text
+ShowsAt (Some k) None root path text = ShowsEvent root path (k - 1) text
+ShowsAt None last root path text = ShowsSpace path (settle_tree root) text
 
 abbrev pub Shows : Space → Moment → List ℕ → Type 0
-Shows root m text = ShowsAt m.event root m.path text
+Shows root m text = ShowsAt m.event m.last root m.path text
 
--- no schedule of the tree has the event; or no space stands at the path in the settled tree
-abbrev pub IsNowhere : Option ℕ → Space → List ℕ → Type 0
-IsNowhere (Some k) root path = NeverHappens root path (k - 1)
-IsNowhere None root path = at path (settle_tree root) ≡ None
+-- no schedule of the tree has the event; or no space stands at the path in the settled tree. Events from one to another are always shown, be there none
+abbrev pub IsNowhere : Option ℕ → Option ℕ → Space → List ℕ → Type 0
+IsNowhere (Some k) (Some last) root path = ⊥
+IsNowhere (Some k) None root path = NeverHappens root path (k - 1)
+IsNowhere None last root path = at path (settle_tree root) ≡ None
 
 abbrev pub NeverComes : Space → Moment → Type 0
-NeverComes root m = IsNowhere m.event root m.path
+NeverComes root m = IsNowhere m.event m.last root m.path
 
 -- the end that says so
 abbrev pub absent : Option ℕ → End

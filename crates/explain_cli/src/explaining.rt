@@ -2,7 +2,7 @@ ghost use Rattle.std.specs.Prelude.{◌≡◌, ◌≤◌, ◌-◌, IfOk, IfSome,
 ghost use Rattle.space_model.specs.Sound.{IsSound};
 ghost use Rattle.run_model.specs.Boot.{boot};
 ghost use Rattle.det_host.specs.Writing.{output_of};
-ghost use Rattle.explain_words.specs.Line.{line_of, moment_of, IsInRange};
+ghost use Rattle.explain_words.specs.Line.{FromOne, line_of, moment_of, IsInRange};
 ghost use Rattle.explain_cli.specs.Explains.{Explains, NeverComes, Shows, ShowsWritten, absent};
 
 use crate::end::End;
@@ -10,22 +10,26 @@ use det_cli::{End as Failure, write_end};
 use det_core::boot;
 use det_host::{Sink, write_all};
 use dev_script::Devices;
-use explain::{after_event, at_end};
+use explain::{after_event, at_end, trace};
 use explain_words::{At, Moment};
 use image_file::Image;
 use space_tree::Space;
 use std::alloc::{AllocError, Global};
 
-// What is shown of a tree at a moment. None exactly where the moment never comes.
+// What is shown of a tree at a moment, or of its events. None exactly where the moment never comes.
 fn text_at(alloc: Global, root: Space, moment: &Moment) -> Result<Option<Vec<u8>>, AllocError>
     requires sound { IsSound root }
-    requires counted { IfSome moment.now.event (λ k. 1 ≤ k) }
+    requires counted { FromOne (moment_of moment.now) }
     ensures some { IfOk result (λ o. IfSome o (λ v. Shows root (moment_of moment.now) v.items)) }
     ensures none { IfOk result (λ o. IsNone o → NeverComes root (moment_of moment.now)) }
 {
-    match moment.event {
-        Some(number) => after_event(alloc, root, &moment.path, u64::from(number)),
-        None => at_end(alloc, root, &moment.path),
+    match (moment.event, moment.last) {
+        (Some(from), Some(to)) => {
+            let lines = trace(alloc, root, &moment.path, u64::from(from), u64::from(to))?;
+            Ok(Some(lines))
+        }
+        (Some(number), None) => after_event(alloc, root, &moment.path, u64::from(number)),
+        (None, _) => at_end(alloc, root, &moment.path),
     }
 }
 

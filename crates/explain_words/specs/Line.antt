@@ -1,7 +1,7 @@
 -- What the words of a command line of `explain` ask for: the command that `clap` gives for them by its definition for simple commands, or none
--- where it refuses them or the word for a moment is none.
+-- where it refuses them or the words for a moment are none.
 -- Source: the crate `clap`, whose definition of a command line this cites.
--- Our choice: the command and its option; how a moment is written.
+-- Our choice: the commands and their option; how a moment is written.
 use Rattle.std.specs.Prelude.{◌≡◌, ◌≤◌, ◌<◌, ◌^◌, ℕ, ◌==◌, Bool, true, List, [], ◌∷◌, length, Option, Some, None, Result, Ok, Err, codes, if◌then◌else◌, ◌⊎◌, nat_lt, IfSome}
 use Rattle.std.specs.Prelude.{option_and_then, option_map}
 use Rattle.std.specs.Str.{bytes_eq}
@@ -18,10 +18,12 @@ use Rattle.explain_words.specs.declared.moment.Moment as code_moment
 
 -- ---- a moment
 
--- A moment of the space at a path: just behind its own event of this number, counted from 1; or its end, where no event is named.
+-- A moment of the space at a path: just behind its own event of this number, counted from 1; or its end, where no event is named. Or all of its own events from that
+-- number to a last one, where one is named.
 pub record Moment : Type 0 where
   pub path : List ℕ
   pub event : Option ℕ
+  pub last : Option ℕ
 
 -- the greatest number of an event that can be named, and the most digits of one, zeros at the front among them
 abbrev pub greatest_event : ℕ
@@ -53,11 +55,11 @@ event_in digits = option_and_then from_one (number_of most_digits greatest_event
 
 -- a path and an event, where both are there
 abbrev pub behind_event : Option (List ℕ) → Option ℕ → Option Moment
-behind_event (Some path) (Some event) = Some (record { path = path; event = Some event })
+behind_event (Some path) (Some event) = Some (record { path = path; event = Some event; last = None })
 behind_event _ _ = None
 
 abbrev pub at_end : Option (List ℕ) → Option Moment
-at_end path = option_map (λ p. record { path = p; event = None }) path
+at_end path = option_map (λ p. record { path = p; event = None; last = None }) path
 
 -- PATH:EVENT, or PATH alone
 unfoldable pub moment_in : Text → Option Moment
@@ -65,17 +67,29 @@ moment_in text = if nat_lt (position_or_len is_colon text) (length text)
     then behind_event (path_in (before_first is_colon text)) (event_in (after_first is_colon text))
     else at_end (path_in text)
 
--- ---- the command
+-- a path and two events, where all are there
+abbrev pub from_to : Option (List ℕ) → Option ℕ → Option ℕ → Option Moment
+from_to (Some path) (Some from) (Some to) = Some (record { path = path; event = Some from; last = Some to })
+from_to _ _ _ = None
+
+-- PATH, FROM and TO
+unfoldable pub events_in : Text → Text → Text → Option Moment
+events_in path from to = from_to (path_in path) (event_in from) (event_in to)
+
+-- ---- the commands
 
 unfoldable pub at_app : App
 at_app = with_rules (new_app (codes "at")) (fuel_rule ∷ required_rule (codes "image") ∷ required_rule (codes "script") ∷ required_rule (codes "moment") ∷ [])
+
+unfoldable pub trace_app : App
+trace_app = with_rules (new_app (codes "trace")) (fuel_rule ∷ required_rule (codes "image") ∷ required_rule (codes "script") ∷ required_rule (codes "path") ∷ required_rule (codes "from") ∷ required_rule (codes "to") ∷ [])
 
 -- a command has to follow the program's name, and none of them is called `help`
 abbrev pub start : App
 start = on_top (λ s. record s { subcommand_required = true; disable_help_subcommand = true }) (new_app (codes "explain"))
 
 unfoldable pub program_app : App
-program_app = with_subcommand start at_app.top
+program_app = with_subcommand (with_subcommand start at_app.top) trace_app.top
 
 -- ---- the line
 
@@ -86,45 +100,61 @@ pub record At : Type 0 where
   pub script : Text
   pub moment : Moment
 
+-- events are counted from 1
+abbrev pub FromOne : Moment → Type 0
+FromOne m = IfSome m.event (λ k. 1 ≤ k) × IfSome m.last (λ k. 1 ≤ k)
+
 -- the fuel is in its range, and events are counted from 1
 abbrev pub IsInRange : At → Type 0
-IsInRange a = (1 ≤ a.fuel) × (a.fuel < 2 ^ 32) × IfSome a.moment.event (λ k. 1 ≤ k)
+IsInRange a = (1 ≤ a.fuel) × (a.fuel < 2 ^ 32) × FromOne a.moment
 
 -- the parts, where all are there
 abbrev pub at_with : Option ℕ → Option Text → Option Text → Option Moment → Option At
 at_with (Some fuel) (Some image) (Some script) (Some moment) = Some (record { fuel = fuel; image = image; script = script; moment = moment })
 at_with _ _ _ _ = None
 
-abbrev pub moment_from : List Row → Option Moment
-moment_from rows = option_and_then moment_in (first_of (codes "moment") rows)
+-- `at`: the moment of a word, where the word is there
+abbrev pub moment_from : List Row → Option (Option Moment)
+moment_from rows = option_map moment_in (first_of (codes "moment") rows)
 
-unfoldable pub at_line : List Row → Option At
-at_line rows = at_with (fuel_of rows) (first_of (codes "image") rows) (first_of (codes "script") rows) (moment_from rows)
+-- `trace`: that of three words, where they are there
+abbrev pub events_of : Option Text → Option Text → Option Text → Option (Option Moment)
+events_of (Some path) (Some from) (Some to) = Some (events_in path from to)
+events_of _ _ _ = None
+
+abbrev pub events_from : List Row → Option (Option Moment)
+events_from rows = events_of (first_of (codes "path") rows) (first_of (codes "from") rows) (first_of (codes "to") rows)
+
+abbrev pub moment_named : Text × List Row → Option (Option Moment)
+moment_named p = if bytes_eq p.0 (codes "at") then moment_from p.1 else if bytes_eq p.0 (codes "trace") then events_from p.1 else None
+
+-- a moment that the words write
+abbrev pub written : Option (Option Moment) → Option Moment
+written None = None
+written (Some moment) = moment
+
+unfoldable pub line_with : Option (Option Moment) → List Row → Option At
+line_with named rows = at_with (fuel_of rows) (first_of (codes "image") rows) (first_of (codes "script") rows) (written named)
 
 abbrev pub command_line : Text × List Row → Option At
-command_line p = if bytes_eq p.0 (codes "at") then at_line p.1 else None
+command_line p = line_with (moment_named p) p.1
 
 -- The first of the words is the program's name.
 unfoldable pub line : List Text → Option At
 line words = if is_empty (fault_of program_app words)
     then option_and_then command_line (subcommand_of program_app words) else None
 
--- the word for a moment
-abbrev pub moment_text_of : Text × List Row → Option Text
-moment_text_of p = if bytes_eq p.0 (codes "at") then first_of (codes "moment") p.1 else None
+-- words for a moment are there, and write none
+abbrev pub HasNoMoment : Option (Text × List Row) → Type 0
+HasNoMoment o = option_and_then moment_named o ≡ Some None
 
--- and it is none
-abbrev pub IsNoMoment : Option Text → Type 0
-IsNoMoment None = ⊥
-IsNoMoment (Some text) = moment_in text ≡ None
-
--- the words are refused: `clap` has a kind of error for them, or the word for a moment, which to `clap` is any text, is none
+-- the words are refused: `clap` has a kind of error for them, or those for a moment, which to `clap` are any texts, write none
 abbrev pub IsRefused : List Text → Type 0
-IsRefused words = ¬ (fault_of program_app words ≡ []) ⊎ IsNoMoment (option_and_then moment_text_of (subcommand_of program_app words))
+IsRefused words = ¬ (fault_of program_app words ≡ []) ⊎ HasNoMoment (subcommand_of program_app words)
 
 -- what the code has
 abbrev pub moment_of : code_moment.Moment → Moment
-moment_of m = record { path = m.path.items; event = m.event }
+moment_of m = record { path = m.path.items; event = m.event; last = m.last }
 
 abbrev pub line_of : code.At → At
 line_of a = record { fuel = a.fuel; image = a.image.now; script = a.script.now; moment = moment_of a.moment }
