@@ -17,7 +17,7 @@ shown b = record { boot = b.boot; tree = b.tree; places = b.lists.run.places; hi
 -- was taken is an entry of the history.
 pub record Keeps (b : Inside) : Type 0 where
   pub nodes : 0 < b.lists.run.places.nodes
-  pub pages : length b.lists.pages ≡ b.lists.run.places.nodes
+  pub pages : length b.lists.pages.lists ≡ b.lists.run.places.nodes
   pub sound : IsSound b.boot
   pub legal : IsHistory b.lists.run.places.nodes b.boot b.history.items b.tree b.lists.run.places
   pub at_work : AreOut b.lists.at_work b.out.slots

@@ -81,7 +81,7 @@ fn list_child(
 fn begin_on(alloc: Global, mut space: Space, pages: Nodes, nodes: u32) -> Result<Board, AllocError>
     requires sound { IsSound space }
     requires nodes { (1 ≤ nodes) × (nodes ≤ 64) }
-    requires pages { length pages ≡ nodes }
+    requires pages { length pages.lists ≡ nodes }
     ensures { IfOk result (λ b. b ≡ begun space nodes) }
 {
     let mut run = Runs::new(alloc, nodes)?;

@@ -52,9 +52,9 @@ fn send_child_home(
     path: &Path,
     number: u16,
 ) -> Result<(), AllocError>
-    requires nodes { length pages.old ≡ places.now.nodes }
+    requires nodes { length pages.old.lists ≡ places.now.nodes }
     ensures same { tree.new ≡ tree.old }
-    ensures nodes { length pages.new ≡ length pages.old }
+    ensures nodes { length pages.new.lists ≡ length pages.old.lists }
     ensures more { HasAll (Has away.new) (Has away.old) }
     ensures only { (q : List ℕ) → Has away.new q → Has away.old q ⊎ ((q ≡ path.now.items ++ number ∷ []) × (place_of places.now q ≢ home places.now.nodes q)) }
     ensures there { OnOk result ((length path.now.items < greatest_depth → place_of places.now (path.now.items ++ number ∷ []) ≡ home places.now.nodes (path.now.items ++ number ∷ [])) ⊎ Has away.new (path.now.items ++ number ∷ [])) }
@@ -80,9 +80,9 @@ fn send_home(
     path: &Path,
     all: &Awaited,
 ) -> Result<PathSet, AllocError>
-    requires nodes { length pages.old ≡ places.now.nodes }
+    requires nodes { length pages.old.lists ≡ places.now.nodes }
     ensures same { tree.new ≡ tree.old }
-    ensures nodes { length pages.new ≡ length pages.old }
+    ensures nodes { length pages.new.lists ≡ length pages.old.lists }
     ensures away { IfOk result (λ away. AreAway places.now path.now.items all.now away) }
 {
     let mut away = PathSet::new(alloc);
@@ -124,9 +124,9 @@ pub(crate) fn gather(
     path: &Path,
     call: AcceptedCall,
 ) -> Result<Gathered, AllocError>
-    requires nodes { length lists.old.pages ≡ lists.old.run.places.nodes }
+    requires nodes { length lists.old.pages.lists ≡ lists.old.run.places.nodes }
     ensures tree { tree.new ≡ tree.old }
-    ensures pages { length lists.new.pages ≡ length lists.old.pages }
+    ensures pages { length lists.new.pages.lists ≡ length lists.old.pages.lists }
     ensures places { lists.new.run.places ≡ lists.old.run.places }
     ensures work { lists.new.at_work ≡ lists.old.at_work }
     ensures news { lists.new.news ≡ lists.old.news }

@@ -10,11 +10,11 @@ use std::alloc::AllocError;
 // The state of a space as it arrives at a node: packed at the one, without the pages that the other keeps, carried over the link between them, where they have one, and
 // read at the other.
 fn arrive(pages: &mut Nodes, top: &Top, from: u32, to: u32) -> Result<Top, AllocError>
-    requires from { from < length pages.old }
-    requires to { to < length pages.old }
+    requires from { from < length pages.old.lists }
+    requires to { to < length pages.old.lists }
     requires devices { top.now.devices ≡ None }
     ensures same { IfOk result (λ t. t ≡ top.now) }
-    ensures nodes { length pages.new ≡ length pages.old }
+    ensures nodes { length pages.new.lists ≡ length pages.old.lists }
 {
     let sent = pages.send(from, to, top)?;
     let parcel = pages.carry(from, to, sent)?;
@@ -27,10 +27,10 @@ fn arrive(pages: &mut Nodes, top: &Top, from: u32, to: u32) -> Result<Top, Alloc
 
 // The state of a space goes to another node; its devices are handed over beside the parcel. It is as it was, at an error too.
 fn send_top(pages: &mut Nodes, top: &mut Top, from: u32, to: u32) -> Result<(), AllocError>
-    requires from { from < length pages.old }
-    requires to { to < length pages.old }
+    requires from { from < length pages.old.lists }
+    requires to { to < length pages.old.lists }
     ensures same { top.new ≡ top.old }
-    ensures nodes { length pages.new ≡ length pages.old }
+    ensures nodes { length pages.new.lists ≡ length pages.old.lists }
 {
     let devices = top.devices.take();
     match arrive(pages, top, from, to) {
@@ -54,10 +54,10 @@ fn send_below(
     from: u32,
     to: u32,
 ) -> Result<(), AllocError>
-    requires from { from < length pages.old }
-    requires to { to < length pages.old }
+    requires from { from < length pages.old.lists }
+    requires to { to < length pages.old.lists }
     ensures same { space.new ≡ space.old }
-    ensures nodes { length pages.new ≡ length pages.old }
+    ensures nodes { length pages.new.lists ≡ length pages.old.lists }
 {
     match path {
         [] => send_top(pages, &mut space.top, from, to),
@@ -79,10 +79,10 @@ pub(crate) fn send(
     from: u32,
     to: u32,
 ) -> Result<(), AllocError>
-    requires from { from < length pages.old }
-    requires to { to < length pages.old }
+    requires from { from < length pages.old.lists }
+    requires to { to < length pages.old.lists }
     ensures same { tree.new ≡ tree.old }
-    ensures nodes { length pages.new ≡ length pages.old }
+    ensures nodes { length pages.new.lists ≡ length pages.old.lists }
 {
     if from == to {
         return Ok(());

@@ -1,19 +1,33 @@
--- The lists of resident pages of nodes, and what a parcel that is sent leaves in them.
+-- Nodes: their lists of resident pages, and what a parcel that is sent leaves in them; the links between them, where they have some, and what a parcel that is carried leaves there.
 -- Source: OSDI 2010, "Efficient System-Enforced Deterministic Parallelism", "Distribution via Space Migration".
 -- Our choice: both ends keep the pages whose bytes were sent.
-use Rattle.std.specs.Prelude.{◌≡◌, ℕ, List, [], Option, None, Some, Result, Ok, slice_index_or, slice_set}
-use Rattle.std.specs.Coded.{Coded, coded_list}
+use Rattle.std.specs.Prelude.{◌≡◌, ℕ, ◌*◌, List, [], Option, None, Some, Result, Ok, option_map, replicate, slice_index_or, slice_set}
 use Rattle.device_model.specs.Devices.{Devices}
 use Rattle.space_model.specs.Space.{Top}
-use Rattle.node_link.specs.Linked.{Linked}
+use Rattle.link_model.specs.Carrying.{with_one_more}
+use Rattle.node_link.specs.Linked.{Linked, link_of, most_nodes, with_link}
 use Rattle.parcel_model.specs.declared.error.ParcelError.{ParcelError}
 use Rattle.parcel_model.specs.Packing.{parcel_of}
 use Rattle.parcel_model.specs.Reading.{◌>>=◌, top_at}
-use Rattle.parcel_model.specs.Residents.{coded_residents, with_residents}
+use Rattle.parcel_model.specs.Residents.{with_residents}
 use Rattle.parcel_model.specs.Sent.{pages_sent}
 
-abbrev pub coded_lists : Coded (List (List (List ℕ)))
-coded_lists = coded_list coded_residents
+-- by the number of the node the list of its pages; and the links between the nodes, where they have some
+pub record NodesView : Type 0 where
+  pub lists : List (List (List ℕ))
+  pub links : Option Linked
+
+-- so many nodes without pages
+abbrev pub without_links : ℕ → NodesView
+without_links nodes = record { lists = replicate nodes []; links = None }
+
+-- and with a link between each two, over which nothing has gone
+abbrev pub with_links : ℕ → ℕ → NodesView
+with_links nodes seed = record { lists = replicate nodes []; links = Some (record { seed = seed; nodes = nodes; links = replicate (nodes * most_nodes) None }) }
+
+-- the links behind a parcel from one node to another, where there are any: one more has gone over the link of these two
+abbrev pub carried_over : Option Linked → ℕ → ℕ → Option Linked
+carried_over links from to = option_map (λ l. with_link l from to (with_one_more (link_of l from to))) links
 
 -- links, where there are any, are between so many nodes
 abbrev pub AreLinked : ℕ → Option Linked → Type 0

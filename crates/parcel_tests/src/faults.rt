@@ -140,7 +140,7 @@ fn a_parcel_is_cut_at_every_byte(rt: HostRuntime) -> Result<(), Fail> {
 
 // Whether a node refuses these bytes.
 fn is_refused(nodes: &Nodes, parcel: &[u8]) -> Result<bool, AllocError>
-    requires { length nodes.now ≡ 2 }
+    requires { length nodes.now.lists ≡ 2 }
 {
     match nodes.receive(1, parcel, None) {
         Err(Fault::Bad(_)) => Ok(true),

@@ -46,7 +46,7 @@ invariant_of-self-2 c =
     let more = c.in_ok-slot.ensures.len in
     record {
       nodes = subst (λ ps. 0 < (let places = ps in places.nodes)) (sym c.remove.ensures.places) kept.nodes;
-      pages = subst (λ ps. length b.lists.pages ≡ (let places = ps in places.nodes)) (sym c.remove.ensures.places) kept.pages;
+      pages = subst (λ ps. length b.lists.pages.lists ≡ (let places = ps in places.nodes)) (sym c.remove.ensures.places) kept.pages;
       sound = kept.sound;
       at_work = c.put_in.ensures.work;
       legal = subst (λ ps. IsHistory (let places = ps in places.nodes) b.boot c.make_places.new.history.items c.copy_top_at.new.space ps) (sym c.remove.ensures.places)

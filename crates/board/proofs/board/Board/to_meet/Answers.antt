@@ -20,7 +20,7 @@ invariant_of-self c =
     let capacity = c.list_news.ensures.capacity in
     record {
       nodes = subst (λ ps. 0 < (let places = ps in places.nodes)) (sym c.list_news.ensures.places) kept.nodes;
-      pages = subst (λ ps. length b.lists.pages ≡ (let places = ps in places.nodes)) (sym c.list_news.ensures.places) kept.pages;
+      pages = subst (λ ps. length b.lists.pages.lists ≡ (let places = ps in places.nodes)) (sym c.list_news.ensures.places) kept.pages;
       sound = kept.sound;
       at_work = kept.at_work;
       legal = subst (λ ps. IsHistory (let places = ps in places.nodes) b.boot b.history.items b.tree ps) (sym c.list_news.ensures.places) kept.legal;
@@ -41,7 +41,7 @@ invariant_of-self-2 c =
     let before = subst (λ ns. IsListed b.tree c.list_news.new.run c.list_news.new.calls (paths_in ns) b.out.slots) none (c.list_news.ensures.listed b.tree b.out.slots kept.listed) in
     record {
       nodes = subst (λ ps. 0 < (let places = ps in places.nodes)) (sym c.list_news.ensures.places) kept.nodes;
-      pages = subst (λ ps. length b.lists.pages ≡ (let places = ps in places.nodes)) (sym c.list_news.ensures.places) kept.pages;
+      pages = subst (λ ps. length b.lists.pages.lists ≡ (let places = ps in places.nodes)) (sym c.list_news.ensures.places) kept.pages;
       sound = kept.sound;
       at_work = kept.at_work;
       legal = subst (λ ps. IsHistory (let places = ps in places.nodes) b.boot b.history.items b.tree ps) (sym c.list_news.ensures.places) kept.legal;
