@@ -12,9 +12,9 @@ const SIZE: usize = PAGE_SIZE as usize;
 // The bytes of a page of which none are kept.
 static ZEROS: [u8; SIZE] = [0; SIZE];
 
-// The bytes of a page.
+/// The bytes of a page.
 #[tactic(auto, using(report_model::proofs::Pages::page_kept))]
-fn page_bytes(memory: &Mem, page: u32) -> &[u8; SIZE]
+pub fn page_bytes(memory: &Mem, page: u32) -> &[u8; SIZE]
     ensures { result.now ≡ page_bytes memory.now.memory page }
 {
     match memory.page(page) {

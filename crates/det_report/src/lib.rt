@@ -6,7 +6,7 @@ mod line;
 mod reporting;
 mod summing;
 
-pub use digesting::digest;
-pub use line::stop_text;
+pub use digesting::{digest, page_bytes};
+pub use line::{cause_word, stop_text};
 pub use reporting::report;
 pub use summing::summary;

@@ -8,8 +8,8 @@ use crate::digesting::digest;
 use space_tree::{Cause, Mem, Status, Top};
 use std::alloc::{AllocError, Global};
 
-// The word of a cause.
-fn word(cause: Cause) -> &'static str
+/// The word of a cause.
+pub fn cause_word(cause: Cause) -> &'static str
     ensures { result.now ≡ cause_word cause }
 {
     match cause {
@@ -38,7 +38,7 @@ pub fn stop_text(alloc: Global, status: Status) -> Result<String, AllocError>
     match status {
         Status::Running => unreachable!(),
         Status::Stopped { cause, value } => {
-            let word = word(cause);
+            let word = cause_word(cause);
             format!(in alloc; "{word} {value:08x}")
         }
     }

@@ -1,6 +1,6 @@
 -- What a call that writes does to the bytes, and a header as the code keeps it.
 -- Our choice: a restatement for proofs.
-use Rattle.std.specs.Prelude.{◌≡◌, ℕ, ◌+◌, cond, List, ◌++◌, length, Result, Ok, Err, codes}
+use Rattle.std.specs.Prelude.{◌≡◌, ℕ, ◌+◌, cond, List, ◌++◌, length, Option, Some, None, Result, Ok, Err, codes}
 use Rattle.std.specs.Int.{w32, to_le_bytes}
 use Rattle.file_model.specs.declared.FileError.{FileError}
 use Rattle.file_model.specs.File.{File}
@@ -26,6 +26,13 @@ pub record Describes (h : Header) (f : File) : Type 0 where
   pub append : h.append ≡ f.append
   pub conflicted : h.conflicted ≡ f.conflicted
   pub deleted : h.deleted ≡ f.deleted
+
+-- what the code tells of a slot: the header of its file, or that it is free
+abbrev pub IsHeader : Option File → Option Header → Type 0
+IsHeader None None = Unit {0}
+IsHeader None (Some h) = ⊥
+IsHeader (Some f) None = ⊥
+IsHeader (Some f) (Some h) = Describes h f
 
 -- the mark and the first three numbers of a header, and the other ones with the name
 abbrev pub first_half : Header → List ℕ

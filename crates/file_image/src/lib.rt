@@ -23,3 +23,4 @@ pub use marking::touched;
 pub use putting::{put, put_slot};
 pub use reading::{get, len, present};
 pub use reconciling::reconcile;
+pub use writing::{Header, file_header};

@@ -1,27 +1,37 @@
 ghost use Rattle.std.specs.Prelude.{◌≡◌, ◌<◌, ◌≤◌, ◌+◌, ◌++◌, true, cond, length};
 ghost use Rattle.file_model.specs.Sizes.{slot_count, slot_size, content_offset};
 ghost use Rattle.file_model.specs.File.{File};
-ghost use Rattle.file_model.specs.Slots.{slot_start, with_bytes, header_bytes, with_padding};
+ghost use Rattle.file_model.specs.Slots.{slot_at, slot_start, with_bytes, header_bytes, with_padding};
 ghost use Rattle.file_image.specs.Lookup.{file_in, HasFile};
-ghost use Rattle.file_image.specs.Writes.{Describes, first_half, second_half};
+ghost use Rattle.file_image.specs.Writes.{Describes, IsHeader, first_half, second_half};
 
 use crate::fields::{base, is_append, is_conflicted, is_deleted, length, length_at_base, version};
 use crate::file_bytes::FileBytes;
 use crate::header::{SLOT_SIZE, number, rest_of_page};
+use crate::lookup::is_free;
 use crate::reading::read_bytes;
 
-// The fields of a slot's header, the name padded with 0.
+/// The fields of a slot's header, the name padded with 0.
 #[derive(Clone, Copy)]
-pub(crate) struct Header {
-    pub(crate) name: [u8; 32],
-    pub(crate) name_length: u32,
-    pub(crate) version: u32,
-    pub(crate) base: u32,
-    pub(crate) length: u32,
-    pub(crate) length_at_base: u32,
-    pub(crate) append: bool,
-    pub(crate) conflicted: bool,
-    pub(crate) deleted: bool,
+pub struct Header {
+    /// The name, 1 to 32 bytes other than 0, and zeros behind it.
+    pub name: [u8; 32],
+    /// How many bytes the name has.
+    pub name_length: u32,
+    /// A number that each change adds one to.
+    pub version: u32,
+    /// The version that the file had when the process was forked.
+    pub base: u32,
+    /// How many bytes the content has, at most 61,440.
+    pub length: u32,
+    /// How many it had at the base.
+    pub length_at_base: u32,
+    /// Whether the content only grows.
+    pub append: bool,
+    /// Whether parent and child both changed the file.
+    pub conflicted: bool,
+    /// Whether the file is deleted.
+    pub deleted: bool,
 }
 
 // Writes bytes from an offset of a slot on, page by page.
@@ -106,4 +116,16 @@ pub(crate) fn read_header<B: FileBytes>(bytes: &B, slot: u32) -> Header
         conflicted: is_conflicted(bytes, slot),
         deleted: is_deleted(bytes, slot),
     }
+}
+
+/// The header of the file in a slot, below 64; none exactly where the slot is free.
+#[tactic(auto, unfolding(file_model::specs::Slots::slot_at))]
+pub fn file_header<B: FileBytes>(bytes: &B, slot: u32) -> Option<Header>
+    requires { slot < slot_count }
+    ensures { IsHeader (slot_at (B.bytes bytes.now) slot) result }
+{
+    if is_free(bytes, slot) {
+        return None;
+    }
+    Some(read_header(bytes, slot))
 }

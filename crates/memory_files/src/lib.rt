@@ -15,4 +15,5 @@ mod slots;
 
 pub use basing::mark_base;
 pub use calling::file_call;
+pub use reading::header_in;
 pub use reconciling::reconcile;

@@ -1,13 +1,16 @@
-ghost use Rattle.std.specs.Prelude.{◌≡◌, ◌+◌, ◌-◌, ◌≤◌, ◌^◌, min, Ok, IfOk, OnErr};
+ghost use Rattle.std.specs.Prelude.{◌≡◌, ◌+◌, ◌-◌, ◌<◌, ◌≤◌, ◌^◌, min, Ok, IfOk, OnErr};
 ghost use Rattle.memory_model.specs.Memory.{bytes_from};
 ghost use Rattle.file_model.specs.Operations as operations;
 ghost use Rattle.call_model.specs.Accepted.{IsSpan};
-ghost use Rattle.space_model.specs.Files.{files_in, part_result, length_result};
+ghost use Rattle.file_model.specs.Sizes.{slot_count};
+ghost use Rattle.file_model.specs.Slots.{slot_at};
+ghost use Rattle.file_image.specs.Writes.{IsHeader};
+ghost use Rattle.space_model.specs.Files.{file_bytes, files_in, part_result, length_result};
 ghost use Rattle.memory_files.specs.Answers.{HasResult, HasLength, IsBesidePart, IsFound, IsPart};
 
 use crate::files::Files;
 use crate::naming::{is_short, name_at};
-use file_image::{FileError, get, len};
+use file_image::{FileError, Header, file_header, get, len};
 use space_mem::Mem;
 use space_model::FileAnswer;
 use std::alloc::AllocError;
@@ -114,4 +117,12 @@ pub(crate) fn tell_length(memory: &Mem, name: u32, name_len: u32) -> FileAnswer
     }
     let bytes = name_at(memory, name, name_len);
     length_named(memory, &bytes[..name_len as usize])
+}
+
+/// The header of the file in a slot, below 64, of a memory; none exactly where the slot is free.
+pub fn header_in(memory: &Mem, slot: u32) -> Option<Header>
+    requires { slot < slot_count }
+    ensures { IsHeader (slot_at (file_bytes memory.now.memory) slot) result }
+{
+    file_header(&Files::new(memory), slot)
 }
