@@ -14,7 +14,7 @@ use std::alloc::{AllocError, Global};
 use std::collections::BTreeMap;
 
 /// Where labels are first defined, by name.
-pub(crate) type Labels<'a> = BTreeMap<&'a [u8], Definition>;
+pub type Labels<'a> = BTreeMap<&'a [u8], Definition>;
 
 /// The layout before the first line.
 pub(crate) const START: Layout = Layout {
@@ -64,8 +64,8 @@ fn define_label<'a>(
     }
 }
 
-/// Where the labels of a source are first defined.
-pub(crate) fn labels_of<'a>(alloc: Global, source: &'a [u8]) -> Result<Labels<'a>, AllocError>
+/// Where the labels of a source are first defined, whether it can be assembled or not. The one error is want of memory.
+pub fn labels_of<'a>(alloc: Global, source: &'a [u8]) -> Result<Labels<'a>, AllocError>
     ensures { IfOk result (λ m. labels_in m ≡ layouts.definitions source.now) }
 {
     let mut labels = BTreeMap::new(alloc);

@@ -18,4 +18,5 @@ mod text;
 pub use assembling::assemble;
 pub use fault::AsmFault;
 pub use generating::generated;
+pub use labels::{Labels, labels_of};
 pub use source_model::{AsmError, AsmErrorKind};
