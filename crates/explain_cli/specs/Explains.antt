@@ -1,23 +1,28 @@
 -- What is shown of a space of a run's tree at a moment, or of its own events.
 -- Our choice: what comes of a moment that never comes.
-use Rattle.std.specs.Prelude.{◌≡◌, ◌⊎◌, ℕ, ◌-◌, List, Option, Some, None}
+use Rattle.std.specs.Prelude.{◌≡◌, ◌⊎◌, ℕ, ◌-◌, false, List, Option, Some, None}
 use Rattle.space_model.specs.Space.{Space}
 use Rattle.space_model.specs.Path.{at}
 use Rattle.run_model.specs.Demand.{settle_tree}
 use Rattle.det_host.specs.Writing.{Output, IsUntouched, Wrote, WrotePrefix, StopsWithin}
 use Rattle.det_cli.specs.declared.end.End.TheVariants.{WriteFault, NoMemory}
-use Rattle.explain.specs.Reached.{IsTrace, NeverHappens, ShowsEvent, ShowsSpace}
+use Rattle.explain_core.specs.Reached.{NeverHappens, ShowsEvent, ShowsSpace, ShowsTrace}
+use Rattle.explain_core.specs.Manner.{Manner}
 use Rattle.explain_words.specs.Line.{Moment}
 use Rattle.explain_cli.specs.declared.end.End.{End}
 use Rattle.explain_cli.specs.declared.end.End.TheVariants.{Shown, NoEvent, NoSpace, Failed}
+
+-- as lines of text, with no bytes of memory
+abbrev pub plain : Manner
+plain = record { json = false; bytes = None }
 
 -- A text shows the space at a path behind an event: it is the text of its top there, the same in every schedule of the tree that has the event. With
 -- no event it shows the space that stands there in the settled tree. With a last event it has a line for each own event from the one to the other, those of every
 -- schedule that has ended.
 abbrev pub ShowsAt : Option ℕ → Option ℕ → Space → List ℕ → List ℕ → Type 0
-ShowsAt (Some k) (Some last) root path text = IsTrace root path k last text
-ShowsAt (Some k) None root path text = ShowsEvent root path (k - 1) text
-ShowsAt None last root path text = ShowsSpace path (settle_tree root) text
+ShowsAt (Some k) (Some last) root path text = ShowsTrace plain root path k last text
+ShowsAt (Some k) None root path text = ShowsEvent plain root path (k - 1) text
+ShowsAt None last root path text = ShowsSpace plain path (settle_tree root) text
 
 abbrev pub Shows : Space → Moment → List ℕ → Type 0
 Shows root m text = ShowsAt m.event m.last root m.path text

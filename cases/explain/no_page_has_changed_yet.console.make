@@ -1,0 +1,4 @@
+. ./shown
+shown "/0 event 1" running "00001010 sb a0, 0(s0)" 999999 none 1 s0=00003000 a0=00000001 a7=00000012
+pages 00001000 00001fff 5
+pages 00003000 00003fff 7

@@ -1,0 +1,12 @@
+pub mod Schedules
+pub mod Stopped
+pub mod Awaiting
+pub mod Turns
+pub mod Traces
+pub mod Coming
+pub mod Lines
+pub mod Names
+pub mod Rows
+pub mod EachPage
+pub mod Runs
+pub mod Changes

@@ -1,0 +1,10 @@
+pub mod Contents
+pub mod Going
+pub mod Headers
+pub mod Instructions
+pub mod Manner
+pub mod Pages
+pub mod Reached
+pub mod Text
+pub mod Trace
+pub mod Watch

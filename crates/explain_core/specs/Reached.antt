@@ -1,0 +1,57 @@
+-- What is shown of an event, which is named by the path of its space and by its number among the own events there.
+-- Our choice: that a space is shown just behind the event that is asked for.
+use Rattle.std.specs.Prelude.{◌≡◌, ℕ, suc, ◌+◌, ◌-◌, ◌^◌, List, length, Some, min, take}
+use Rattle.space_model.specs.Space.{Space}
+use Rattle.space_model.specs.Path.{at}
+use Rattle.det_laws.specs.Tops.{top_at}
+use Rattle.det_laws.specs.Tree.{NoneMayHappen, after_all}
+use Rattle.event_laws.specs.OwnEvents.{OwnEvent, IsOwnEvent, own_events}
+use Rattle.explain_core.specs.Manner.{Manner}
+use Rattle.explain_core.specs.Text.{end_text, event_text}
+use Rattle.explain_core.specs.Trace.{trace_lines}
+use Rattle.explain_core.specs.Watch.{IsLastChange, NoneChanges, Noted, note}
+use Rattle.explain_core.specs.declared.watching.Watched.{Watched}
+
+-- a schedule that has this own event leads from `start` to `now`, where the top at the path is that behind the event
+pub record HasJustHappened (start : Space) (p : List ℕ) (k : ℕ) (now : Space) : Type 0 where
+  pub schedule : List (List ℕ)
+  pub leads : after_all schedule start ≡ now
+  pub event : OwnEvent
+  pub happens : IsOwnEvent schedule start p k event
+  pub top : top_at p now ≡ Some event.after
+  -- and no later one of the path
+  pub count : length (own_events p schedule start) ≡ suc k
+
+-- no schedule has this own event
+abbrev pub NeverHappens : Space → List ℕ → ℕ → Type 0
+NeverHappens start p k = (ps : List (List ℕ)) (e : OwnEvent) → IsOwnEvent ps start p k e → ⊥
+
+-- a text shows the space at a path of a tree at its end
+abbrev pub ShowsSpace : Manner → List ℕ → Space → List ℕ → Type 0
+ShowsSpace w p s text = (c : Space) × (at p s ≡ Some c) × (text ≡ end_text w p c)
+
+-- a schedule has an own event, and a text shows the top behind it, in this schedule and in every other that has the event
+pub record ShowsEvent (w : Manner) (start : Space) (p : List ℕ) (k : ℕ) (text : List ℕ) : Type 0 where
+  pub schedule : List (List ℕ)
+  pub event : OwnEvent
+  pub happens : IsOwnEvent schedule start p k event
+  pub shown : (ps : List (List ℕ)) (e : OwnEvent) → IsOwnEvent ps start p k e → text ≡ event_text w p (k + 1) e.after
+
+-- a text has a line for each own event from one number to another, of every schedule that has ended
+abbrev pub IsTrace : Space → List ℕ → ℕ → ℕ → List ℕ → Type 0
+IsTrace start p from to text = (ps : List (List ℕ)) → NoneMayHappen (after_all ps start) → text ≡ trace_lines p from 0 (take to (own_events p ps start))
+
+abbrev pub ShowsTrace : Manner → Space → List ℕ → ℕ → ℕ → List ℕ → Type 0
+ShowsTrace w start p from to text = IsTrace start p from to text
+
+-- what is told of the last own event that changed what is watched, among the first so many of every schedule that has ended
+abbrev pub TellsLastChange : Space → List ℕ → ℕ → Watched → Noted → Type 0
+TellsLastChange start p to w c = (ps : List (List ℕ)) → NoneMayHappen (after_all ps start) → (k : ℕ) × (e : OwnEvent) × IsLastChange w (take to (own_events p ps start)) k e × (c ≡ note p w (suc k) e)
+
+-- none of the first so many own events of a schedule that has ended changes what is watched
+abbrev pub NeverChanges : Space → List ℕ → ℕ → Watched → Type 0
+NeverChanges start p to w = (ps : List (List ℕ)) → NoneMayHappen (after_all ps start) → NoneChanges w (take to (own_events p ps start))
+
+-- every schedule that has ended has so many own events of a path, or all that a number of 64 bits can count
+abbrev pub HasSoMany : Space → List ℕ → ℕ → Type 0
+HasSoMany start p n = (ps : List (List ℕ)) → NoneMayHappen (after_all ps start) → n ≡ min (2 ^ 64 - 1) (length (own_events p ps start))

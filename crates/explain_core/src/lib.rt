@@ -1,0 +1,22 @@
+//! What a space is at one of its own events.
+#![tactic(auto)]
+
+mod asking;
+mod contents;
+mod files;
+mod going;
+mod instructions;
+mod manner;
+mod pages;
+mod paths;
+mod showing;
+mod tracing;
+mod watching;
+
+pub use asking::{after_event, at_end};
+pub use going::{count_events, last_change, run_to, trace};
+pub use instructions::{instruction_at_pc, register_name};
+pub use manner::{Bytes, Showing};
+pub use paths::path_text;
+pub use tracing::call_name;
+pub use watching::{Change, Watched};
