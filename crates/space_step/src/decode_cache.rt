@@ -45,7 +45,7 @@ impl Entry {
 
 /// A direct-mapped table of decoded instructions. What it keeps is what it has learnt in the present generation, whose keys begin at `first`.
 #[derive(Drop)]
-pub(crate) struct Table {
+pub struct Table {
     first: u64,
     entries: [Entry; ENTRIES],
 }
@@ -164,7 +164,7 @@ impl Table {
     }
 
     /// Begins a new generation, in which nothing is kept yet.
-    pub(crate) fn renew(&mut self)
+    pub fn renew(&mut self)
         ensures { IsBounded self.old.first self.old.entries → (v : View) → Agrees v self.new }
     {
         if self.first < u64::MAX - 2 * KEYS {
@@ -204,7 +204,8 @@ impl Source for Table {
 /// Each `advance` begins with nothing kept, so one cache serves any spaces in turn.
 #[derive(Drop)]
 pub struct DecodeCache {
-    pub(crate) table: Box<Table, Global>,
+    /// Where instructions are decoded once.
+    pub table: Box<Table, Global>,
 }
 
 impl Model for DecodeCache {

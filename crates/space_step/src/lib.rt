@@ -15,11 +15,14 @@ mod stepping;
 mod streaming;
 mod stretch;
 
-pub use decode_cache::DecodeCache;
+pub use decode_cache::{DecodeCache, Table};
 pub use event::{Advance, Next};
 pub use output::advance_with_output;
+pub use paying::budget;
 pub use peeking::peek;
 pub use run::{Run, run_local};
 pub use running::{advance, next};
+pub use source::{Source, Trap};
+pub use stepping::step_from;
 pub use streaming::advance_to;
 pub use trap_ret::AcceptedCall;

@@ -6,7 +6,7 @@ use space_model::Cause;
 use space_tree::Top;
 
 /// How many of `quantum` events fuel and limit cover.
-pub(crate) fn budget(top: &Top, quantum: u32) -> u32
+pub fn budget(top: &Top, quantum: u32) -> u32
     ensures { result ≡ budget top.now quantum }
 {
     let fuelled = quantum.min(top.fuel);

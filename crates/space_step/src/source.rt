@@ -12,9 +12,9 @@ use space_mem::Mem;
 
 /// A trap: its number and its value (RISC-V Privileged ISA, "Machine Cause").
 #[derive(Clone, Copy, Debug, PartialEq, Eq)]
-pub(crate) struct Trap {
-    pub(crate) number: u8,
-    pub(crate) value: u32,
+pub struct Trap {
+    pub number: u8,
+    pub value: u32,
 }
 
 /// The instruction whose word stands at an address, or the trap that stands there: this is the one place that fetches and decodes.
@@ -60,7 +60,7 @@ pub(crate) fn trap_at(memory: &Mem, at: u32) -> Trap
 }
 
 /// Where a stretch takes its instructions from.
-pub(crate) trait Source {
+pub trait Source {
     // whether what the source keeps is so of a memory that is seen like this
     ghost agrees: { Self → View → Type 0 };
 

@@ -28,7 +28,7 @@ fn forget_stored<S: Source>(source: &mut S, x: &RegisterFile, instruction: FlatI
 /// Only a store may fail, for want of memory, and then nothing changes.
 #[inline(always)]
 #[tactic(auto, using(crate::proofs::Seen::steps_seen))]
-pub(crate) fn step_from<S: Source>(
+pub fn step_from<S: Source>(
     source: &mut S,
     pc: &mut u32,
     x: &mut RegisterFile,
