@@ -38,7 +38,7 @@ limit_left (Some limit) n k h p e = let z : limit - n ≡ 0 = cc in omega arith
 pub may_pay_after : (t : Top) (r : Registers) (m : Memory) (n budget : ℕ) → t.status ≡ Running → n < budget → Pays budget t → MayPay (after_spending n t (reached t r m))
 may_pay_after t r m n budget running h p = record { running = running; fuel = omega (arith, p.fuel); limit = limit_left t.limit n budget h p.limit }
 
-instruction_done : (levels : ℕ) (u : Top) (r : Registers) (m : Memory) (o : Outcome) → IsDone o u.memory r m → after_outcome levels u o ≡ becomes (reached u r m)
+pub instruction_done : (levels : ℕ) (u : Top) (r : Registers) (m : Memory) (o : Outcome) → IsDone o u.memory r m → after_outcome levels u o ≡ becomes (reached u r m)
 instruction_done levels u r m (goes s) h = let a : r ≡ s = h.0 in let b : m ≡ u.memory = h.1 in cc
 instruction_done levels u r m (stores s at width value) h = let a : r ≡ s = h.0 in let b : m ≡ with_number u.memory at width value = h.1 in cc
 instruction_done levels u r m calls h = absurd h
@@ -48,7 +48,7 @@ less_again : (o : Option ℕ) (n : ℕ) → option_map (λ k. k - 1) (option_map
 less_again None n = refl
 less_again (Some k) n = ap Some (omega arith)
 
-one_more : (t : Top) (n : ℕ) (q r : Registers) (k m : Memory) → after_payment (after_spending n t (reached t q k)) (reached (after_spending n t (reached t q k)) r m) ≡ after_spending (suc n) t (reached t r m)
+pub one_more : (t : Top) (n : ℕ) (q r : Registers) (k m : Memory) → after_payment (after_spending n t (reached t q k)) (reached (after_spending n t (reached t q k)) r m) ≡ after_spending (suc n) t (reached t r m)
 one_more t n q r k m =
     let fuel : t.fuel - n - 1 ≡ t.fuel - suc n = omega arith in
     let used : t.used + n + 1 ≡ t.used + suc n = omega arith in
@@ -66,7 +66,7 @@ nothing_less : (o : Option ℕ) → option_map (λ k. k - 0) o ≡ o
 nothing_less None = refl
 nothing_less (Some k) = ap Some (omega arith)
 
-stretch_starts : (t : Top) (r : Registers) (m : Memory) → r ≡ t.registers → m ≡ t.memory → after_spending 0 t (reached t r m) ≡ t
+pub stretch_starts : (t : Top) (r : Registers) (m : Memory) → r ≡ t.registers → m ≡ t.memory → after_spending 0 t (reached t r m) ≡ t
 stretch_starts t r m registers memory =
     let fuel : t.fuel - 0 ≡ t.fuel = omega arith in
     let used : t.used + 0 ≡ t.used = omega arith in
