@@ -1,7 +1,7 @@
 pub mod Calls
 pub mod Events
 pub mod Answers
-pub mod Budget
+pub mod BudgetPays
 pub mod Stretches
 pub mod Seen
 pub mod CallEvents

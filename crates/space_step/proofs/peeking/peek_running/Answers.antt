@@ -3,7 +3,7 @@ use Rattle.instruction_model.specs.Outcome.{outcome, view_of}
 use Rattle.space_model.specs.Space.{Top}
 use Rattle.space_step.specs.Stretch.{is_call}
 use Rattle.space_step.proofs.Answers.{no_call_is_next, call_is_next}
-use Rattle.space_step.proofs.Budget.{no_budget_stops, budget_may_pay}
+use Rattle.space_step.proofs.BudgetPays.{no_budget_stops, budget_may_pay}
 use Rattle.space_step.proofs.peeking.peek_running.Goals as goal
 
 pub returns-then-budget-eq0 : goal.returns-then-budget-eq0

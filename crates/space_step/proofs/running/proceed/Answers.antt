@@ -1,7 +1,7 @@
 use Rattle.std.proofs.Common.{sym, ap, ◌∙◌}
 use Rattle.space_model.specs.Event.{moves}
 use Rattle.space_step.proofs.Events.{stopped_rests, not_stopped_runs}
-use Rattle.space_step.proofs.Budget.{no_budget_stops}
+use Rattle.space_step.proofs.BudgetPays.{no_budget_stops}
 use Rattle.space_step.proofs.Advancing.{resting_is_blocked, one_goes}
 use Rattle.space_step.proofs.WithOutput.{one_writes}
 use Rattle.space_step.proofs.running.proceed.Goals as goal
