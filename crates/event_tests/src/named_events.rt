@@ -2,7 +2,7 @@ ghost use Rattle.std.specs.Prelude.{IfOk};
 ghost use Rattle.space_model.specs.Sound.{IsSound};
 
 use det_core::boot;
-use explain_core::{Showing, after_event, at_end, trace};
+use explain_core::{after_event, at_end, trace};
 use image_file::read_image;
 use space_tree::{Devices, Path, Space};
 use std::alloc::Global;
@@ -24,12 +24,6 @@ fn booted(alloc: Global) -> Result<Space, Fail>
     let tree = boot(alloc, &image, Devices::new(alloc), 100)?;
     Ok(tree)
 }
-
-/// As lines of text.
-const PLAIN: Showing = Showing {
-    json: false,
-    bytes: None,
-};
 
 fn child() -> Path {
     let mut path = Path::new();
@@ -53,9 +47,9 @@ fn a_child_has_one_event(rt: HostRuntime) -> Result<(), Fail> {
     let alloc = rt.alloc();
     let begins =
         b"space /5 event 1\nstatus fetch-fault 00000000\npc 00000000\nfuel 99\nlimit none\nused 1\nx0 zero 00000000\n";
-    let first = after_event(alloc, booted(alloc)?, &child(), 1, &PLAIN)?;
+    let first = after_event(alloc, booted(alloc)?, &child(), 1, None)?;
     tries(&rt, first, begins, b"x31 t6 00000000\n");
-    let second = after_event(alloc, booted(alloc)?, &child(), 2, &PLAIN)?;
+    let second = after_event(alloc, booted(alloc)?, &child(), 2, None)?;
     assert!(rt; second.is_none());
     Ok(())
 }
@@ -65,7 +59,7 @@ fn the_root_ends_behind_its_child(rt: HostRuntime) -> Result<(), Fail> {
     let alloc = rt.alloc();
     let begins =
         b"space / end\nstatus illegal 00000000\npc 00001018\nfuel 93\nlimit none\nused 7\n";
-    let end = at_end(alloc, booted(alloc)?, &Path::new(), &PLAIN)?;
+    let end = at_end(alloc, booted(alloc)?, &Path::new(), None)?;
     tries(
         &rt,
         end,
@@ -78,7 +72,7 @@ fn the_root_ends_behind_its_child(rt: HostRuntime) -> Result<(), Fail> {
 #[test]
 fn the_root_starts_its_child_and_waits_for_it(rt: HostRuntime) -> Result<(), Fail> {
     let alloc = rt.alloc();
-    let lines = trace(alloc, booted(alloc)?, &Path::new(), 4, 9, &PLAIN)?;
+    let lines = trace(alloc, booted(alloc)?, &Path::new(), 4, 9)?;
     let wanted =
         b"/:4 pc 0000100c ecall put a0 00000000 x10 a0 00000040 -> 00000000\n/:5 pc 00001010 addi a7, zero, 2 x17 a7 00000001 -> 00000002\n/:6 pc 00001014 ecall get a0 00000000\n/:7 pc 00001018 stops illegal 00000000\n";
     assert_eq!(rt; lines.as_slice(), wanted.as_slice());

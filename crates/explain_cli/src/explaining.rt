@@ -10,7 +10,7 @@ use det_cli::{End as Failure, write_end};
 use det_core::boot;
 use det_host::{Sink, write_all};
 use dev_script::Devices;
-use explain_core::{Showing, after_event, at_end, trace};
+use explain_core::{after_event, at_end, trace};
 use explain_words::{At, Moment};
 use image_file::Image;
 use space_tree::Space;
@@ -23,24 +23,13 @@ fn text_at(alloc: Global, root: Space, moment: &Moment) -> Result<Option<Vec<u8>
     ensures some { IfOk result (λ o. IfSome o (λ v. Shows root (moment_of moment.now) v.items)) }
     ensures none { IfOk result (λ o. IsNone o → NeverComes root (moment_of moment.now)) }
 {
-    let showing = Showing {
-        json: false,
-        bytes: None,
-    };
     match (moment.event, moment.last) {
         (Some(from), Some(to)) => {
-            let lines = trace(
-                alloc,
-                root,
-                &moment.path,
-                u64::from(from),
-                u64::from(to),
-                &showing,
-            )?;
+            let lines = trace(alloc, root, &moment.path, u64::from(from), u64::from(to))?;
             Ok(Some(lines))
         }
-        (Some(number), None) => after_event(alloc, root, &moment.path, u64::from(number), &showing),
-        (None, _) => at_end(alloc, root, &moment.path, &showing),
+        (Some(number), None) => after_event(alloc, root, &moment.path, u64::from(number), None),
+        (None, _) => at_end(alloc, root, &moment.path, None),
     }
 }
 

@@ -5,7 +5,7 @@ use Rattle.std.proofs.lemmas.Bool.{cases_eq}
 use Rattle.std.proofs.lemmas.List.{append-nil, length-take, take_all}
 use Rattle.std.proofs.lemmas.Option.{slice_get_within}
 use Rattle.std.specs.List.{slice_get}
-use Rattle.std.specs.Prelude.{IfSome, IsNone, nat_eq, option_map, option_and_then}
+use Rattle.std.specs.Prelude.{IfSome, nat_eq, option_map, option_and_then}
 use Rattle.space_model.specs.declared.Reach.TheVariants.{Whole}
 use Rattle.space_model.specs.Space.{Space, space, Top, Children, top_of, find, over}
 use Rattle.space_model.specs.Path.{at}
@@ -24,18 +24,16 @@ use Rattle.event_laws.specs.OwnEvents.{OwnEvent, IsOwnEvent, own_events}
 use Rattle.event_laws.proofs.Histories.{one_meaning, has_all, all_alike}
 use Rattle.explain_core.specs.declared.going.Turn.{Turn}
 use Rattle.explain_core.specs.declared.watching.Asked.{Asked}
-use Rattle.explain_core.specs.declared.watching.Change.{Change}
-use Rattle.explain_core.specs.declared.watching.Kept as code
-use Rattle.explain_core.specs.declared.watching.Watched.{Watched}
+use Rattle.explain_core.specs.declared.watching.Noticing.TheVariants as notice
 use Rattle.explain_core.specs.Going.{own_below, GoesBy, WayStopped, BelowStopped, EndsWith, TakesTurn, TellsTurn, HasCome, HasComeBelow}
-use Rattle.explain_core.specs.Reached.{HasJustHappened, HasSoMany, IsTrace, NeverChanges, NeverHappens, ShowsEvent, TellsLastChange}
+use Rattle.explain_core.specs.Reached.{HasJustHappened, HasSoMany, IsTrace, NeverHappens, ShowsEvent}
 use Rattle.explain_core.specs.Trace.{trace_lines}
-use Rattle.explain_core.specs.Watch.{IsLastChange, Kept, NoneChanges, Noted, keep_all, kept_of, note, noted_of, nothing_kept}
+use Rattle.explain_core.specs.Watch.{Kept, keep_all, nothing_kept}
 use Rattle.explain_core.specs.Text.{event_text}
-use Rattle.explain_core.specs.Manner.{Manner}
+use Rattle.explain_core.specs.declared.bytes.Bytes.{Bytes}
 use Rattle.explain_core.proofs.Schedules.{whole, replay_parts, own_parts, goes_then, stays, leads_replay, child_goes, now_there}
 use Rattle.explain_core.proofs.Stopped.{none_own}
-use Rattle.explain_core.proofs.Traces.{KeepsLast, front, keep_last, kept_lines, kept_then}
+use Rattle.explain_core.proofs.Traces.{front, kept_lines, kept_then}
 use Rattle.explain_core.proofs.Turns.{ends_append}
 
 -- so many own events so far, and what is kept of them, and so many are left
@@ -214,7 +212,7 @@ in_every : (start : Space) (p : List ℕ) (k : ℕ) (now : Space) → HasJustHap
 in_every start p k now h ps e is = h.top ∙ ap (λ x. Some x.after) (one_meaning ps h.schedule p start k h.event e h.happens is)
 
 -- the text of the space there shows the event
-pub shows : (w : Manner) (start : Space) (p : List ℕ) (number : ℕ) (now c : Space) (text : List ℕ) → 1 ≤ number → HasJustHappened start p (number - 1) now → at p now ≡ Some c
+pub shows : (w : Option Bytes) (start : Space) (p : List ℕ) (number : ℕ) (now c : Space) (text : List ℕ) → 1 ≤ number → HasJustHappened start p (number - 1) now → at p now ≡ Some c
     → text ≡ event_text w p number (top_of c) → ShowsEvent w start p (number - 1) text
 shows w start p number now c text some h there is = record {
   schedule = h.schedule;
@@ -245,7 +243,7 @@ pub from_nothing : (start now : Space) (p : List ℕ) (a : Asked) (wanted left :
 from_nothing start now p a wanted left old new is come = subst (λ k. HasCome 8 p a wanted left k new start now) is come
 
 -- they are the first own events of each schedule that has ended
-firsts : (start now : Space) (p : List ℕ) (a : Asked) (left : ℕ) (old new : Kept) → IsSound start → (come : HasCome 8 p a a.to left old new start now)
+pub firsts : (start now : Space) (p : List ℕ) (a : Asked) (left : ℕ) (old new : Kept) → IsSound start → (come : HasCome 8 p a a.to left old new start now)
     → (ps : List (List ℕ)) → NoneMayHappen (after_all ps start) → take a.to (own_events p ps start) ≡ come.own
 firsts start now p a left old new sound come ps ended = first (cases_eq left 0)
   where
@@ -270,69 +268,11 @@ firsts start now p a left old new sound come ps ended = first (cases_eq left 0)
         ap (take a.to) same ∙ take_all a.to come.own (omega (arith, count))
 
 -- the lines are those of the first own events of each schedule that has ended
-pub is_trace : (start now : Space) (p : List ℕ) (a : Asked) (left : ℕ) (new : Kept) → a.path.items ≡ p → a.watched ≡ None → IsSound start → HasCome 8 p a a.to left nothing_kept new start now → IsTrace start p a.from a.to new.lines
+pub is_trace : (start now : Space) (p : List ℕ) (a : Asked) (left : ℕ) (new : Kept) → a.path.items ≡ p → a.noticing ≡ notice.Lines → IsSound start → HasCome 8 p a a.to left nothing_kept new start now → IsTrace start p a.from a.to new.lines
 is_trace start now p a left new is unwatched sound come ps ended =
     let none : a.to - a.to ≡ 0 = omega arith in
     ap (λ (k : Kept). k.lines) (come.kept ∙ kept_lines a (a.to - a.to) come.own nothing_kept unwatched)
     ∙ ap₂ (λ q k. trace_lines q a.from k come.own) is none ∙ ap (trace_lines p a.from 0) (sym (firsts start now p a left nothing_kept new sound come ps ended))
-
-one_noted : (x y : Noted) → Some x ≡ Some y → x ≡ y
-one_noted x y e = cc
-
-nothing_told : (c : Noted) → Some c ≡ None → ⊥
-nothing_told c e = cc
-
-told_note : (p q : List ℕ) (w : Watched) (m n : ℕ) (e : OwnEvent) (c : Noted) → Some c ≡ Some (note p w m e) → p ≡ q → m ≡ n → c ≡ note q w n e
-told_note p q w m n e c is same number = one_noted c (note p w m e) is ∙ ap₂ (λ r k. note r w k e) same number
-
--- what is told of the last change is true of each schedule that has ended
-pub tells_last : (start now : Space) (p : List ℕ) (a : Asked) (w : Watched) (left : ℕ) (new : Kept) (c : Noted) → a.path.items ≡ p → a.watched ≡ Some w → a.from ≤ 1 → IsSound start → HasCome 8 p a a.to left nothing_kept new start now
-    → new.last ≡ Some c → TellsLastChange start p a.to w c
-tells_last start now p a w left new c is watched all sound come told ps ended = go (keep_last a w (a.to - a.to) come.own nothing_kept watched all)
-  where
-    own : take a.to (own_events p ps start) ≡ come.own
-    own = firsts start now p a left nothing_kept new sound come ps ended
-
-    go : KeepsLast a.path.items w (a.to - a.to) come.own (keep_all a (a.to - a.to) come.own nothing_kept) ⊎ (NoneChanges w come.own × (keep_all a (a.to - a.to) come.own nothing_kept ≡ nothing_kept))
-        → (k : ℕ) × (e : OwnEvent) × IsLastChange w (take a.to (own_events p ps start)) k e × (c ≡ note p w (suc k) e)
-    go (inl l) =
-        let first : suc (a.to - a.to + l.number) ≡ suc l.number = omega arith in
-        let here : Some c ≡ Some (note a.path.items w (suc (a.to - a.to + l.number)) l.event) = sym told ∙ ap (λ (k : Kept). k.last) come.kept ∙ l.kept in
-        (l.number, l.event, subst (λ es. IsLastChange w es l.number l.event) (sym own) l.is_last, told_note a.path.items p w (suc (a.to - a.to + l.number)) (suc l.number) l.event c here is first)
-    go (inr r) = absurd (nothing_told c (sym told ∙ ap (λ (k : Kept). k.last) (come.kept ∙ r.1)))
-
-pub never_changes : (start now : Space) (p : List ℕ) (a : Asked) (w : Watched) (left : ℕ) (new : Kept) → a.watched ≡ Some w → a.from ≤ 1 → IsSound start → HasCome 8 p a a.to left nothing_kept new start now
-    → new.last ≡ None → NeverChanges start p a.to w
-never_changes start now p a w left new watched all sound come told ps ended = go (keep_last a w (a.to - a.to) come.own nothing_kept watched all)
-  where
-    own : take a.to (own_events p ps start) ≡ come.own
-    own = firsts start now p a left nothing_kept new sound come ps ended
-
-    go : KeepsLast a.path.items w (a.to - a.to) come.own (keep_all a (a.to - a.to) come.own nothing_kept) ⊎ (NoneChanges w come.own × (keep_all a (a.to - a.to) come.own nothing_kept ≡ nothing_kept))
-        → NoneChanges w (take a.to (own_events p ps start))
-    go (inl l) = let some : new.last ≡ Some (note a.path.items w (suc (a.to - a.to + l.number)) l.event) = ap (λ (k : Kept). k.last) come.kept ∙ l.kept in cc
-    go (inr r) = subst (NoneChanges w) (sym own) r.0
-
--- in the words of the answer
-pub tells_some : (start now : Space) (p : List ℕ) (a : Asked) (w : Watched) (left : ℕ) (k : code.Kept) → a.path.items ≡ p → a.watched ≡ Some w → a.from ≤ 1 → IsSound start
-    → HasCome 8 p a a.to left nothing_kept (kept_of k) start now → IfSome k.last (λ c. TellsLastChange start p a.to w (noted_of c))
-tells_some start now p a w left k is watched all sound come = go k.last refl
-  where
-    go : (o : Option Change) → k.last ≡ o → IfSome o (λ c. TellsLastChange start p a.to w (noted_of c))
-    go None none = tt
-    go (Some c) some = tells_last start now p a w left (kept_of k) (noted_of c) is watched all sound come (ap (option_map noted_of) some)
-
-pub tells_none : (start now : Space) (p : List ℕ) (a : Asked) (w : Watched) (left : ℕ) (k : code.Kept) → a.watched ≡ Some w → a.from ≤ 1 → IsSound start
-    → HasCome 8 p a a.to left nothing_kept (kept_of k) start now → IsNone k.last → NeverChanges start p a.to w
-tells_none start now p a w left k watched all sound come none = go k.last refl none
-  where
-    go : (o : Option Change) → k.last ≡ o → IsNone o → NeverChanges start p a.to w
-    go None e n = never_changes start now p a w left (kept_of k) watched all sound come (ap (option_map noted_of) e)
-    go (Some c) e n = cc
-
--- of none of them
-pub none_of_none : (start : Space) (p : List ℕ) (to : ℕ) (w : Watched) → to ≡ 0 → NeverChanges start p to w
-none_of_none start p to w none ps ended k e here = let empty = ap (λ n. slice_get (take n (own_events p ps start)) k) none in cc
 
 -- how many there are
 pub so_many : (start now : Space) (p : List ℕ) (a : Asked) (left : ℕ) (new : Kept) → a.to ≡ 2 ^ 64 - 1 → IsSound start → HasCome 8 p a a.to left nothing_kept new start now → HasSoMany start p (2 ^ 64 - 1 - left)

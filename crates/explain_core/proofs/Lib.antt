@@ -4,9 +4,12 @@ pub mod Awaiting
 pub mod Turns
 pub mod Traces
 pub mod Coming
+pub mod LastChange
+pub mod WatchedEvents
 pub mod Lines
 pub mod Names
 pub mod Rows
 pub mod EachPage
+pub mod Ranges
 pub mod Runs
 pub mod Changes

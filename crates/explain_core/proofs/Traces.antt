@@ -1,20 +1,22 @@
 -- What is kept of own events, part by part.
-use Rattle.std.proofs.Common.{◌≡◌, ℕ, suc, ◌+◌, ◌-◌, ◌<◌, ◌≤◌, Bool, true, false, List, [], ◌∷◌, ◌++◌, append_assoc, length, take, Option, Some, None, refl, sym, ap, ap₂, ◌∙◌, arith, inl, inr, ◌⊎◌, zero}
+use Rattle.std.proofs.Common.{◌≡◌, ℕ, suc, ◌+◌, ◌-◌, ◌<◌, ◌≤◌, Bool, true, false, List, [], ◌∷◌, ◌++◌, append_assoc, length, take, Option, Some, refl, sym, ap, ap₂, ◌∙◌, arith, inl, inr, ◌⊎◌, zero}
 use Rattle.std.proofs.lemmas.Bool.Decides.{nat_tests}
 use Rattle.std.proofs.lemmas.List.{append-nil}
 use Rattle.std.specs.List.{slice_get}
-use Rattle.std.specs.Prelude.{◌==◌, nat_le, not, if◌then◌else◌}
+use Rattle.std.specs.Prelude.{◌==◌, nat_le, not}
 use Rattle.instruction_model.specs.declared.Instruction.{Instruction}
 use Rattle.instruction_model.specs.Outcome.{Registers}
 use Rattle.space_model.specs.Space.{Space, space, Children, Top, top_of}
 use Rattle.event_laws.specs.OwnEvents.{OwnEvent}
 use Rattle.explain_core.specs.declared.watching.Asked.{Asked}
+use Rattle.explain_core.specs.declared.watching.Noticing.{Noticing}
+use Rattle.explain_core.specs.declared.watching.Noticing.TheVariants as notice
 use Rattle.explain_core.specs.declared.watching.Watched.{Watched}
 use Rattle.explain_core.specs.declared.going.Turn.{Turn}
 use Rattle.explain_core.specs.Going.{StartsWith, EndsWith, TakesTurn, TellsTurn}
 use Rattle.explain_core.specs.Instructions.{instruction_at_pc}
 use Rattle.explain_core.specs.Trace.{event_line, trace_lines}
-use Rattle.explain_core.specs.Watch.{IsLastChange, Kept, NoneChanges, changes, keep, keep_all, note, noticed, value_before, watched_in}
+use Rattle.explain_core.specs.Watch.{IsLastChange, Kept, NoneChanges, changes, keep, keep_all, noticed, value_before, watched_in}
 
 pub keep_append : (a : Asked) (k : ℕ) (xs ys : List OwnEvent) (kept : Kept) → keep_all a k (xs ++ ys) kept ≡ keep_all a (k + length xs) ys (keep_all a k xs kept)
 keep_append a k [] ys kept = ap (λ n. keep_all a n ys kept) (omega arith)
@@ -23,7 +25,7 @@ keep_append a k (x ∷ xs) ys kept =
     keep_append a (suc k) xs ys (keep a k x kept) ∙ ap (λ n. keep_all a n ys (keep_all a (suc k) xs (keep a k x kept))) next
 
 -- before the first that is asked for nothing is noticed
-keep_none : (a : Asked) (k : ℕ) (xs : List OwnEvent) (kept : Kept) → k + length xs < a.from → keep_all a k xs kept ≡ kept
+pub keep_none : (a : Asked) (k : ℕ) (xs : List OwnEvent) (kept : Kept) → k + length xs < a.from → keep_all a k xs kept ≡ kept
 keep_none a k [] kept early = refl
 keep_none a k (x ∷ xs) kept early =
     let no : nat_le a.from (suc k) ≡ false = grind (arith, nat_tests) in
@@ -56,7 +58,7 @@ tells_nothing levels left number a turn old s now some last is none t =
 
 -- one event that is asked for
 pub tells_one : (levels left number : ℕ) (a : Asked) (turn : Turn) (old new : Kept) (s now : Space) → 1 ≤ number → number ≤ a.to → a.from ≤ number → left ≡ a.to + 1 - number → 0 < turn.events → TakesTurn levels 1 turn s now
-    → new ≡ (let t = top_of s in noticed a.path.items a.watched number t.registers (instruction_at_pc t) (value_before a.watched t) (top_of now) old) → TellsTurn levels left a turn old new s now
+    → new ≡ (let t = top_of s in noticed a.path.items a.noticing number t.registers (instruction_at_pc t) (value_before a.noticing t) (top_of now) old) → TellsTurn levels left a turn old new s now
 tells_one levels left number a turn old new s now some last asked is one t told =
     let count = t.count in
     let within = t.within in
@@ -66,18 +68,18 @@ tells_one levels left number a turn old new s now some last asked is one t told 
     same e = cc
 
     the_one : (xs : List OwnEvent) → length xs ≡ 1 → StartsWith xs (top_of s) → EndsWith xs (Some (top_of now))
-        → (let t = top_of s in noticed a.path.items a.watched number t.registers (instruction_at_pc t) (value_before a.watched t) (top_of now) old) ≡ keep_all a (a.to - left) xs old
+        → (let t = top_of s in noticed a.path.items a.noticing number t.registers (instruction_at_pc t) (value_before a.noticing t) (top_of now) old) ≡ keep_all a (a.to - left) xs old
     the_one [] e first end = absurd (omega (arith, e))
     the_one (x ∷ y ∷ xs) e first end = absurd (omega (arith, e))
     the_one (x ∷ []) e first end =
         let next : number ≡ suc (a.to - left) = omega (arith, some, last, is) in
         let yes : nat_le a.from (suc (a.to - left)) ≡ true = grind (arith, nat_tests) in
-        ap₂ (λ n u. let t = top_of s in noticed a.path.items a.watched n t.registers (instruction_at_pc t) (value_before a.watched t) u old) next (same end)
-        ∙ ap (λ t. noticed a.path.items a.watched (suc (a.to - left)) t.registers (instruction_at_pc t) (value_before a.watched t) x.after old) (sym first)
+        ap₂ (λ n u. let t = top_of s in noticed a.path.items a.noticing n t.registers (instruction_at_pc t) (value_before a.noticing t) u old) next (same end)
+        ∙ ap (λ t. noticed a.path.items a.noticing (suc (a.to - left)) t.registers (instruction_at_pc t) (value_before a.noticing t) x.after old) (sym first)
         ∙ sym (rw yes refl)
 
 -- in the words of what is known before it happens
-pub one_noticed : (p : List ℕ) (w : Option Watched) (number : ℕ) (s now : Space) (t u : Top) (cs ds : Children) (r : Registers) (i : Option Instruction) (v : ℕ) (old new : Kept) → space t cs ≡ s → space u ds ≡ now → r ≡ t.registers → i ≡ instruction_at_pc t
+pub one_noticed : (p : List ℕ) (w : Noticing) (number : ℕ) (s now : Space) (t u : Top) (cs ds : Children) (r : Registers) (i : Option Instruction) (v : ℕ) (old new : Kept) → space t cs ≡ s → space u ds ≡ now → r ≡ t.registers → i ≡ instruction_at_pc t
     → v ≡ value_before w t → new ≡ noticed p w number r i v u old
     → new ≡ (let t = top_of s in noticed p w number t.registers (instruction_at_pc t) (value_before w t) (top_of now) old)
 one_noticed p w number s now t u cs ds r i v old new before after registers found value is =
@@ -92,11 +94,11 @@ kept_then a wanted left old mid new xs ys fits count first last =
     let at : a.to - left ≡ a.to - wanted + length xs = omega (arith, fits, count) in
     last ∙ ap₂ (λ l n. keep_all a n ys l) first at ∙ sym (keep_append a (a.to - wanted) xs ys old)
 
--- where nothing is watched, the lines
+-- where lines are asked for, these
 abbrev with_lines : List ℕ → Kept → Kept
-with_lines l kept = record { lines = l; last = kept.last }
+with_lines l kept = record { lines = l; last = kept.last; number = kept.number }
 
-pub kept_lines : (a : Asked) (k : ℕ) (xs : List OwnEvent) (kept : Kept) → a.watched ≡ None → keep_all a k xs kept ≡ with_lines (kept.lines ++ trace_lines a.path.items a.from k xs) kept
+pub kept_lines : (a : Asked) (k : ℕ) (xs : List OwnEvent) (kept : Kept) → a.noticing ≡ notice.Lines → keep_all a k xs kept ≡ with_lines (kept.lines ++ trace_lines a.path.items a.from k xs) kept
 kept_lines a k [] kept none = ap (λ l. with_lines l kept) (sym (append-nil kept.lines))
 kept_lines a k (x ∷ xs) kept none = one (λ v. kept_lines a (suc k) xs v none) (nat_le a.from (suc k)) refl
   where
@@ -110,14 +112,14 @@ kept_lines a k (x ∷ xs) kept none = one (λ v. kept_lines a (suc k) xs v none)
         rw (asked, none) (later (with_lines (kept.lines ++ line) kept)
         ∙ ap (λ l. with_lines l kept) (append_assoc kept.lines line (trace_lines a.path.items a.from (suc k) xs)))
 
--- the last of own events that changed what is watched is kept, or what was kept before, where none of them did
-pub record KeepsLast (p : List ℕ) (w : Watched) (k : ℕ) (xs : List OwnEvent) (now : Kept) : Type 0 where
+-- the number of the last of own events that changed what is watched is kept, or what was kept before, where none of them did
+pub record KeepsLast (w : Watched) (k : ℕ) (xs : List OwnEvent) (now : Kept) : Type 0 where
   pub number : ℕ
   pub event : OwnEvent
   pub is_last : IsLastChange w xs number event
-  pub kept : now.last ≡ Some (note p w (suc (k + number)) event)
+  pub kept : now.number ≡ Some (suc (k + number))
 
-pub keep_last : (a : Asked) (w : Watched) (k : ℕ) (xs : List OwnEvent) (kept : Kept) → a.watched ≡ Some w → a.from ≤ 1 → KeepsLast a.path.items w k xs (keep_all a k xs kept) ⊎ (NoneChanges w xs × (keep_all a k xs kept ≡ kept))
+pub keep_last : (a : Asked) (w : Watched) (k : ℕ) (xs : List OwnEvent) (kept : Kept) → a.noticing ≡ notice.Number w → a.from ≤ 1 → KeepsLast w k xs (keep_all a k xs kept) ⊎ (NoneChanges w xs × (keep_all a k xs kept ≡ kept))
 keep_last a w k [] kept is all = inr (λ j e here. cc, refl)
 keep_last a w k (x ∷ xs) kept is all = onward (keep_last a w (suc k) xs (keep a k x kept) is all) (changes w x) refl
   where
@@ -147,11 +149,11 @@ keep_last a w k (x ∷ xs) kept is all = onward (keep_last a w (suc k) xs (keep 
     later : (n : ℕ) (e : OwnEvent) → IsLastChange w xs n e → IsLastChange w (x ∷ xs) (suc n) e
     later n e l = record { event = l.event; changed = l.changed; last = later_last n e l }
 
-    onward : KeepsLast a.path.items w (suc k) xs (keep_all a (suc k) xs (keep a k x kept)) ⊎ (NoneChanges w xs × (keep_all a (suc k) xs (keep a k x kept) ≡ keep a k x kept)) → (b : Bool) → changes w x ≡ b
-        → KeepsLast a.path.items w k (x ∷ xs) (keep_all a k (x ∷ xs) kept) ⊎ (NoneChanges w (x ∷ xs) × (keep_all a k (x ∷ xs) kept ≡ kept))
+    onward : KeepsLast w (suc k) xs (keep_all a (suc k) xs (keep a k x kept)) ⊎ (NoneChanges w xs × (keep_all a (suc k) xs (keep a k x kept) ≡ keep a k x kept)) → (b : Bool) → changes w x ≡ b
+        → KeepsLast w k (x ∷ xs) (keep_all a k (x ∷ xs) kept) ⊎ (NoneChanges w (x ∷ xs) × (keep_all a k (x ∷ xs) kept ≡ kept))
     onward (inl l) b e =
         let next : suc (suc k + l.number) ≡ suc (k + suc l.number) = omega arith in
-        inl (record { number = suc l.number; event = l.event; is_last = later l.number l.event l.is_last; kept = l.kept ∙ ap (λ n. Some (note a.path.items w n l.event)) next })
+        inl (record { number = suc l.number; event = l.event; is_last = later l.number l.event l.is_last; kept = l.kept ∙ ap Some next })
     onward (inr r) true e =
         let test = other_test (watched_in w x.after == watched_in w x.before) e in
         let next : suc k ≡ suc (k + 0) = omega arith in
@@ -159,7 +161,7 @@ keep_last a w k (x ∷ xs) kept is all = onward (keep_last a w (suc k) xs (keep 
           number = 0;
           event = x;
           is_last = record { event = refl; changed = e; last = behind r.0 };
-          kept = ap (λ (v : Kept). v.last) r.1 ∙ rw (yes, is, test) (ap (λ n. Some (note a.path.items w n x)) next);
+          kept = ap (λ (v : Kept). v.number) r.1 ∙ rw (yes, is, test) (ap Some next);
         })
     onward (inr r) false e =
         let test = same_test (watched_in w x.after == watched_in w x.before) e in

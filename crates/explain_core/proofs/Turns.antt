@@ -35,12 +35,12 @@ ends_append (x ∷ xs) ys o some last = go (xs ++ ys) refl (ends_append xs ys o 
     go (z ∷ zs) is later = subst (λ vs. EndsWith vs o) is later
 
 -- before others the first one is the first
-starts_append : (xs ys : List OwnEvent) (t : Top) → StartsWith xs t → (length xs ≡ 0 → StartsWith ys t) → StartsWith (xs ++ ys) t
+pub starts_append : (xs ys : List OwnEvent) (t : Top) → StartsWith xs t → (length xs ≡ 0 → StartsWith ys t) → StartsWith (xs ++ ys) t
 starts_append [] ys t first other = other refl
 starts_append (x ∷ xs) ys t first other = first
 
 -- one local event
-local_event : (levels : ℕ) (t v : Top) (cs : Children) → next levels t ≡ moves v → GoesBy levels [] (record { before = t; sees = []; after = v } ∷ []) (space t cs) (space v cs)
+pub local_event : (levels : ℕ) (t v : Top) (cs : Children) → next levels t ≡ moves v → GoesBy levels [] (record { before = t; sees = []; after = v } ∷ []) (space t cs) (space v cs)
 local_event levels t v cs is = record { schedule = [] ∷ []; leads = rw is refl; events = rw is refl }
 
 local_below : (levels : ℕ) (n : ℕ) (p : List ℕ) (t v : Top) (cs : Children) → next levels t ≡ moves v → GoesBy levels (n ∷ p) [] (space t cs) (space v cs)
@@ -77,7 +77,7 @@ own_local levels (suc n) t u cs is =
     go e (suc n) v same [] count here last = absurd (omega (arith, count))
     go e n v same (x ∷ xs) count here last = last
 
-follows_below : (levels k n : ℕ) (p : List ℕ) (t u : Top) (cs : Children) → Follows levels k t u → GoesBy levels (n ∷ p) [] (space t cs) (space u cs)
+pub follows_below : (levels k n : ℕ) (p : List ℕ) (t u : Top) (cs : Children) → Follows levels k t u → GoesBy levels (n ∷ p) [] (space t cs) (space u cs)
 follows_below levels zero n p t u cs is = subst (λ v. GoesBy levels (n ∷ p) [] (space t cs) (space v cs)) (sym is) (stays levels (n ∷ p) (space t cs))
 follows_below levels (suc k) n p t u cs is =
     goes_then levels (n ∷ p) [] [] (space t cs) (space is.0 cs) (space u cs) (local_below levels n p t is.0 cs is.1) (follows_below levels k n p is.0 u cs is.2)

@@ -1,13 +1,14 @@
 -- What is shown of a memory beside its snapshot, as text, line by line.
 -- Our choice: the text.
-use Rattle.std.specs.Prelude.{ℕ, ◌+◌, ◌-◌, ◌^◌, ◌==◌, ◌&&◌, nat_le, not, Bool, false, List, [], ◌∷◌, ◌++◌, length, Option, Some, None, codes, if◌then◌else◌}
+use Rattle.std.specs.Prelude.{ℕ, ◌+◌, ◌==◌, ◌&&◌, nat_le, not, Bool, List, [], ◌∷◌, ◌++◌, length, Option, Some, None, codes, if◌then◌else◌}
 use Rattle.std.specs.List.{flat_map}
-use Rattle.std.specs.Fmt.{decimal, digits, padded_integral, format_spec}
+use Rattle.std.specs.Fmt.{decimal}
 use Rattle.memory_model.specs.Memory.{Memory}
 use Rattle.file_model.specs.File.{File}
 use Rattle.space_model.specs.Files.{files_in}
 use Rattle.report_model.specs.Report.{hex8}
 use Rattle.explain_core.specs.declared.pages.Run.{Run}
+use Rattle.explain_core.specs.Hex.{hex2}
 use Rattle.explain_core.specs.Pages.{runs_of, changed_pages}
 
 -- a run of pages by its first and its last address, and the permission of its pages
@@ -22,10 +23,6 @@ change_line a = codes "changed " ++ (hex8 a ++ 10 ∷ [])
 abbrev pub changed_text : Memory → Option Memory → List ℕ
 changed_text m None = []
 changed_text m (Some snapshot) = flat_map change_line (changed_pages m snapshot)
-
--- two hexadecimal digits in lower case, as `{:02x}` writes them
-abbrev pub hex2 : ℕ → List ℕ
-hex2 n = padded_integral (format_spec 32 0 4 2 (2 ^ 64 - 1)) false [] (digits 16 false n)
 
 -- a byte of a name that is shown as it is: from `!` to `~`, and no backslash
 abbrev pub is_plain : ℕ → Bool

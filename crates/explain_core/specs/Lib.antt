@@ -1,10 +1,12 @@
+pub mod Bytes
 pub mod Contents
 pub mod Going
 pub mod Headers
+pub mod Hex
 pub mod Instructions
-pub mod Manner
 pub mod Pages
 pub mod Reached
+pub mod Stretch
 pub mod Text
 pub mod Trace
 pub mod Watch

@@ -1,15 +1,16 @@
 -- What is shown of an event, which is named by the path of its space and by its number among the own events there.
 -- Our choice: that a space is shown just behind the event that is asked for.
-use Rattle.std.specs.Prelude.{◌≡◌, ℕ, suc, ◌+◌, ◌-◌, ◌^◌, List, length, Some, min, take}
+use Rattle.std.specs.Prelude.{◌≡◌, ℕ, suc, ◌+◌, ◌-◌, ◌^◌, false, List, length, Option, Some, min, take}
+use Rattle.std.specs.List.{slice_get}
 use Rattle.space_model.specs.Space.{Space}
 use Rattle.space_model.specs.Path.{at}
 use Rattle.det_laws.specs.Tops.{top_at}
 use Rattle.det_laws.specs.Tree.{NoneMayHappen, after_all}
 use Rattle.event_laws.specs.OwnEvents.{OwnEvent, IsOwnEvent, own_events}
-use Rattle.explain_core.specs.Manner.{Manner}
+use Rattle.explain_core.specs.declared.bytes.Bytes.{Bytes}
 use Rattle.explain_core.specs.Text.{end_text, event_text}
 use Rattle.explain_core.specs.Trace.{trace_lines}
-use Rattle.explain_core.specs.Watch.{IsLastChange, NoneChanges, Noted, note}
+use Rattle.explain_core.specs.Watch.{IsLastChange, NoneChanges, Noted, changes, note}
 use Rattle.explain_core.specs.declared.watching.Watched.{Watched}
 
 -- a schedule that has this own event leads from `start` to `now`, where the top at the path is that behind the event
@@ -27,11 +28,11 @@ abbrev pub NeverHappens : Space → List ℕ → ℕ → Type 0
 NeverHappens start p k = (ps : List (List ℕ)) (e : OwnEvent) → IsOwnEvent ps start p k e → ⊥
 
 -- a text shows the space at a path of a tree at its end
-abbrev pub ShowsSpace : Manner → List ℕ → Space → List ℕ → Type 0
+abbrev pub ShowsSpace : Option Bytes → List ℕ → Space → List ℕ → Type 0
 ShowsSpace w p s text = (c : Space) × (at p s ≡ Some c) × (text ≡ end_text w p c)
 
 -- a schedule has an own event, and a text shows the top behind it, in this schedule and in every other that has the event
-pub record ShowsEvent (w : Manner) (start : Space) (p : List ℕ) (k : ℕ) (text : List ℕ) : Type 0 where
+pub record ShowsEvent (w : Option Bytes) (start : Space) (p : List ℕ) (k : ℕ) (text : List ℕ) : Type 0 where
   pub schedule : List (List ℕ)
   pub event : OwnEvent
   pub happens : IsOwnEvent schedule start p k event
@@ -41,12 +42,21 @@ pub record ShowsEvent (w : Manner) (start : Space) (p : List ℕ) (k : ℕ) (tex
 abbrev pub IsTrace : Space → List ℕ → ℕ → ℕ → List ℕ → Type 0
 IsTrace start p from to text = (ps : List (List ℕ)) → NoneMayHappen (after_all ps start) → text ≡ trace_lines p from 0 (take to (own_events p ps start))
 
-abbrev pub ShowsTrace : Manner → Space → List ℕ → ℕ → ℕ → List ℕ → Type 0
-ShowsTrace w start p from to text = IsTrace start p from to text
-
 -- what is told of the last own event that changed what is watched, among the first so many of every schedule that has ended
 abbrev pub TellsLastChange : Space → List ℕ → ℕ → Watched → Noted → Type 0
 TellsLastChange start p to w c = (ps : List (List ℕ)) → NoneMayHappen (after_all ps start) → (k : ℕ) × (e : OwnEvent) × IsLastChange w (take to (own_events p ps start)) k e × (c ≡ note p w (suc k) e)
+
+-- the number of the last own event that changed what is watched, among the first so many of every schedule that has ended
+abbrev pub TellsLastNumber : Space → List ℕ → ℕ → Watched → ℕ → Type 0
+TellsLastNumber start p to w n = (ps : List (List ℕ)) → NoneMayHappen (after_all ps start) → (k : ℕ) × (e : OwnEvent) × IsLastChange w (take to (own_events p ps start)) k e × (n ≡ suc k)
+
+-- what is told of the own event of a number, which changed what is watched, in every schedule that has ended
+abbrev pub TellsChange : Space → List ℕ → ℕ → Watched → Noted → Type 0
+TellsChange start p number w c = (ps : List (List ℕ)) → NoneMayHappen (after_all ps start) → (e : OwnEvent) × (slice_get (own_events p ps start) (number - 1) ≡ Some e) × (c ≡ note p w number e)
+
+-- in no schedule that has ended the own event of a number changed it
+abbrev pub ChangesNothing : Space → List ℕ → ℕ → Watched → Type 0
+ChangesNothing start p number w = (ps : List (List ℕ)) → NoneMayHappen (after_all ps start) → (e : OwnEvent) → slice_get (own_events p ps start) (number - 1) ≡ Some e → changes w e ≡ false
 
 -- none of the first so many own events of a schedule that has ended changes what is watched
 abbrev pub NeverChanges : Space → List ℕ → ℕ → Watched → Type 0

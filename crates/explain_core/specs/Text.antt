@@ -6,8 +6,9 @@ use Rattle.space_model.specs.declared.Status.{Status}
 use Rattle.space_model.specs.declared.Status.TheVariants.{Running, Stopped}
 use Rattle.space_model.specs.Space.{Space, Children, none, child, Top, top_of, children_of}
 use Rattle.report_model.specs.Report.{hex8, path_text, stop_text}
+use Rattle.explain_core.specs.Bytes.{bytes_text}
+use Rattle.explain_core.specs.declared.bytes.Bytes.{Bytes}
 use Rattle.explain_core.specs.Contents.{contents_text}
-use Rattle.explain_core.specs.Manner.{Manner}
 use Rattle.explain_core.specs.Instructions.{register_name, instruction_at_pc, instruction_part}
 
 -- a space that runs, or the cause and the value with which it has stopped
@@ -42,9 +43,9 @@ abbrev pub registers_text : ℕ → List ℕ → List ℕ
 registers_text n [] = []
 registers_text n (value ∷ values) = register_text n value ++ registers_text (suc n) values
 
--- of a space without its children
-abbrev pub top_text : Manner → Top → List ℕ
-top_text w t = state_text t ++ (registers_text 0 t.registers.x ++ contents_text t.memory t.snapshot)
+-- of a space without its children, with the bytes that are wanted
+abbrev pub top_text : Option Bytes → Top → List ℕ
+top_text w t = state_text t ++ (registers_text 0 t.registers.x ++ (contents_text t.memory t.snapshot ++ bytes_text t.memory w))
 
 -- a child by its number, and its status
 abbrev pub child_text : ℕ → Space → List ℕ
@@ -55,13 +56,13 @@ children_text none = []
 children_text (child n s rest) = child_text n s ++ children_text rest
 
 -- of a space with its children, which stand in the order of their numbers
-abbrev pub space_text : Manner → Space → List ℕ
+abbrev pub space_text : Option Bytes → Space → List ℕ
 space_text w s = top_text w (top_of s) ++ children_text (children_of s)
 
 -- a space just behind its own event of a number, from 1 on
-abbrev pub event_text : Manner → List ℕ → ℕ → Top → List ℕ
+abbrev pub event_text : Option Bytes → List ℕ → ℕ → Top → List ℕ
 event_text w p number t = (codes "space " ++ (path_text p ++ (codes " event " ++ (decimal number ++ 10 ∷ [])))) ++ top_text w t
 
 -- a space at the end of a run
-abbrev pub end_text : Manner → List ℕ → Space → List ℕ
+abbrev pub end_text : Option Bytes → List ℕ → Space → List ℕ
 end_text w p s = (codes "space " ++ (path_text p ++ codes " end\n")) ++ space_text w s

@@ -1,18 +1,18 @@
-ghost use Rattle.std.specs.Prelude.{◌≡◌, ◌-◌, ◌+◌, ◌≤◌, ◌∷◌, [], true, false, IfOk, IfSome, IsNone};
+ghost use Rattle.std.specs.Prelude.{◌≡◌, ℕ, ◌-◌, ◌+◌, ◌≤◌, ◌∷◌, [], true, false, IfOk, IfSome, IsNone};
 ghost use Rattle.call_model.specs.Limits.{greatest_depth, levels_below};
 ghost use Rattle.space_model.specs.Sound.{IsSound};
 ghost use Rattle.demand_eval.specs.Turns.{IsSoundBelow};
-ghost use Rattle.explain_core.specs.Manner.{manner_of};
-ghost use Rattle.explain_core.specs.Reached.{ShowsTrace};
 ghost use Rattle.explain_core.specs.Going.{HasCome, HasComeBelow, TakesTurn, TellsTurn};
-ghost use Rattle.explain_core.specs.Reached.{HasJustHappened, HasSoMany, IsTrace, NeverChanges, NeverHappens, TellsLastChange};
+ghost use Rattle.explain_core.specs.Reached.{ChangesNothing, HasJustHappened, HasSoMany, IsTrace, NeverChanges, NeverHappens, TellsChange, TellsLastChange, TellsLastNumber};
+ghost use Rattle.explain_core.specs.Stretch.{IsWatchable};
 ghost use Rattle.explain_core.specs.Watch.{kept_of, noted_of};
+ghost use Rattle.explain_core.specs.declared.watching.Noticing.TheVariants.{Number};
 
-use crate::manner::Showing;
-use crate::watching::{Asked, Change, Kept, Watched, before_event, notice};
+use crate::stretch::watch_stretch;
+use crate::watching::{Asked, Change, Kept, Noticing, Watched, before_event, keep_number, notice};
 use demand_eval::{Runner, STRETCH, wait_for};
 use space_step::{DecodeCache, Next, advance};
-use space_tree::{Path, Space};
+use space_tree::{Path, Space, copy_tree};
 use std::alloc::{AllocError, Global};
 use user_runtime::meet;
 
@@ -102,13 +102,81 @@ fn take_noticed_turn(
     requires sound { IsSoundBelow (levels_below depth) space.old }
     ensures { IfOk result (λ turn. TellsTurn (levels_below depth) (asked.now.to + 1 - number) asked.now turn (kept_of kept.old) (kept_of kept.new) space.old space.new) }
 {
-    let before = before_event(asked.watched, &space.top);
+    let before = before_event(asked.noticing, &space.top);
     let turn = take_turn(runner, space, 1, depth)?;
     if turn.events == 0 {
         return Ok(turn);
     }
     notice(runner.alloc, kept, asked, number, &before, &space.top)?;
     Ok(turn)
+}
+
+// Whether this can be watched: a byte, or one of the 32 registers.
+fn is_watchable(watched: Watched) -> bool
+    ensures { result ≡ true → IsWatchable watched }
+{
+    match watched {
+        Watched::Byte(_) => true,
+        Watched::Register(number) => number < 32,
+    }
+}
+
+// Instructions of a space of whose own events so many are left, up to a call or a trap; the number of the last that changed what is watched is kept.
+// None where there are no such instructions, and then nothing has changed.
+fn take_watched_turn(
+    runner: &mut Runner,
+    space: &mut Space,
+    kept: &mut Kept,
+    asked: &Asked,
+    watched: Watched,
+    left: u64,
+) -> Option<Turn>
+    requires some { 1 ≤ left }
+    requires within { left ≤ asked.now.to }
+    requires asked { asked.now.from ≤ asked.now.to - left + 1 }
+    requires number { asked.now.noticing ≡ Number watched }
+    ensures some { (levels : ℕ) → IsSoundBelow levels space.old → IfSome result (λ turn. TellsTurn levels left asked.now turn (kept_of kept.old) (kept_of kept.new) space.old space.new) }
+    ensures none { IsNone result → (space.new ≡ space.old) × (kept_of kept.new ≡ kept_of kept.old) }
+{
+    if space.top.is_stopped() || !is_watchable(watched) {
+        return None;
+    }
+    let number = asked.to - left + 1;
+    let most = at_most(left);
+    let stretch = watch_stretch(&mut runner.cache, &mut space.top, most, watched, number);
+    if stretch.count == 0 {
+        return None;
+    }
+    keep_number(kept, stretch.last);
+    Some(Turn {
+        events: stretch.count,
+        stopped: false,
+    })
+}
+
+// A turn of a space of whose own events so many are left, from the first that is asked for on: each is noticed.
+fn take_asked_turn(
+    runner: &mut Runner,
+    space: &mut Space,
+    kept: &mut Kept,
+    asked: &Asked,
+    left: u64,
+    depth: u8,
+) -> Result<Turn, AllocError>
+    requires depth { depth ≤ greatest_depth }
+    requires some { 1 ≤ left }
+    requires within { left ≤ asked.now.to }
+    requires asked { asked.now.from ≤ asked.now.to - left + 1 }
+    requires sound { IsSoundBelow (levels_below depth) space.old }
+    ensures { IfOk result (λ turn. TellsTurn (levels_below depth) left asked.now turn (kept_of kept.old) (kept_of kept.new) space.old space.new) }
+{
+    if let Noticing::Number(watched) = asked.noticing {
+        if let Some(turn) = take_watched_turn(runner, space, kept, asked, watched, left) {
+            return Ok(turn);
+        }
+    }
+    let number = asked.to - left + 1;
+    take_noticed_turn(runner, space, kept, asked, number, depth)
 }
 
 // A turn of a space of whose own events so many are left: each that is asked for is noticed.
@@ -128,7 +196,7 @@ fn take_told_turn(
 {
     let number = asked.to - left + 1;
     if asked.from <= number {
-        return take_noticed_turn(runner, space, kept, asked, number, depth);
+        return take_asked_turn(runner, space, kept, asked, left, depth);
     }
     let most = most_events(left, asked.from - number);
     let turn = take_turn(runner, space, most, depth)?;
@@ -287,7 +355,7 @@ pub fn run_to(alloc: Global, tree: &mut Space, path: &Path, number: u64) -> Resu
         path: copied(path)?,
         from: u64::MAX,
         to: number,
-        watched: None,
+        noticing: Noticing::Lines,
     };
     let mut kept = Kept::new(alloc);
     let left = go_as_asked(alloc, tree, &mut kept, &asked)?;
@@ -302,26 +370,76 @@ pub fn trace(
     path: &Path,
     from: u64,
     to: u64,
-    showing: &Showing,
 ) -> Result<Vec<u8>, AllocError>
     requires sound { IsSound tree }
     requires to { 1 ≤ to }
-    ensures { IfOk result (λ v. ShowsTrace (manner_of showing.now) tree path.now.items from to v.items) }
+    ensures { IfOk result (λ v. IsTrace tree path.now.items from to v.items) }
 {
     let mut tree = tree;
     let asked = Asked {
         path: copied(path)?,
         from,
         to,
-        watched: None,
+        noticing: Noticing::Lines,
     };
     let mut kept = Kept::new(alloc);
     go_as_asked(alloc, &mut tree, &mut kept, &asked)?;
     Ok(kept.lines)
 }
 
-/// The last of the first so many own events of the space at a path that changed what is watched; none exactly where none of them did. The one
-/// error is want of memory.
+// The number of the last of the first so many own events of the space at a path that changed what is watched.
+fn last_number(
+    alloc: Global,
+    tree: Space,
+    path: &Path,
+    to: u64,
+    watched: Watched,
+) -> Result<Option<u64>, AllocError>
+    requires sound { IsSound tree }
+    requires some { 1 ≤ to }
+    ensures some { IfOk result (λ o. IfSome o (TellsLastNumber tree path.now.items to watched)) }
+    ensures counted { IfOk result (λ o. IfSome o (λ n. 1 ≤ n)) }
+    ensures none { IfOk result (λ o. IsNone o → NeverChanges tree path.now.items to watched) }
+{
+    let mut tree = tree;
+    let asked = Asked {
+        path: copied(path)?,
+        from: 1,
+        to,
+        noticing: Noticing::Number(watched),
+    };
+    let mut kept = Kept::new(alloc);
+    go_as_asked(alloc, &mut tree, &mut kept, &asked)?;
+    Ok(kept.number)
+}
+
+// What the own event of a number, from 1 on, of the space at a path was, where it changed what is watched.
+fn change_at(
+    alloc: Global,
+    tree: Space,
+    path: &Path,
+    number: u64,
+    watched: Watched,
+) -> Result<Option<Change>, AllocError>
+    requires sound { IsSound tree }
+    requires some { 1 ≤ number }
+    ensures some { IfOk result (λ o. IfSome o (λ c. TellsChange tree path.now.items number watched (noted_of c))) }
+    ensures none { IfOk result (λ o. IsNone o → ChangesNothing tree path.now.items number watched) }
+{
+    let mut tree = tree;
+    let asked = Asked {
+        path: copied(path)?,
+        from: number,
+        to: number,
+        noticing: Noticing::Change(watched),
+    };
+    let mut kept = Kept::new(alloc);
+    go_as_asked(alloc, &mut tree, &mut kept, &asked)?;
+    Ok(kept.last)
+}
+
+/// The last of the first so many own events of the space at a path that changed what is watched; none exactly where none of them did. The tree goes
+/// on twice: once for the number of that event, and once up to it. The one error is want of memory.
 pub fn last_change(
     alloc: Global,
     tree: Space,
@@ -337,15 +455,11 @@ pub fn last_change(
         return Ok(None);
     }
     let mut tree = tree;
-    let asked = Asked {
-        path: copied(path)?,
-        from: 1,
-        to,
-        watched: Some(watched),
-    };
-    let mut kept = Kept::new(alloc);
-    go_as_asked(alloc, &mut tree, &mut kept, &asked)?;
-    Ok(kept.last)
+    let again = copy_tree(alloc, &mut tree)?;
+    match last_number(alloc, tree, path, to, watched)? {
+        None => Ok(None),
+        Some(number) => change_at(alloc, again, path, number, watched),
+    }
 }
 
 /// How many own events the space at a path has until no space of the tree runs any more, as far as there are at most so many. The one error is want of
@@ -359,7 +473,7 @@ pub fn count_events(alloc: Global, tree: Space, path: &Path) -> Result<u64, Allo
         path: copied(path)?,
         from: u64::MAX,
         to: u64::MAX,
-        watched: None,
+        noticing: Noticing::Lines,
     };
     let mut kept = Kept::new(alloc);
     let left = go_as_asked(alloc, &mut tree, &mut kept, &asked)?;

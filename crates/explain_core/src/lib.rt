@@ -2,21 +2,22 @@
 #![tactic(auto)]
 
 mod asking;
+mod bytes;
 mod contents;
 mod files;
 mod going;
 mod instructions;
-mod manner;
 mod pages;
 mod paths;
 mod showing;
+mod stretch;
 mod tracing;
 mod watching;
 
 pub use asking::{after_event, at_end};
+pub use bytes::Bytes;
 pub use going::{count_events, last_change, run_to, trace};
 pub use instructions::{instruction_at_pc, register_name};
-pub use manner::{Bytes, Showing};
 pub use paths::path_text;
 pub use tracing::call_name;
 pub use watching::{Change, Watched};

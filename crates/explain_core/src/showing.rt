@@ -1,11 +1,10 @@
 ghost use Rattle.std.specs.Prelude.{◌≡◌, ◌++◌, ◌+◌, ◌<◌, [], IfOk, OnOk, codes, string_bytes};
 ghost use Rattle.std.specs.Fmt.{decimal};
-ghost use Rattle.explain_core.specs.Manner.{manner_of};
 ghost use Rattle.explain_core.specs.Text.{child_text, children_text, end_text, event_text, limit_text, line_of, pc_text, register_text, registers_text, space_text, state_text, status_text, top_text};
 
+use crate::bytes::{Bytes, push_bytes};
 use crate::contents::push_contents;
 use crate::instructions::{instruction_at_pc, instruction_part, register_name};
-use crate::manner::Showing;
 use crate::paths::path_text;
 use det_report::stop_text;
 use space_tree::{Children, Path, Space, Status, Top};
@@ -92,19 +91,20 @@ fn push_registers(alloc: Global, text: &mut Vec<u8>, x: &[u32; 32]) -> Result<()
     Ok(())
 }
 
-// Appends what is shown of a space without its children.
+// Appends what is shown of a space without its children, with the bytes that are wanted.
 fn push_top(
     alloc: Global,
     text: &mut Vec<u8>,
     top: &Top,
-    showing: &Showing,
+    bytes: Option<Bytes>,
 ) -> Result<(), AllocError>
-    ensures { OnOk result (text.new.items ≡ text.old.items ++ top_text (manner_of showing.now) top.now) }
+    ensures { OnOk result (text.new.items ≡ text.old.items ++ top_text bytes top.now) }
 {
     let state = state_text(alloc, top)?;
     text.extend_from_slice(state.as_bytes())?;
     push_registers(alloc, text, &top.registers.x)?;
-    push_contents(alloc, text, &top.memory, &top.snapshot)
+    push_contents(alloc, text, &top.memory, &top.snapshot)?;
+    push_bytes(alloc, text, &top.memory, bytes)
 }
 
 // A child by its number, and its status.
@@ -127,37 +127,37 @@ fn push_children(alloc: Global, text: &mut Vec<u8>, children: &Children) -> Resu
 }
 
 /// What is shown of a space just behind its own event of a number, from 1 on: a line that names the event, and what is shown of the space without its
-/// children.
+/// children, with the bytes that are wanted.
 pub(crate) fn show_event(
     alloc: Global,
     path: &Path,
     number: u64,
     top: &Top,
-    showing: &Showing,
+    bytes: Option<Bytes>,
 ) -> Result<Vec<u8>, AllocError>
-    ensures { IfOk result (λ v. v.items ≡ event_text (manner_of showing.now) path.now.items number top.now) }
+    ensures { IfOk result (λ v. v.items ≡ event_text bytes path.now.items number top.now) }
 {
     let place = path_text(alloc, path)?;
     let head = format!(in alloc; "space {place} event {number}\n")?;
     let mut text = head.into_bytes();
-    push_top(alloc, &mut text, top, showing)?;
+    push_top(alloc, &mut text, top, bytes)?;
     Ok(text)
 }
 
 /// What is shown of a space at the end of a run: a line that names it, what is shown of it without its children, and a line for each child with its
-/// number and status.
+/// number and status, with the bytes that are wanted.
 pub(crate) fn show_end(
     alloc: Global,
     path: &Path,
     space: &Space,
-    showing: &Showing,
+    bytes: Option<Bytes>,
 ) -> Result<Vec<u8>, AllocError>
-    ensures { IfOk result (λ v. v.items ≡ end_text (manner_of showing.now) path.now.items space.now) }
+    ensures { IfOk result (λ v. v.items ≡ end_text bytes path.now.items space.now) }
 {
     let place = path_text(alloc, path)?;
     let head = format!(in alloc; "space {place} end\n")?;
     let mut text = head.into_bytes();
-    push_top(alloc, &mut text, &space.top, showing)?;
+    push_top(alloc, &mut text, &space.top, bytes)?;
     push_children(alloc, &mut text, &space.children)?;
     Ok(text)
 }

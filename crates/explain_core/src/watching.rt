@@ -1,7 +1,8 @@
-ghost use Rattle.std.specs.Prelude.{◌≡◌, IfOk, OnOk};
+ghost use Rattle.std.specs.Prelude.{◌≡◌, ℕ, List, IfOk, OnOk};
 ghost use Rattle.explain_core.specs.Instructions.{instruction_at_pc};
 ghost use Rattle.explain_core.specs.Trace.{event_line};
-ghost use Rattle.explain_core.specs.Watch.{kept_of, nothing_kept, noted_of, noticed, value_before, watched_in};
+ghost use Rattle.explain_core.specs.Watch.{kept_of, nothing_kept, noted_of, noticed, value_before, watched_in, with_last};
+ghost use Rattle.explain_core.specs.declared.watching.Noticing.TheVariants as kinds;
 
 use crate::instructions::instruction_at_pc;
 use crate::tracing::{event_line, place_text};
@@ -31,21 +32,32 @@ pub struct Change {
     pub line: Vec<u8>,
 }
 
-/// Of which space the own events are asked for, by its path, and which of them, by the numbers of the first and the last; and what is watched: where
-/// nothing is, each has a line.
+/// What is noticed of own events.
+#[derive(Clone, Copy, Debug, PartialEq, Eq)]
+pub(crate) enum Noticing {
+    /// A line of each.
+    Lines,
+    /// What the last was that changed what is watched.
+    Change(Watched),
+    /// Its number alone, for which less is to do at each.
+    Number(Watched),
+}
+
+/// Of which space the own events are asked for, by its path; which of them, by the numbers of the first and the last; and what is noticed of these.
 #[derive(Drop)]
 pub(crate) struct Asked {
     pub(crate) path: Path,
     pub(crate) from: u64,
     pub(crate) to: u64,
-    pub(crate) watched: Option<Watched>,
+    pub(crate) noticing: Noticing,
 }
 
-/// What is kept of the events that are asked for: their lines, or the last that changed what is watched.
+/// What is kept of the events that are asked for: their lines, or the last that changed what is watched, or its number.
 #[derive(Drop)]
 pub(crate) struct Kept {
     pub(crate) lines: Vec<u8>,
     pub(crate) last: Option<Change>,
+    pub(crate) number: Option<u64>,
 }
 
 impl Kept {
@@ -56,6 +68,7 @@ impl Kept {
         Kept {
             lines: Vec::new(alloc),
             last: None,
+            number: None,
         }
     }
 }
@@ -88,25 +101,25 @@ pub(crate) fn watched_in(watched: Watched, top: &Top) -> u32
 }
 
 // What is watched, in a space before an event; 0 where nothing is.
-fn value_before(watched: Option<Watched>, top: &Top) -> u32
-    ensures { result ≡ value_before watched top.now }
+fn value_before(noticing: Noticing, top: &Top) -> u32
+    ensures { result ≡ value_before noticing top.now }
 {
-    match watched {
-        Some(watched) => watched_in(watched, top),
-        None => 0,
+    match noticing {
+        Noticing::Lines => 0,
+        Noticing::Change(watched) | Noticing::Number(watched) => watched_in(watched, top),
     }
 }
 
 /// A space before its next event.
-pub(crate) fn before_event(watched: Option<Watched>, top: &Top) -> Before
+pub(crate) fn before_event(noticing: Noticing, top: &Top) -> Before
     ensures registers { result.registers ≡ top.now.registers }
     ensures instruction { result.instruction ≡ instruction_at_pc top.now }
-    ensures value { result.value ≡ value_before watched top.now }
+    ensures value { result.value ≡ value_before noticing top.now }
 {
     Before {
         registers: registers_of(top),
         instruction: instruction_at_pc(top),
-        value: value_before(watched, top),
+        value: value_before(noticing, top),
     }
 }
 
@@ -146,7 +159,50 @@ fn note(
     })
 }
 
-/// Keeps of an event of a number, which has just happened, its line, or that it changed what is watched.
+// Keeps the line of an event.
+fn notice_line(
+    alloc: Global,
+    kept: &mut Kept,
+    path: &Path,
+    number: u64,
+    before: &Before,
+    after: &Top,
+) -> Result<(), AllocError>
+    ensures { OnOk result (kept_of kept.new ≡ noticed path.now.items kinds.Lines number before.now.registers before.now.instruction before.now.value after.now (kept_of kept.old)) }
+{
+    let line = line_of(alloc, path, number, before, after)?;
+    kept.lines.extend_from_slice(&line)
+}
+
+// Keeps what an event was, where it changed what is watched.
+fn notice_change(
+    alloc: Global,
+    kept: &mut Kept,
+    path: &Path,
+    watched: Watched,
+    number: u64,
+    before: &Before,
+    after: &Top,
+) -> Result<(), AllocError>
+    ensures { OnOk result (kept_of kept.new ≡ noticed path.now.items (kinds.Change watched) number before.now.registers before.now.instruction before.now.value after.now (kept_of kept.old)) }
+{
+    let value = watched_in(watched, after);
+    if value != before.value {
+        kept.last = Some(note(alloc, path, number, before, after, value)?);
+    }
+    Ok(())
+}
+
+// Keeps the number of an event, where it changed what is watched.
+fn notice_number(kept: &mut Kept, watched: Watched, number: u64, before: &Before, after: &Top)
+    ensures { (p : List ℕ) → kept_of kept.new ≡ noticed p (kinds.Number watched) number before.now.registers before.now.instruction before.now.value after.now (kept_of kept.old) }
+{
+    if watched_in(watched, after) != before.value {
+        kept.number = Some(number);
+    }
+}
+
+/// Keeps of an event of a number, which has just happened, what is asked for.
 pub(crate) fn notice(
     alloc: Global,
     kept: &mut Kept,
@@ -155,15 +211,25 @@ pub(crate) fn notice(
     before: &Before,
     after: &Top,
 ) -> Result<(), AllocError>
-    ensures { OnOk result (kept_of kept.new ≡ noticed asked.now.path.items asked.now.watched number before.now.registers before.now.instruction before.now.value after.now (kept_of kept.old)) }
+    ensures { OnOk result (kept_of kept.new ≡ noticed asked.now.path.items asked.now.noticing number before.now.registers before.now.instruction before.now.value after.now (kept_of kept.old)) }
 {
-    let Some(watched) = asked.watched else {
-        let line = line_of(alloc, &asked.path, number, before, after)?;
-        return kept.lines.extend_from_slice(&line);
-    };
-    let value = watched_in(watched, after);
-    if value != before.value {
-        kept.last = Some(note(alloc, &asked.path, number, before, after, value)?);
+    match asked.noticing {
+        Noticing::Lines => notice_line(alloc, kept, &asked.path, number, before, after),
+        Noticing::Change(watched) => {
+            notice_change(alloc, kept, &asked.path, watched, number, before, after)
+        }
+        Noticing::Number(watched) => {
+            notice_number(kept, watched, number, before, after);
+            Ok(())
+        }
     }
-    Ok(())
+}
+
+/// Keeps the number of the last event that changed what is watched, where one did.
+pub(crate) fn keep_number(kept: &mut Kept, last: Option<u64>)
+    ensures { kept_of kept.new ≡ with_last last (kept_of kept.old) }
+{
+    if let Some(number) = last {
+        kept.number = Some(number);
+    }
 }

@@ -1,25 +1,22 @@
-use Rattle.std.proofs.Common.{IfSome, Some, arith, refl, subst}
-use Rattle.explain_core.specs.declared.watching.Asked.{Asked}
-use Rattle.explain_core.specs.Reached.{NeverChanges, TellsLastChange}
-use Rattle.explain_core.specs.Watch.{kept_of, noted_of}
-use Rattle.explain_core.proofs.Coming.{from_nothing, none_of_none, tells_none, tells_some}
+use Rattle.std.proofs.Common.{IfSome, ◌≤◌, subst}
+use Rattle.explain_core.specs.Reached.{TellsLastNumber}
+use Rattle.explain_core.proofs.LastChange.{last_result, lost_result, none_of_none}
 use Rattle.explain_core.proofs.going.last_change.Goals as goal
 
 pub returns-then-to-eq0-clause-none : goal.returns-then-to-eq0-clause-none
 returns-then-to-eq0-clause-none c e = none_of_none c.args.tree c.args.path.now.items c.args.to c.args.watched c.if-to-eq0.true
 
-pub returns-clause-some : goal.returns-clause-some
-returns-clause-some c =
-    let same = c.in_ok-copied.ensures in
-    let asked : Asked = record { path = c.in_ok-copied.field-0; from = 1; to = c.args.to; watched = Some c.args.watched } in
-    let come = from_nothing c.args.tree c.go_as_asked.new.tree c.in_ok-copied.field-0.items asked c.args.to c.in_ok-go_as_asked.field-0 (kept_of c.new-kept.result) (kept_of c.go_as_asked.new.kept) c.new-kept.ensures c.in_ok-go_as_asked.ensures in
-    subst (λ p. IfSome c.go_as_asked.new.kept.last (λ n. TellsLastChange c.args.tree p c.args.to c.args.watched (noted_of n))) same
-    (tells_some c.args.tree c.go_as_asked.new.tree c.in_ok-copied.field-0.items asked c.args.watched c.in_ok-go_as_asked.field-0 c.go_as_asked.new.kept refl refl (omega arith) c.requires come)
+pub change_at-requires-clause-some : goal.change_at-requires-clause-some
+change_at-requires-clause-some c = subst (λ o. IfSome o (λ n. 1 ≤ n)) c.in-Some.is c.in_ok-last_number.ensures.counted
 
-pub returns-clause-none : goal.returns-clause-none
-returns-clause-none c none =
-    let same = c.in_ok-copied.ensures in
-    let asked : Asked = record { path = c.in_ok-copied.field-0; from = 1; to = c.args.to; watched = Some c.args.watched } in
-    let come = from_nothing c.args.tree c.go_as_asked.new.tree c.in_ok-copied.field-0.items asked c.args.to c.in_ok-go_as_asked.field-0 (kept_of c.new-kept.result) (kept_of c.go_as_asked.new.kept) c.new-kept.ensures c.in_ok-go_as_asked.ensures in
-    subst (λ p. NeverChanges c.args.tree p c.args.to c.args.watched) same
-    (tells_none c.args.tree c.go_as_asked.new.tree c.in_ok-copied.field-0.items asked c.args.watched c.in_ok-go_as_asked.field-0 c.go_as_asked.new.kept refl (omega arith) c.requires come none)
+pub returns-in-Some-clause-some : goal.returns-in-Some-clause-some
+returns-in-Some-clause-some c =
+    let number = subst (λ o. IfSome o (TellsLastNumber c.copy_tree.new.space c.args.path.now.items c.args.to c.args.watched)) c.in-Some.is c.in_ok-last_number.ensures.some in
+    let here = subst (λ t. TellsLastNumber t c.args.path.now.items c.args.to c.args.watched c.in-Some.number) c.copy_tree.ensures.same number in
+    last_result c.args.tree c.in_ok-again.again c.args.path.now.items c.args.to c.args.watched c.in-Some.number c.change_at.result c.in_ok-again.ensures.equal here c.change_at.ensures.some
+
+pub returns-in-Some-clause-none : goal.returns-in-Some-clause-none
+returns-in-Some-clause-none c =
+    let number = subst (λ o. IfSome o (TellsLastNumber c.copy_tree.new.space c.args.path.now.items c.args.to c.args.watched)) c.in-Some.is c.in_ok-last_number.ensures.some in
+    let here = subst (λ t. TellsLastNumber t c.args.path.now.items c.args.to c.args.watched c.in-Some.number) c.copy_tree.ensures.same number in
+    lost_result c.args.tree c.in_ok-again.again c.args.path.now.items c.args.to c.args.watched c.in-Some.number c.change_at.result c.in_ok-again.ensures.equal here c.change_at.ensures.none

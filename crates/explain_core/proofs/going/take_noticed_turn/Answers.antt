@@ -12,7 +12,7 @@ pub returns : goal.returns
 returns c =
     let some = c.if-turn-eq0.false in
     let before = c.before_event-before.ensures in
-    let told = one_noticed c.args.asked.now.path.items c.args.asked.now.watched c.args.number c.args.space.now c.take_turn.new.space c.space.inside.top c.space-2.inside.top c.space.inside.children c.space-2.inside.children
+    let told = one_noticed c.args.asked.now.path.items c.args.asked.now.noticing c.args.number c.args.space.now c.take_turn.new.space c.space.inside.top c.space-2.inside.top c.space.inside.children c.space-2.inside.children
     _ _ _ (kept_of c.args.kept.now) _ c.space.view_is c.space-2.view_is before.registers before.instruction before.value c.in_ok-notice.ensures in
     tells_one (8 - c.args.depth) (c.args.asked.now.to + 1 - c.args.number) c.args.number c.args.asked.now c.in_ok-turn.turn (kept_of c.args.kept.now) (kept_of c.notice.new.kept) c.args.space.now c.take_turn.new.space
     c.requires.number c.requires.last c.requires.asked refl (omega (arith, some)) c.in_ok-turn.ensures told
