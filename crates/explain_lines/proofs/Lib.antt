@@ -1,0 +1,4 @@
+pub mod Cuts
+pub mod Arrays
+pub mod Words
+pub mod Numbers

@@ -1,0 +1,4 @@
+pub mod Pieces
+pub mod Names
+pub mod Objects
+pub mod Written
