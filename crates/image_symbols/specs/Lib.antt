@@ -1,1 +1,4 @@
 pub mod Labels
+pub mod Sections
+pub mod Entries
+pub mod View
