@@ -2,8 +2,10 @@
 #![tactic(auto)]
 
 mod cutting;
+mod laws;
 mod naming;
 mod objects;
 
+pub use laws::{json_reads_back, stays_without_symbols};
 pub use naming::named;
-pub use objects::{json_of, json_reads_back};
+pub use objects::json_of;

@@ -70,8 +70,3 @@ pub fn json_of(alloc: Global, text: &[u8]) -> Result<Vec<u8>, AllocError>
     bytes.push(b'\n')?;
     Ok(bytes)
 }
-
-/// That text is JSON, and reads as that array.
-pub fn json_reads_back()
-    ensures { (text : List ℕ) → document (json_text text) ≡ Some (json_value text) }
-{}

@@ -1,4 +1,5 @@
 pub mod Labels
 pub mod Sections
 pub mod Entries
+pub mod Files
 pub mod View

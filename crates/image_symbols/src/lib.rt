@@ -3,8 +3,10 @@
 
 mod entries;
 mod fields;
+mod files;
 mod labels;
 mod sections;
 
 pub use entries::elf_symbols;
+pub use files::file_symbols;
 pub use labels::source_symbols;
