@@ -1,0 +1,7 @@
+pub mod TreePaths
+pub mod Parts
+pub mod Counts
+pub mod Origins
+pub mod Joins
+pub mod Slots
+pub mod Spaces

@@ -1,0 +1,5 @@
+pub mod Parts
+pub mod Origin
+pub mod Texts
+pub mod Why
+pub mod Sought

@@ -1,0 +1,67 @@
+-- Who changed what is watched of a space: the last own event that did, and where that is a join, on through it to the one who stored.
+-- Our choice: that a join is followed into the child that it names, and a call on files is not.
+use Rattle.std.specs.Prelude.{◌≡◌, ◌⊎◌, ℕ, ◌-◌, ◌^◌, ◌==◌, ◌&&◌, ◌||◌, nat_lt, Bool, true, false, List, [], ◌∷◌, ◌++◌, length, Option, Some, None, codes, slice_index, if◌then◌else◌}
+use Rattle.instruction_model.specs.declared.Instruction.{Instruction}
+use Rattle.instruction_model.specs.declared.Instruction.TheVariants.{Ecall}
+use Rattle.instruction_model.specs.Outcome.{Registers}
+use Rattle.call_model.specs.declared.TheConstants.{GET, TJOIN}
+use Rattle.call_model.specs.Limits.{greatest_depth}
+use Rattle.call_model.specs.Options.{has, merging}
+use Rattle.space_model.specs.Space.{Space}
+use Rattle.event_laws.specs.OwnEvents.{IsOwnEvent, OwnEvent, own_events}
+use Rattle.explain_core.specs.declared.watching.Watched.{Watched}
+use Rattle.explain_core.specs.declared.watching.Watched.TheVariants.{Byte, Register}
+use Rattle.explain_core.specs.Watch.{Noted}
+use Rattle.explain_core.specs.Reached.{HasSoMany, NeverChanges, TellsLastChange}
+
+-- of the first so many own events at a path, the last that changed what is watched left this value
+pub record IsLeftBy (root : Space) (p : List ℕ) (to : ℕ) (w : Watched) (value : ℕ) (c : Noted) : Type 0 where
+  pub last : TellsLastChange root p to w c
+  pub same : c.value ≡ value
+
+-- none of them changed it, or the last that did left another value: no own event put it there
+abbrev pub IsLeftByNone : Space → List ℕ → ℕ → Watched → ℕ → Type 0
+IsLeftByNone root p to w value = NeverChanges root p to w ⊎ ((c : Noted) × TellsLastChange root p to w c × (c.value ≡ value → ⊥))
+
+-- a call that merges a child's memory, each byte at its own address: TJOIN, and Get with Merge
+abbrev pub merges : Registers → Bool
+merges r = (slice_index r.x 17 == TJOIN) || ((slice_index r.x 17 == GET) && has merging (slice_index r.x 10))
+
+abbrev pub is_ecall : Option Instruction → Bool
+is_ecall (Some Ecall) = true
+is_ecall other = false
+
+-- an event joins a child, where bytes are watched
+abbrev pub is_join : Watched → Noted → Bool
+is_join (Byte a) c = is_ecall c.instruction && merges c.registers
+is_join (Register r) c = false
+
+-- the path of a child by its number, where a space can stand there
+abbrev pub child_path : List ℕ → ℕ → Option (List ℕ)
+child_path p n = if nat_lt n (2 ^ 16) && nat_lt (length p) greatest_depth then Some (p ++ n ∷ []) else None
+
+-- the path of the child that an event joins: a1 names it
+abbrev pub joined_path : List ℕ → Watched → Noted → Option (List ℕ)
+joined_path p w c = let r = c.registers in if is_join w c then child_path p (slice_index r.x 11) else None
+
+-- a schedule has the own event behind so many others at a path
+abbrev pub Happens : Space → List ℕ → ℕ → Type 0
+Happens root p k = (ps : List (List ℕ)) × (e : OwnEvent) × IsOwnEvent ps root p k e
+
+-- a schedule whose own events at p are so many has so many at q
+pub record HasBefore (root : Space) (p : List ℕ) (number : ℕ) (q : List ℕ) (count : ℕ) : Type 0 where
+  pub schedule : List (List ℕ)
+  pub events : length (own_events p schedule root) ≡ number
+  pub before : length (own_events q schedule root) ≡ count
+
+-- before the own event of a number at p has happened, so many at q have; where there are more at q than a number of 64 bits can count, nothing is said
+abbrev pub IsBefore : Space → List ℕ → ℕ → List ℕ → ℕ → Type 0
+IsBefore root p number q count = HasBefore root p number q count ⊎ HasSoMany root q (2 ^ 64 - 1)
+
+-- a line for the last of the first so many own events at a path that left a value, where one did; and behind one that joined a child, the same of the
+-- child's own events before it
+pub data TellsOrigin (root : Space) (w : Watched) : List ℕ → ℕ → ℕ → List ℕ → List ℕ → Type 0 where
+  by_none : (p : List ℕ) (to value : ℕ) (word : List ℕ) → IsLeftByNone root p to w value → TellsOrigin root w p to value word (word ++ codes " no own event\n")
+  by_own : (p : List ℕ) (to value : ℕ) (word : List ℕ) (c : Noted) → IsLeftBy root p to w value c → joined_path p w c ≡ None → TellsOrigin root w p to value word (word ++ 32 ∷ c.line)
+  by_join : (p : List ℕ) (to value : ℕ) (word : List ℕ) (c : Noted) (q : List ℕ) (count : ℕ) (rest : List ℕ) → IsLeftBy root p to w value c → joined_path p w c ≡ Some q → IsBefore root p c.number q count
+      → TellsOrigin root w q count value (codes "through") rest → TellsOrigin root w p to value word (word ++ 32 ∷ (c.line ++ rest))

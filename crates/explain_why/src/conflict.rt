@@ -1,0 +1,103 @@
+ghost use Rattle.std.specs.Prelude.{◌≡◌, IfOk, IfSome, IsNone};
+ghost use Rattle.memory_model.specs.Memory.{Memory};
+ghost use Rattle.space_model.specs.Sound.{IsSound};
+ghost use Rattle.space_model.specs.Space.{Top};
+ghost use Rattle.explain_why.specs.Texts.{lone_conflict_text};
+ghost use Rattle.explain_why.specs.Why.{ExplainsConflict, StandsAt, TellsConflict};
+
+use crate::origin::byte_origin;
+use crate::paths::child_path;
+use crate::texts::{bytes_text, conflict_text, lone_conflict_text};
+use space_tree::{Mem, Path, Space, Top, at};
+use std::alloc::{AllocError, Global};
+
+// The tops of a space and of the child that it joined, and the child's snapshot.
+#[derive(Drop)]
+struct Sides<'a> {
+    parent: &'a Top,
+    child: &'a Top,
+    snapshot: &'a Mem,
+}
+
+// Of a space and the child that it joined, with the child's snapshot: the bytes at the address, and who changed the child's and the parent's.
+fn told_conflict(
+    alloc: Global,
+    root: &mut Space,
+    path: &Path,
+    below: &Path,
+    sides: &Sides<'_>,
+    address: u32,
+) -> Result<Vec<u8>, AllocError>
+    requires { IsSound root.old }
+    ensures told { IfOk result (λ v. TellsConflict root.old path.now.items below.now.items sides.now.parent.now sides.now.child.now sides.now.snapshot.now.memory address v.items) }
+    ensures same { root.new ≡ root.old }
+{
+    let space = sides.parent;
+    let joined = sides.child;
+    let parent = &space.memory;
+    let child = &joined.memory;
+    let call = space.registers.register(17);
+    let head = conflict_text(alloc, path, call, below, address)?;
+    let bytes = bytes_text(
+        alloc,
+        sides.snapshot.byte(address),
+        child.byte(address),
+        parent.byte(address),
+    )?;
+    let by_child = byte_origin(alloc, root, below, address, child, "child changed by")?;
+    let by_parent = byte_origin(alloc, root, path, address, parent, "parent changed by")?;
+    let mut text = head.into_bytes();
+    text.extend_from_slice(bytes.as_bytes())?;
+    text.extend_from_slice(&by_child)?;
+    text.extend_from_slice(&by_parent)?;
+    Ok(text)
+}
+
+// A space and the child at a path, with the child's snapshot; none exactly where no child with a snapshot stands there.
+fn sides_of<'a>(end: &'a Space, below: &Path, parent: &'a Top) -> Option<Sides<'a>>
+    ensures some { IfSome result (λ s. (s.parent.now ≡ parent.now) × StandsAt end.now below.now.items s.child.now s.snapshot.now.memory) }
+    ensures none { IsNone result → (child : Top) (snapshot : Memory) → StandsAt end.now below.now.items child snapshot → ⊥ }
+{
+    let child = match at(end, below) {
+        Some(space) => space.top(),
+        None => return None,
+    };
+    match &child.snapshot {
+        Some(snapshot) => Some(Sides {
+            parent,
+            child,
+            snapshot,
+        }),
+        None => None,
+    }
+}
+
+// That a space is in conflict at an address, and no more.
+fn lone_conflict(alloc: Global, path: &Path, address: u32) -> Result<Vec<u8>, AllocError>
+    ensures { IfOk result (λ v. v.items ≡ lone_conflict_text path.now.items address) }
+{
+    let line = lone_conflict_text(alloc, path, address)?;
+    Ok(line.into_bytes())
+}
+
+/// Why a space of a settled tree is in conflict at an address: by which child, the bytes there, and who changed them.
+pub(crate) fn explain_conflict(
+    alloc: Global,
+    root: &mut Space,
+    end: &Space,
+    path: &Path,
+    parent: &Top,
+    address: u32,
+) -> Result<Vec<u8>, AllocError>
+    requires { IsSound root.old }
+    ensures told { IfOk result (λ v. ExplainsConflict root.old end.now path.now.items parent.now address v.items) }
+    ensures same { root.new ≡ root.old }
+{
+    let Some(below) = child_path(path, parent.registers.register(11))? else {
+        return lone_conflict(alloc, path, address);
+    };
+    let Some(sides) = sides_of(end, &below, parent) else {
+        return lone_conflict(alloc, path, address);
+    };
+    told_conflict(alloc, root, path, &below, &sides, address)
+}

@@ -1,0 +1,14 @@
+//! Why the spaces of a run stopped as they did: who changed the byte that is in conflict, on both sides; the last events before a trap; who left a file
+//! in conflict.
+#![tactic(auto)]
+
+mod conflict;
+mod counting;
+mod files;
+mod origin;
+mod paths;
+mod telling;
+mod texts;
+mod trap;
+
+pub use telling::why;

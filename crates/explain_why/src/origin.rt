@@ -1,0 +1,196 @@
+ghost use Rattle.std.specs.Prelude.{◌≡◌, ◌++◌, ◌∷◌, None, IfOk, IfSome, IsNone, codes, option_map};
+ghost use Rattle.memory_model.specs.Memory.{byte_at};
+ghost use Rattle.space_model.specs.Sound.{IsSound};
+ghost use Rattle.explain_core.specs.declared.watching.Watched.TheVariants.{Byte};
+ghost use Rattle.explain_core.specs.Watch.{noted_of};
+ghost use Rattle.explain_why.specs.Origin.{IsLeftBy, IsLeftByNone, TellsOrigin, is_ecall, is_join, joined_path, merges};
+ghost use Rattle.explain_why.specs.Sought.{IsSoughtBelow};
+ghost use Rattle.explain_why.specs.Why.{all_events};
+
+use crate::counting::events_before;
+use crate::paths::{child_path, copy_path};
+use call_model::{GET, TJOIN};
+use explain_core::{Change, Watched, last_change};
+use rv_decode::{Instr, Instruction};
+use space_tree::{Mem, Path, Regs, Space, copy_tree};
+use std::alloc::{AllocError, Global};
+use trap_ret::options::{MERGE, has};
+
+// Who left this value, of what is watched, of the first so many own events at a path.
+#[derive(Drop)]
+struct Sought {
+    path: Path,
+    to: u64,
+    watched: Watched,
+    value: u32,
+}
+
+// The last event that changed what is watched, where it left the value that is sought.
+fn left_by(alloc: Global, root: &mut Space, sought: &Sought) -> Result<Option<Change>, AllocError>
+    requires { IsSound root.old }
+    ensures some { IfOk result (λ o. IfSome o (λ c. IsLeftBy root.old sought.now.path.items sought.now.to sought.now.watched sought.now.value (noted_of c))) }
+    ensures none { IfOk result (λ o. IsNone o → IsLeftByNone root.old sought.now.path.items sought.now.to sought.now.watched sought.now.value) }
+    ensures same { root.new ≡ root.old }
+{
+    let tree = copy_tree(alloc, root)?;
+    match last_change(alloc, tree, &sought.path, sought.to, sought.watched)? {
+        None => Ok(None),
+        Some(change) => {
+            if change.value == sought.value {
+                Ok(Some(change))
+            } else {
+                Ok(None)
+            }
+        }
+    }
+}
+
+fn is_ecall(instruction: Option<Instr>) -> bool
+    ensures { result ≡ is_ecall instruction }
+{
+    match instruction {
+        Some(instr) => matches!(instr.instruction(), Instruction::Ecall),
+        None => false,
+    }
+}
+
+// Whether these are the registers of a call that merges a child's memory.
+fn merges(registers: &Regs) -> bool
+    ensures { result ≡ merges registers.now }
+{
+    let call = registers.register(17);
+    call == TJOIN || (call == GET && has(registers.register(10), MERGE))
+}
+
+// Whether an event joined a child.
+fn is_join(watched: Watched, change: &Change) -> bool
+    ensures { result ≡ is_join watched (noted_of change.now) }
+{
+    match watched {
+        Watched::Byte(_) => is_ecall(change.instruction) && merges(&change.registers),
+        Watched::Register(_) => false,
+    }
+}
+
+// The path of the child that an event joined.
+fn joined_path(sought: &Sought, change: &Change) -> Result<Option<Path>, AllocError>
+    ensures { IfOk result (λ o. option_map (λ p. p.items) o ≡ joined_path sought.now.path.items sought.now.watched (noted_of change.now)) }
+{
+    if !is_join(sought.watched, change) {
+        return Ok(None);
+    }
+    child_path(&sought.path, change.registers.register(11))
+}
+
+// A word, and that no own event changed what is watched.
+fn line_of_none(alloc: Global, word: &str) -> Result<Vec<u8>, AllocError>
+    ensures { IfOk result (λ v. v.items ≡ word.now ++ codes " no own event\n") }
+{
+    let line = format!(in alloc; "{word} no own event\n")?;
+    Ok(line.into_bytes())
+}
+
+// A word, a line, and what stands behind it.
+fn line_of_change(
+    alloc: Global,
+    word: &str,
+    line: &[u8],
+    rest: &[u8],
+) -> Result<Vec<u8>, AllocError>
+    ensures { IfOk result (λ v. v.items ≡ word.now ++ 32 ∷ (line.now ++ rest.now)) }
+{
+    let mut text = Vec::new(alloc);
+    text.extend_from_slice(word.as_bytes())?;
+    text.push(b' ')?;
+    text.extend_from_slice(line)?;
+    text.extend_from_slice(rest)?;
+    Ok(text)
+}
+
+// What is sought of the child that an event joined: who of its own events before it left the value. None exactly where the event joined none.
+fn joined(
+    alloc: Global,
+    root: &mut Space,
+    sought: &Sought,
+    change: &Change,
+) -> Result<Option<Sought>, AllocError>
+    requires sound { IsSound root.old }
+    requires left { IsLeftBy root.old sought.now.path.items sought.now.to sought.now.watched sought.now.value (noted_of change.now) }
+    ensures some { IfOk result (λ o. IfSome o (IsSoughtBelow root.old sought.now (noted_of change.now))) }
+    ensures none { IfOk result (λ o. IsNone o → joined_path sought.now.path.items sought.now.watched (noted_of change.now) ≡ None) }
+    ensures same { root.new ≡ root.old }
+{
+    match joined_path(sought, change)? {
+        None => Ok(None),
+        Some(path) => {
+            let to = events_before(alloc, root, &sought.path, change.number, &path)?;
+            Ok(Some(Sought {
+                path,
+                to,
+                watched: sought.watched,
+                value: sought.value,
+            }))
+        }
+    }
+}
+
+// A line for the event that left a value, behind a word; and behind one that joined a child, on through it to the one who stored.
+fn origin(
+    alloc: Global,
+    root: &mut Space,
+    sought: &Sought,
+    word: &str,
+) -> Result<Vec<u8>, AllocError>
+    requires { IsSound root.old }
+    ensures told { IfOk result (λ v. TellsOrigin root.old sought.now.watched sought.now.path.items sought.now.to sought.now.value word.now v.items) }
+    ensures same { root.new ≡ root.old }
+{
+    let Some(change) = left_by(alloc, root, sought)? else {
+        return line_of_none(alloc, word);
+    };
+    let Some(below) = joined(alloc, root, sought, &change)? else {
+        return line_of_change(alloc, word, &change.line, b"");
+    };
+    let rest = origin(alloc, root, &below, "through")?;
+    line_of_change(alloc, word, &change.line, &rest)
+}
+
+/// The same of all own events of a path.
+pub(crate) fn last_origin(
+    alloc: Global,
+    root: &mut Space,
+    path: &Path,
+    watched: Watched,
+    value: u32,
+    word: &str,
+) -> Result<Vec<u8>, AllocError>
+    requires { IsSound root.old }
+    ensures told { IfOk result (λ v. TellsOrigin root.old watched path.now.items all_events value word.now v.items) }
+    ensures same { root.new ≡ root.old }
+{
+    let sought = Sought {
+        path: copy_path(path)?,
+        to: u64::MAX,
+        watched,
+        value,
+    };
+    origin(alloc, root, &sought, word)
+}
+
+/// The same of the byte at an address of a memory.
+pub(crate) fn byte_origin(
+    alloc: Global,
+    root: &mut Space,
+    path: &Path,
+    address: u32,
+    memory: &Mem,
+    word: &str,
+) -> Result<Vec<u8>, AllocError>
+    requires { IsSound root.old }
+    ensures told { IfOk result (λ v. TellsOrigin root.old (Byte address) path.now.items all_events (byte_at memory.now.memory address) word.now v.items) }
+    ensures same { root.new ≡ root.old }
+{
+    let watched = Watched::Byte(address);
+    let value = u32::from(memory.byte(address));
+    last_origin(alloc, root, path, watched, value, word)
+}
