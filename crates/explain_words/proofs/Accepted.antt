@@ -1,90 +1,146 @@
--- Where `clap` finds no fault at words, they have a line, or the words for a moment write none.
+-- Where `clap` finds no fault at words, they have a line, or they write no question.
 use Rattle.std.proofs.Common.{◌≡◌, ◌⊎◌, ℕ, Bool, true, false, cond, List, [], ◌∷◌, Option, Some, None, refl, sym, ap, subst, ◌∙◌, inl, inr, codes, arith}
 use Rattle.std.specs.Prelude.{find, is_some, IsSome, IsNone, option_and_then, option_map}
 use Rattle.std.specs.List.{AllByRecursion}
 use Rattle.std.specs.Option.{option_map_or}
 use Rattle.std.proofs.lemmas.Bool.{ne_eqb}
 use Rattle.clap.specs.Kinds.{Kinds}
-use Rattle.clap.specs.Walk.{Row, Text, answers_to, finished, first_of, is_empty, nothing_held, rows_after, settled, walk, walk_from}
-use Rattle.clap.specs.Simple.{rows_at, App, Shape, argument_words, built, entered, label_of, names_of, subcommand_of}
+use Rattle.clap.specs.Walk.{Row, Rule, Text, answers_to, arg_by_id, finished, first_of, is_empty, nothing_held, settled, walk, walk_from}
+use Rattle.clap.specs.Simple.{rows_at, App, Shape, argument_words, built, entered, filled, label_of, names_of, subcommand_of, with_index}
 use Rattle.clap.specs.Faults.{built_fault, check_fault, entered_fault, fault_of, level_fault, settle_fault, defaults_fault, walk_fault}
-use Rattle.command_line.specs.Line.{fuel_of}
+use Rattle.command_line.specs.Line.{flag, fuel_of, has_flag}
 use Rattle.command_line.proofs.Accepted.{built_shape, fuel_filled, fuel_is_set, fuel_there, help_filled, help_is_help, name_filled, name_is_set, name_there, no_subcommand}
-use Rattle.command_line.proofs.Complete.{level_complete}
-use Rattle.command_line.proofs.Kept.{AreOurs, found_is, or_else_none}
-use Rattle.explain_words.specs.declared.reading.At as code
-use Rattle.explain_words.specs.Line.{At, HasNoMoment, IsRefused, Moment, at_app, at_with, command_line, events_from, events_of, line, line_of, line_with, moment_from, moment_in, moment_named, program_app, trace_app, written}
+use Rattle.command_line.proofs.Complete.{HasValue, level_complete}
+use Rattle.command_line.proofs.Kept.{AreOurs, IsSet, found_is, or_else_none}
+use Rattle.explain_words.specs.declared.command.Command as code
+use Rattle.explain_words.specs.Line.{Command, IsRefused, Question, at_app, command_line, command_with, line, line_of, line_with, option_rule, program_app, question_named, run_app, trace_app}
 
 -- ---- the commands, built
 
+abbrev json_filled : Rule
+json_filled = with_index 1 (filled (flag (codes "json")))
+
+abbrev option_filled : Text → Rule
+option_filled id = with_index 1 (filled (option_rule id))
+
+-- what each of them has, and then the rest
+abbrev run_built : Text → List Rule → Shape
+run_built name rest = built_shape name (fuel_filled ∷ json_filled ∷ option_filled (codes "source") ∷ name_filled 1 (codes "image") ∷ name_filled 2 (codes "script") ∷ rest)
+
 abbrev at_built : Shape
-at_built = built_shape (codes "at") (fuel_filled ∷ name_filled 1 (codes "image") ∷ name_filled 2 (codes "script") ∷ name_filled 3 (codes "moment") ∷ help_filled 4 ∷ [])
+at_built = run_built (codes "at") (option_filled (codes "bytes") ∷ name_filled 3 (codes "moment") ∷ help_filled 4 ∷ [])
 
 abbrev trace_built : Shape
-trace_built = built_shape (codes "trace") (fuel_filled ∷ name_filled 1 (codes "image") ∷ name_filled 2 (codes "script") ∷ name_filled 3 (codes "path") ∷ name_filled 4 (codes "from") ∷ name_filled 5 (codes "to") ∷ help_filled 6 ∷ [])
+trace_built = run_built (codes "trace") (name_filled 3 (codes "path") ∷ name_filled 4 (codes "from") ∷ name_filled 5 (codes "to") ∷ help_filled 6 ∷ [])
+
+abbrev why_built : Shape
+why_built = run_built (codes "why") (help_filled 3 ∷ [])
+
+json_is_set : (c : List Rule) → arg_by_id c (codes "json") ≡ Some json_filled → IsSet c json_filled
+json_is_set c found = record { set = inr refl; valued = inr (omega arith); plainly = refl; found = found }
+
+option_is_set : (c : List Rule) (id : Text) → arg_by_id c id ≡ Some (option_filled id) → IsSet c (option_filled id)
+option_is_set c id found = record { set = inl refl; valued = inl refl; plainly = refl; found = found }
 
 at_is_ours : AreOurs at_built.rules
-at_is_ours =
-    (inr (fuel_is_set _ refl), (inr (name_is_set _ 1 (codes "image") refl), (inr (name_is_set _ 2 (codes "script") refl), (inr (name_is_set _ 3 (codes "moment") refl), (inl (help_is_help 4), tt)))))
+at_is_ours = (
+  inr (fuel_is_set _ refl),
+  (
+    inr (json_is_set _ refl),
+    (
+      inr (option_is_set _ (codes "source") refl),
+      (
+        inr (name_is_set _ 1 (codes "image") refl),
+        (
+          inr (name_is_set _ 2 (codes "script") refl),
+          (inr (option_is_set _ (codes "bytes") refl), (inr (name_is_set _ 3 (codes "moment") refl), (inl (help_is_help 4), tt))),
+        ),
+      ),
+    ),
+  ),
+)
 
 trace_is_ours : AreOurs trace_built.rules
-trace_is_ours =
-    (inr (fuel_is_set _ refl), (inr (name_is_set _ 1 (codes "image") refl), (inr (name_is_set _ 2 (codes "script") refl), (inr (name_is_set _ 3 (codes "path") refl), (inr (name_is_set _ 4 (codes "from") refl), (inr (name_is_set _ 5 (codes "to") refl), (inl (help_is_help 6), tt)))))))
+trace_is_ours = (
+  inr (fuel_is_set _ refl),
+  (
+    inr (json_is_set _ refl),
+    (
+      inr (option_is_set _ (codes "source") refl),
+      (
+        inr (name_is_set _ 1 (codes "image") refl),
+        (
+          inr (name_is_set _ 2 (codes "script") refl),
+          (inr (name_is_set _ 3 (codes "path") refl), (inr (name_is_set _ 4 (codes "from") refl), (inr (name_is_set _ 5 (codes "to") refl), (inl (help_is_help 6), tt)))),
+        ),
+      ),
+    ),
+  ),
+)
+
+why_is_ours : AreOurs why_built.rules
+why_is_ours = (
+  inr (fuel_is_set _ refl),
+  (
+    inr (json_is_set _ refl),
+    (
+      inr (option_is_set _ (codes "source") refl),
+      (
+        inr (name_is_set _ 1 (codes "image") refl),
+        (
+          inr (name_is_set _ 2 (codes "script") refl),
+          (inl (help_is_help 3), tt),
+        ),
+      ),
+    ),
+  ),
+)
 
 -- ---- their rows
 
--- such rows have a line, or the words for a moment in them write none
+-- such rows have a line, or they write no question
 abbrev IsDecided : Option (Text × List Row) → Type 0
-IsDecided o = IsSome (option_and_then command_line o) ⊎ HasNoMoment o
+IsDecided o = IsSome (option_and_then command_line o) ⊎ (option_and_then question_named o ≡ None)
 
-decided_by : (fuel : Option ℕ) (image script : Option Text) (named : Option (Option Moment)) → IsSome fuel → IsSome image → IsSome script → IsSome named
-    → IsSome (at_with fuel image script (written named)) ⊎ (named ≡ Some None)
-decided_by (Some n) (Some i) (Some s) (Some (Some m)) a b c d = inl refl
-decided_by (Some n) (Some i) (Some s) (Some None) a b c d = inr refl
-decided_by (Some n) (Some i) (Some s) None a b c d = absurd cc
-decided_by (Some n) (Some i) None t a b c d = absurd cc
-decided_by (Some n) None s t a b c d = absurd cc
-decided_by None i s t a b c d = absurd cc
+decided_by : (json : Bool) (source : Option Text) (fuel : Option ℕ) (image script : Option Text) (question : Option Question) → IsSome fuel → IsSome image → IsSome script
+    → IsSome (command_with json source fuel image script question) ⊎ (question ≡ None)
+decided_by json source (Some n) (Some i) (Some s) (Some q) a b c = inl refl
+decided_by json source (Some n) (Some i) (Some s) None a b c = inr refl
+decided_by json source (Some n) (Some i) None q a b c = absurd cc
+decided_by json source (Some n) None s q a b c = absurd cc
+decided_by json source None i s q a b c = absurd cc
 
-moment_there : (text : Option Text) → IsSome text → IsSome (option_map moment_in text)
-moment_there None some = absurd cc
-moment_there (Some t) some = refl
-
-events_there : (path from to : Option Text) → IsSome path → IsSome from → IsSome to → IsSome (events_of path from to)
-events_there (Some p) (Some f) (Some t) a b c = refl
-events_there (Some p) (Some f) None a b c = absurd cc
-events_there (Some p) None t a b c = absurd cc
-events_there None f t a b c = absurd cc
+decided : (p : Text × List Row) → HasValue p.1 fuel_filled → HasValue p.1 (name_filled 1 (codes "image")) → HasValue p.1 (name_filled 2 (codes "script")) → IsDecided (Some p)
+unfolding line_with
+decided p fuel image script =
+    decided_by (has_flag (codes "json") p.1) (first_of (codes "source") p.1) (fuel_of p.1) (first_of (codes "image") p.1) (first_of (codes "script") p.1) (question_named p)
+    (fuel_there p.1 fuel) (name_there 1 (codes "image") p.1 image) (name_there 2 (codes "script") p.1 script)
 
 abbrev IsAccepted : Shape → Type 0
 IsAccepted s = (words : List Text) → level_fault s [] nothing_held words false [] ≡ [] → IsDecided (Some (rows_at s words))
 
 at_accepted : IsAccepted at_built
-unfolding line_with
 at_accepted words e =
-    let rows = rows_after at_built.rules [] words in
     let l = level_complete at_built words at_is_ours e in
-    decided_by (fuel_of rows) (first_of (codes "image") rows) (first_of (codes "script") rows) (moment_from rows)
-    (fuel_there rows (l.0 (inr (omega arith)))) (name_there 1 (codes "image") rows (l.1.0 (inl refl))) (name_there 2 (codes "script") rows (l.1.1.0 (inl refl)))
-    (moment_there (first_of (codes "moment") rows) (name_there 3 (codes "moment") rows (l.1.1.1.0 (inl refl))))
+    decided (rows_at at_built words) (l.0 (inr (omega arith))) (l.1.1.1.0 (inl refl)) (l.1.1.1.1.0 (inl refl))
 
 trace_accepted : IsAccepted trace_built
-unfolding line_with
 trace_accepted words e =
-    let rows = rows_after trace_built.rules [] words in
     let l = level_complete trace_built words trace_is_ours e in
-    decided_by (fuel_of rows) (first_of (codes "image") rows) (first_of (codes "script") rows) (events_from rows)
-    (fuel_there rows (l.0 (inr (omega arith)))) (name_there 1 (codes "image") rows (l.1.0 (inl refl))) (name_there 2 (codes "script") rows (l.1.1.0 (inl refl)))
-    (events_there (first_of (codes "path") rows) (first_of (codes "from") rows) (first_of (codes "to") rows) (name_there 3 (codes "path") rows (l.1.1.1.0 (inl refl)))
-    (name_there 4 (codes "from") rows (l.1.1.1.1.0 (inl refl))) (name_there 5 (codes "to") rows (l.1.1.1.1.1.0 (inl refl))))
+    decided (rows_at trace_built words) (l.0 (inr (omega arith))) (l.1.1.1.0 (inl refl)) (l.1.1.1.1.0 (inl refl))
+
+why_accepted : IsAccepted why_built
+why_accepted words e =
+    let l = level_complete why_built words why_is_ours e in
+    decided (rows_at why_built words) (l.0 (inr (omega arith))) (l.1.1.1.0 (inl refl)) (l.1.1.1.1.0 (inl refl))
 
 -- ---- the program
 
 abbrev built_commands : List Shape
-built_commands = at_built ∷ trace_built ∷ []
+built_commands = at_built ∷ trace_built ∷ why_built ∷ []
 
 all_accepted : AllByRecursion IsAccepted built_commands
-all_accepted = (at_accepted, (trace_accepted, tt))
+all_accepted = (at_accepted, (trace_accepted, (why_accepted, tt)))
 
 accepted : (top : Shape) (stop : Option (Text × List Text)) (rows : List Row) → top.subcommand_required ≡ true → entered_fault (record { top = top; subs = built_commands }) stop ≡ []
     → check_fault top rows (is_some (entered (record { top = top; subs = built_commands }) stop)) ≡ [] → IsDecided (entered (record { top = top; subs = built_commands }) stop)
@@ -112,18 +168,18 @@ built_accepted a words only required e =
     (accepted a.top stop (finished a.top.rules end) required (subst (λ (b : App). entered_fault b stop ≡ []) same two.0) (subst (λ (b : App). check_fault a.top (finished a.top.rules end) (is_some (entered b stop)) ≡ []) same four.1))
 
 program_subs : (built program_app).subs ≡ built_commands
-unfolding program_app at_app trace_app
+unfolding program_app run_app at_app trace_app
 program_subs = refl
 
 program_required : (built program_app).top.subcommand_required ≡ true
-unfolding program_app at_app trace_app
+unfolding program_app run_app at_app trace_app
 program_required = refl
 
 is_there : (words : List Text) → fault_of program_app words ≡ [] → IsDecided (subcommand_of program_app words)
 is_there words e = built_accepted (built program_app) (argument_words program_app words) program_subs program_required e
 
 none_there : (kinds : Kinds) (o : Option (Text × List Row)) → (kinds ≡ [] → IsDecided o) → cond (is_empty kinds) (option_and_then command_line o) None ≡ None
-    → ¬ (kinds ≡ []) ⊎ HasNoMoment o
+    → ¬ (kinds ≡ []) ⊎ (option_and_then question_named o ≡ None)
 none_there [] o there none = elim (there refl) [ inl some ↦ absurd cc | inr unknown ↦ inr unknown ]
 none_there (k ∷ ks) o there none = inl (λ e. cc)
 
@@ -132,29 +188,26 @@ refused : (words : List Text) → line words ≡ None → IsRefused words
 unfolding line
 refused words none = none_there (fault_of program_app words) (subcommand_of program_app words) (is_there words) none
 
--- ---- words that write no moment
+-- ---- words that write no question
 
-no_at : (fuel : Option ℕ) (image script : Option Text) → at_with fuel image script None ≡ None
-no_at (Some n) (Some i) (Some s) = refl
-no_at (Some n) (Some i) None = refl
-no_at (Some n) None s = refl
-no_at None i s = refl
+no_command : (json : Bool) (source : Option Text) (fuel : Option ℕ) (image script : Option Text) → command_with json source fuel image script None ≡ None
+no_command json source (Some n) (Some i) (Some s) = refl
+no_command json source (Some n) (Some i) None = refl
+no_command json source (Some n) None s = refl
+no_command json source None i s = refl
 
-no_line : (rows : List Row) (named : Option (Option Moment)) → named ≡ Some None → line_with named rows ≡ None
+no_line : (o : Option (Text × List Row)) → option_and_then question_named o ≡ None → option_and_then command_line o ≡ None
 unfolding line_with
-no_line rows named none =
-    ap (λ (o : Option (Option Moment)). at_with (fuel_of rows) (first_of (codes "image") rows) (first_of (codes "script") rows) (written o)) none
-    ∙ no_at (fuel_of rows) (first_of (codes "image") rows) (first_of (codes "script") rows)
+no_line None wrong = refl
+no_line (Some p) wrong =
+    ap (λ (q : Option Question). line_with q p.1) wrong
+    ∙ no_command (has_flag (codes "json") p.1) (first_of (codes "source") p.1) (fuel_of p.1) (first_of (codes "image") p.1) (first_of (codes "script") p.1)
 
-no_command : (o : Option (Text × List Row)) → HasNoMoment o → option_and_then command_line o ≡ None
-no_command None wrong = refl
-no_command (Some p) wrong = no_line p.1 (moment_named p) wrong
-
-text_refuses : (b : Bool) (o : Option At) → o ≡ None → cond b o None ≡ None
+text_refuses : (b : Bool) (o : Option Command) → o ≡ None → cond b o None ≡ None
 text_refuses true o none = none
 text_refuses false o none = refl
 
-kinds_refuse : (kinds : Kinds) (o : Option At) → ¬ (kinds ≡ []) → cond (is_empty kinds) o None ≡ None
+kinds_refuse : (kinds : Kinds) (o : Option Command) → ¬ (kinds ≡ []) → cond (is_empty kinds) o None ≡ None
 kinds_refuse [] o some = absurd (some refl)
 kinds_refuse (k ∷ ks) o some =
     let full : is_empty (k ∷ ks) ≡ false = ne_eqb _ _ (λ z. omega arith) in
@@ -164,9 +217,9 @@ kinds_refuse (k ∷ ks) o some =
 none_at : (words : List Text) → IsRefused words → line words ≡ None
 unfolding line
 none_at words (inl fault) = kinds_refuse (fault_of program_app words) (option_and_then command_line (subcommand_of program_app words)) fault
-none_at words (inr wrong) = text_refuses (is_empty (fault_of program_app words)) (option_and_then command_line (subcommand_of program_app words)) (no_command (subcommand_of program_app words) wrong)
+none_at words (inr wrong) = text_refuses (is_empty (fault_of program_app words)) (option_and_then command_line (subcommand_of program_app words)) (no_line (subcommand_of program_app words) wrong)
 
 -- a command that is the line's is none exactly there
-pub none_where_refused : (words : List Text) (c : Option code.At) → option_map line_of c ≡ line words → (IsNone c → IsRefused words) × (IsRefused words → IsNone c)
+pub none_where_refused : (words : List Text) (c : Option code.Command) → option_map line_of c ≡ line words → (IsNone c → IsRefused words) × (IsRefused words → IsNone c)
 none_where_refused words None e = (λ _. refused words (sym e), λ _. refl)
 none_where_refused words (Some c) e = (λ n. absurd cc, λ some. let none = none_at words some in absurd cc)

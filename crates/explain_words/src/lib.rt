@@ -2,8 +2,9 @@
 #![tactic(auto)]
 
 mod apps;
-mod moment;
+mod command;
+mod question;
 mod reading;
 
-pub use moment::Moment;
-pub use reading::{At, read_line};
+pub use command::{Bytes, Command, Moment, Question};
+pub use reading::read_line;

@@ -1,6 +1,4 @@
-use Rattle.std.proofs.Common.{codes}
 use Rattle.std.proofs.lemmas.Result.{IfOk-weaker}
-use Rattle.clap.specs.Words.{new_app}
 use Rattle.command_line.proofs.AppLemmas.{arg_added}
 use Rattle.explain_words.specs.Line.{at_app}
 use Rattle.explain_words.proofs.apps.at_command.Goals as goal
@@ -8,7 +6,5 @@ use Rattle.explain_words.proofs.apps.at_command.Goals as goal
 pub returns : goal.returns
 unfolding at_app
 returns c =
-    let one = arg_added _ _ (new_app (codes "at")) _ _ c.in_ok-arg.ensures (c.new.ensures.app, c.new.ensures.local) c.fuel_argument-fuel.ensures in
-    let two = arg_added _ _ _ _ _ c.in_ok-arg-2.ensures one c.required_argument-image.ensures in
-    let three = arg_added _ _ _ _ _ c.in_ok-arg-3.ensures two c.required_argument-script.ensures in
-    IfOk-weaker c.arg-4.result _ _ (λ r adds. arg_added _ r _ _ _ adds three c.required_argument-moment.ensures) c.arg-4.ensures
+    let one = arg_added _ _ _ _ _ c.in_ok-arg.ensures c.in_ok-run.ensures c.option-bytes.ensures in
+    IfOk-weaker c.arg-2.result _ _ (λ r adds. arg_added _ r _ _ _ adds one c.required_argument-moment.ensures) c.arg-2.ensures

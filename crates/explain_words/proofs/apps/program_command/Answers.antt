@@ -3,7 +3,7 @@ use Rattle.std.proofs.lemmas.Result.{IfOk-weaker}
 use Rattle.clap.specs.Simple.{app_of_fields, on_top}
 use Rattle.command_line.specs.Line.{IsApp}
 use Rattle.command_line.proofs.AppLemmas.{subcommand_added}
-use Rattle.explain_words.specs.Line.{at_app, program_app, start, trace_app}
+use Rattle.explain_words.specs.Line.{at_app, program_app, start, trace_app, why_app}
 use Rattle.explain_words.proofs.apps.program_command.Goals as goal
 
 pub returns : goal.returns
@@ -16,4 +16,5 @@ returns c =
       ap (λ f. f.has_globals) no_help ∙ ap (λ f. f.has_globals) required ∙ c.new.ensures.local,
     ) in
     let one = subcommand_added _ _ _ start at_app c.in_ok-subcommand.ensures start_is c.in_ok-at.ensures in
-    IfOk-weaker c.subcommand-2.result _ _ (λ r adds. subcommand_added _ _ r _ trace_app adds one c.in_ok-trace.ensures) c.subcommand-2.ensures
+    let two = subcommand_added _ _ _ _ trace_app c.in_ok-subcommand-2.ensures one c.in_ok-trace.ensures in
+    IfOk-weaker c.subcommand-3.result _ _ (λ r adds. subcommand_added _ _ r _ why_app adds two c.in_ok-why.ensures) c.subcommand-3.ensures
