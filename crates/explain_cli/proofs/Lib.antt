@@ -1,2 +1,4 @@
 pub mod Courses
+pub mod Files
 pub mod Promises
+pub mod Sources

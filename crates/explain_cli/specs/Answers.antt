@@ -10,63 +10,89 @@ use Rattle.det_cli.specs.declared.end.End as det
 use Rattle.det_cli.specs.declared.end.End.TheVariants.{ReadFault, WriteFault, NoMemory}
 use Rattle.det_cli.specs.Status.{IsBad}
 use Rattle.det_cli.specs.Files.{Expectation, Input, ReadFiles, Step, refusal_at, told_files}
-use Rattle.det_cli.specs.Commands.{devices_of_file, expectation_of_bytes, image_of_file, image_step, script_step}
+use Rattle.det_cli.specs.Commands.{devices_of_file, expectation_of_bytes, image_of_file, image_step, script_step, source_step}
 use Rattle.det_cli.specs.Answers.{IsUnasked, Later}
-use Rattle.explain_words.specs.Line.{At, line, IsRefused}
+use Rattle.symbols.specs.Symbols.{Symbol}
+use Rattle.image_symbols.specs.Labels.{AreLabelsOf}
+use Rattle.explain_words.specs.Line.{Command, line, IsRefused}
 use Rattle.explain_cli.specs.declared.end.End.{End}
 use Rattle.explain_cli.specs.declared.end.End.TheVariants.{Shown, Usage, Failed}
 use Rattle.explain_cli.specs.Ends.{line_text}
-use Rattle.explain_cli.specs.Explains.{Explains, NeverComes, Shows, absent}
+use Rattle.explain_cli.specs.Explains.{Explains, NeverComes, Shows}
 
--- the files of a run, in the order of the words
-abbrev pub steps_of : At → List Step
-steps_of a = image_step a.image ∷ script_step a.script ∷ []
+-- the source that gives names, where one is given
+abbrev pub source_steps : Option (List ℕ) → List Step
+source_steps None = []
+source_steps (Some name) = source_step name ∷ []
+
+-- the files of a command, in the order in which they are read
+abbrev pub steps_of : Command → List Step
+steps_of c = image_step c.image ∷ script_step c.script ∷ source_steps c.source
 
 -- that none of them is refused decides as well, so that no more are asked for
 abbrev pub all_read : List (List ℕ) → Option Expectation
 all_read files = Some (expectation_of_bytes [])
 
--- what the first files decide: nothing as yet; or that one is refused, and how; or what is to be run
+-- what the first files decide: nothing as yet; or that one is refused, and how; or what is to be run, and the source that gives names
 pub data Decision : Type 0 where
   undecided : Decision
   refused : det.End → Decision
-  run : Image → Devices → Decision
+  run : Image → Devices → Option (List ℕ) → Decision
 
 -- a refusal, where there is one; else the rest
 abbrev pub refused_or : Option det.End → Decision → Decision
 refused_or None rest = rest
 refused_or (Some e) rest = refused e
 
-abbrev pub run_of : Result Image det.End → Result Devices det.End → Decision
-run_of (Ok image) (Ok devices) = run image devices
-run_of image devices = undecided
+-- the refusal of the first file that is refused; else what all of them make; nothing while one is still to be read
+abbrev pub decide : List Step → (List (List ℕ) → Decision) → List (List ℕ) → Decision
+decide [] whole files = whole []
+decide (s ∷ ss) whole [] = undecided
+decide (s ∷ ss) whole (f ∷ fs) = refused_or (refusal_at s f) (decide ss (λ rest. whole (f ∷ rest)) fs)
 
-abbrev pub decision_of : At → List (List ℕ) → Decision
-decision_of a [] = undecided
-decision_of a (image ∷ []) = refused_or (refusal_at (image_step a.image) image) undecided
-decision_of a (image ∷ script ∷ rest) = refused_or (refusal_at (image_step a.image) image)
-    (refused_or (refusal_at (script_step a.script) script) (run_of (image_of_file image) (devices_of_file script)))
+abbrev pub run_of : Result Image det.End → Result Devices det.End → Option (List ℕ) → Decision
+run_of (Ok image) (Ok devices) source = run image devices source
+run_of image devices source = undecided
+
+-- a file more, where there is one
+abbrev pub first_of : List (List ℕ) → Option (List ℕ)
+first_of [] = None
+first_of (source ∷ rest) = Some source
+
+-- what all files of a command make
+abbrev pub whole_of : List (List ℕ) → Decision
+whole_of (image ∷ script ∷ rest) = run_of (image_of_file image) (devices_of_file script) (first_of rest)
+whole_of files = undecided
+
+abbrev pub decision_of : Command → List (List ℕ) → Decision
+decision_of c files = decide (steps_of c) whole_of files
+
+-- the symbols that a source gives, where there is one: its labels
+abbrev pub AreSymbolsOf : Option (List ℕ) → Option (List Symbol) → Type 0
+AreSymbolsOf None None = Unit {0}
+AreSymbolsOf (Some source) (Some symbols) = AreLabelsOf source symbols
+AreSymbolsOf source symbols = ⊥
 
 -- What comes of that which the files decide. While they decide nothing, a load failed or memory ran out, and nothing is written. At a refusal
--- nothing is written. Else the moment is shown, of the tree that the image boots to with these devices and this fuel.
-abbrev pub Ends : At → Decision → Input → Output → End → Type 0
-Ends a undecided i out end = IsUntouched out × (((end ≡ Failed ReadFault) × Rose i.faults_before i.faults_after) ⊎ (end ≡ Failed NoMemory))
-Ends a (refused e) i out end = IsBad e × IsUntouched out × ((end ≡ Failed e) ⊎ (end ≡ Failed NoMemory))
-Ends a (run image devices) i out end = Explains (boot image devices a.fuel) a.moment out end
+-- nothing is written. Else the question is answered, of the tree that the image boots to with these devices and this fuel.
+abbrev pub Ends : Command → Decision → Input → Output → End → Type 0
+Ends c undecided i out end = IsUntouched out × (((end ≡ Failed ReadFault) × Rose i.faults_before i.faults_after) ⊎ (end ≡ Failed NoMemory))
+Ends c (refused e) i out end = IsBad e × IsUntouched out × ((end ≡ Failed e) ⊎ (end ≡ Failed NoMemory))
+Ends c (run image devices source) i out end = (symbols : Option (List Symbol)) × AreSymbolsOf source symbols × Explains (boot image devices c.fuel) c symbols out end
 
 -- How a command goes: there are files, those that are told among them, which decide how it ends.
-pub record Course (a : At) (i : Input) (out : Output) (end : End) : Type 0 where
+pub record Course (c : Command) (i : Input) (out : Output) (end : End) : Type 0 where
   pub contents : List (List ℕ)
-  pub files : ReadFiles (steps_of a) all_read contents i
-  pub ends : Ends a (decision_of a contents) i out end
+  pub files : ReadFiles (steps_of c) all_read contents i
+  pub ends : Ends c (decision_of c contents) i out end
 
 -- with no command nothing is loaded and nothing is written
 abbrev pub NoCourse : Input → Output → End → Type 0
 NoCourse i out end = ((end ≡ Usage) ⊎ (end ≡ Failed NoMemory)) × IsUnasked i × IsUntouched out
 
-abbrev pub CourseOf : Option At → Input → Output → End → Type 0
+abbrev pub CourseOf : Option Command → Input → Output → End → Type 0
 CourseOf None i out end = NoCourse i out end
-CourseOf (Some a) i out end = Course a i out end
+CourseOf (Some c) i out end = Course c i out end
 
 -- The line of an end, in a sink behind what it had taken: the whole line; or a part of it, where a fault stopped it; or memory ran out, behind some
 -- first bytes of some end's line.
@@ -93,12 +119,12 @@ pub record Begun (words : List (List ℕ)) (i : Input) (out : Output) (end : End
   -- what is loaded and written, whatever is told
   pub course : CourseOf (line words) i out end
   -- what is told decides: then that is the end, or a load failed
-  pub expected : (a : At) → line words ≡ Some a → (d : Decision) → decision_of a (told_files (steps_of a) i.told) ≡ d → (d ≡ undecided → ⊥)
-      → Ends a d i out end ⊎ Ends a undecided i out end
-  -- where what is told is a run and no count rose, the moment is shown whole, or it never comes, unless memory ran out
-  pub complete : (a : At) → line words ≡ Some a → (image : Image) (devices : Devices) → decision_of a (told_files (steps_of a) i.told) ≡ run image devices → IsQuiet i out
-      → ((end ≡ Shown) × (text : List ℕ) × Shows (boot image devices a.fuel) a.moment text × Wrote out text)
-      ⊎ ((end ≡ absent a.moment.event) × NeverComes (boot image devices a.fuel) a.moment × IsUntouched out)
+  pub expected : (c : Command) → line words ≡ Some c → (d : Decision) → decision_of c (told_files (steps_of c) i.told) ≡ d → (d ≡ undecided → ⊥)
+      → Ends c d i out end ⊎ Ends c undecided i out end
+  -- where what is told is a run and no count rose, the answer is written whole, or the moment never comes, unless memory ran out
+  pub complete : (c : Command) → line words ≡ Some c → (image : Image) (devices : Devices) (source : Option (List ℕ)) → decision_of c (told_files (steps_of c) i.told) ≡ run image devices source → IsQuiet i out
+      → ((end ≡ Shown) × (symbols : Option (List Symbol)) × AreSymbolsOf source symbols × (text : List ℕ) × Shows (boot image devices c.fuel) c symbols text × Wrote out text)
+      ⊎ (NeverComes (boot image devices c.fuel) c.question end × IsUntouched out)
       ⊎ (end ≡ Failed NoMemory)
   -- the causes that the files do not tell
   pub read_fault : end ≡ Failed ReadFault → Rose i.faults_before i.faults_after

@@ -18,5 +18,5 @@ abbrev pub line_text : End → List ℕ
 line_text Shown = []
 line_text NoEvent = codes "explain: no such event" ++ 10 ∷ []
 line_text NoSpace = codes "explain: no such space" ++ 10 ∷ []
-line_text Usage = codes "explain: usage: at|trace" ++ 10 ∷ []
+line_text Usage = codes "explain: usage: at|trace|why" ++ 10 ∷ []
 line_text (Failed failure) = fault_line failure

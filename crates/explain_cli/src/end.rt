@@ -6,7 +6,7 @@ use det_cli::End as Failure;
 /// How a call of the program ended.
 #[derive(Clone, Copy, Debug, PartialEq, Eq)]
 pub enum End {
-    /// The text of the space was written.
+    /// The answer was written.
     Shown,
     /// In no order of events has the space an event of this number.
     NoEvent,
@@ -14,7 +14,7 @@ pub enum End {
     NoSpace,
     /// The words are no command.
     Usage,
-    /// A file is refused or could not be loaded, the text could not be written whole, or memory ran out: an end of `det`.
+    /// A file is refused or could not be loaded, the answer could not be written whole, or memory ran out: an end of `det`.
     Failed(Failure),
 }
 

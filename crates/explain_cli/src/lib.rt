@@ -4,6 +4,7 @@
 mod end;
 mod explaining;
 mod main_call;
+mod names;
 mod program;
 mod reading;
 mod saying;

@@ -5,22 +5,27 @@ ghost use Rattle.explain_words.specs.Line.{IsInRange, line_of};
 ghost use Rattle.explain_cli.specs.Answers.{Begun, Course};
 
 use crate::end::End;
-use crate::explaining::show_moment;
+use crate::explaining::explain_run;
 use crate::reading::read_run;
 use det_cli::End as Failure;
 use det_host::{Loader, Sink};
-use explain_words::{At, read_line};
+use explain_words::{Command, read_line};
 use std::alloc::Global;
 
 // Does what a command asks for.
-fn carry_out<L: Loader, O: Sink>(alloc: Global, at: &At<'_>, files: &mut L, out: &mut O) -> End
-    requires { IsInRange (line_of at.now) }
-    ensures course { Course (line_of at.now) (input_of L.told L.asked L.faults files.old files.new) (output_of O.taken O.faults out.old out.new) result }
+fn carry_out<L: Loader, O: Sink>(
+    alloc: Global,
+    command: &Command<'_>,
+    files: &mut L,
+    out: &mut O,
+) -> End
+    requires { IsInRange (line_of command.now) }
+    ensures course { Course (line_of command.now) (input_of L.told L.asked L.faults files.old files.new) (output_of O.taken O.faults out.old out.new) result }
     ensures files_later { L.faults files.old ≤ L.faults files.new }
     ensures out_later { O.faults out.old ≤ O.faults out.new }
 {
-    match read_run(alloc, files, at) {
-        Ok((image, devices)) => show_moment(alloc, at, &image, devices, out),
+    match read_run(alloc, files, command) {
+        Ok(loaded) => explain_run(alloc, command, loaded, out),
         Err(failure) => End::Failed(failure),
     }
 }
@@ -40,7 +45,7 @@ pub(crate) fn begin<L: Loader, O: Sink>(
         return End::Failed(Failure::NoMemory);
     };
     match named {
-        Some(at) => carry_out(alloc, &at, files, out),
+        Some(command) => carry_out(alloc, &command, files, out),
         None => End::Usage,
     }
 }

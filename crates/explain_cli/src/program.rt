@@ -17,9 +17,8 @@ pub struct Exit {
     pub status: u8,
 }
 
-/// Does all that the program does: reads the words, loads the image and the script that they name, and writes to `out` what is shown of the space at
-/// the path that they name, just behind the own event of the number that they name, or where all have stopped if they name none; then writes the line
-/// of an end that is no success to `err`.
+/// Does all that the program does: reads the words, loads the image and the script that they name, and writes to `out` the answer to what they ask about the run; then
+/// writes the line of an end that is no success to `err`.
 ///
 /// Where the loader does not tell a file, there are bytes of which all of this is true. Of sinks that do not tell what they took the counts are
 /// promised all the same. It starts no threads and waits for none.

@@ -20,7 +20,7 @@ pub fn write_line<E: Sink>(alloc: Global, end: &End, err: &mut E) -> Result<(), 
         End::Shown => write_all(err, "".as_bytes()),
         End::NoEvent => write_all(err, "explain: no such event\n".as_bytes()),
         End::NoSpace => write_all(err, "explain: no such space\n".as_bytes()),
-        End::Usage => write_all(err, "explain: usage: at|trace\n".as_bytes()),
+        End::Usage => write_all(err, "explain: usage: at|trace|why\n".as_bytes()),
         End::Failed(failure) => write_fault(alloc, failure, err),
     }
 }
