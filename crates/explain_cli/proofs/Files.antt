@@ -11,7 +11,7 @@ use Rattle.det_cli.specs.Stages as det_stages
 use Rattle.det_cli.specs.Stages.{GivesExpectation, ReadsFile}
 use Rattle.det_cli.proofs.Stages.{file_stopped}
 use Rattle.explain_cli.specs.declared.reading.Loaded.{Loaded}
-use Rattle.explain_cli.specs.Answers.{AreSymbolsOf, Decision, all_read, decide, refused, refused_or, run, source_steps, undecided, whole_of}
+use Rattle.explain_cli.specs.Answers.{AreNames, Decision, all_read, decide, refused, refused_or, run, source_steps, undecided, whole_of}
 use Rattle.explain_cli.specs.Stages.{Decides, Reads, symbols_of}
 
 -- ---- a file that stops the reading
@@ -85,7 +85,7 @@ then_others reads s ss whole told now a b c x y z u r (asked, (bytes, (agrees, (
     }
 
 -- no file is left, and what all of them make is to be run
-pub all_were_read : (whole : List (List ℕ) → Decision) (i : Input) (x : Loaded) (source : Option (List ℕ)) → whole [] ≡ run x.image x.devices source → AreSymbolsOf source (symbols_of x.names) → i.asked_after ≡ i.asked_before
+pub all_were_read : (whole : List (List ℕ) → Decision) (i : Input) (x : Loaded) (source : Option (List ℕ)) → whole [] ≡ run x.image x.devices source → AreNames source (symbols_of x.names) → i.asked_after ≡ i.asked_before
     → Reads [] whole i (Ok x)
 all_were_read whole i x source made are unasked = record {
   contents = [];

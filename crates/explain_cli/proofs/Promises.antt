@@ -15,7 +15,7 @@ use Rattle.explain_cli.specs.declared.end.End.{End}
 use Rattle.explain_cli.specs.declared.end.End.TheVariants.{Shown, Usage, Failed}
 use Rattle.explain_cli.specs.Ends.{status_of}
 use Rattle.explain_cli.specs.Explains.{Explains, IsNowhere, NeverComes, Shows}
-use Rattle.explain_cli.specs.Answers.{AreSymbolsOf, Begun, Course, CourseOf, Decision, Ends, IsQuiet, decision_of, refused, run, steps_of, undecided, whole_of}
+use Rattle.explain_cli.specs.Answers.{AreNames, Begun, Course, CourseOf, Decision, Ends, IsQuiet, decision_of, refused, run, steps_of, undecided, whole_of}
 use Rattle.explain_cli.proofs.Courses.{memory_of, unread}
 use Rattle.explain_cli.proofs.Files.{decided}
 
@@ -83,11 +83,11 @@ expected c i out end d h e some = elim (decided (steps_of c) whole_of i.told h.c
 
 abbrev Complete : Space → Command → Option (List ℕ) → Output → End → Type 0
 Complete root c source out end =
-    ((end ≡ Shown) × (symbols : Option (List Symbol)) × AreSymbolsOf source symbols × (text : List ℕ) × Shows root c symbols text × Wrote out text)
+    ((end ≡ Shown) × (symbols : Option (List Symbol)) × AreNames source symbols × (text : List ℕ) × Shows root c symbols text × Wrote out text)
     ⊎ (NeverComes root c.question end × IsUntouched out)
     ⊎ (end ≡ Failed NoMemory)
 
-answered : (root : Space) (c : Command) (source : Option (List ℕ)) (symbols : Option (List Symbol)) (i : Input) (out : Output) (end : End) → IsQuiet i out → AreSymbolsOf source symbols → Explains root c symbols out end → Complete root c source out end
+answered : (root : Space) (c : Command) (source : Option (List ℕ)) (symbols : Option (List Symbol)) (i : Input) (out : Output) (end : End) → IsQuiet i out → AreNames source symbols → Explains root c symbols out end → Complete root c source out end
 answered root c source symbols i out end quiet are (inl (same, text, shows, wrote)) = inl (same, symbols, are, text, shows, wrote)
 answered root c source symbols i out end quiet are (inr (inl h)) = inr (inl h)
 answered root c source symbols i out end quiet are (inr (inr (inl (same, text, shows, stop)))) = absurd (quiet (inr stop.1))

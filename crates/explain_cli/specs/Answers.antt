@@ -1,29 +1,38 @@
 -- What a call of the program answers and writes.
 -- Our choice: the ends of a call, their causes, and what each leaves.
-use Rattle.std.specs.Prelude.{◌≡◌, ◌⊎◌, ℕ, List, [], ◌∷◌, Option, Some, None, Result, Ok}
+use Rattle.std.specs.Prelude.{◌≡◌, ◌⊎◌, ℕ, List, [], ◌∷◌, Option, Some, None, Result, Ok, if◌then◌else◌}
 use Rattle.det_host.specs.Outside.{Rose}
 use Rattle.det_host.specs.Writing.{Output, IsUntouched, Wrote, WrotePrefix, StopsWithin}
 use Rattle.image_model.specs.Image.{Image}
+use Rattle.elf_model.specs.Elf.{is_elf}
 use Rattle.device_model.specs.Devices.{Devices}
 use Rattle.run_model.specs.Boot.{boot}
 use Rattle.det_cli.specs.declared.end.End as det
 use Rattle.det_cli.specs.declared.end.End.TheVariants.{ReadFault, WriteFault, NoMemory}
 use Rattle.det_cli.specs.Status.{IsBad}
 use Rattle.det_cli.specs.Files.{Expectation, Input, ReadFiles, Step, refusal_at, told_files}
-use Rattle.det_cli.specs.Commands.{devices_of_file, expectation_of_bytes, image_of_file, image_step, script_step, source_step}
+use Rattle.det_cli.specs.Commands.{devices_of_file, expectation_of_bytes, image_of_file, image_of_source, image_step, refusal_of, script_step}
 use Rattle.det_cli.specs.Answers.{IsUnasked, Later}
 use Rattle.symbols.specs.Symbols.{Symbol}
-use Rattle.image_symbols.specs.Labels.{AreLabelsOf}
+use Rattle.image_symbols.specs.Files.{AreSymbolsOf}
 use Rattle.explain_words.specs.Line.{Command, line, IsRefused}
 use Rattle.explain_cli.specs.declared.end.End.{End}
 use Rattle.explain_cli.specs.declared.end.End.TheVariants.{Shown, Usage, Failed}
 use Rattle.explain_cli.specs.Ends.{line_text}
 use Rattle.explain_cli.specs.Explains.{Explains, NeverComes, Shows}
 
--- the source that gives names, where one is given
+-- a file gives names that is an executable file, or else a source of `det asm`
+abbrev pub refusal_of_names : List ℕ → Option det.End
+refusal_of_names bytes = if is_elf bytes then None else refusal_of (image_of_source bytes)
+
+-- and it may be as large as an image
+abbrev pub names_step : List ℕ → Step
+names_step name = record (image_step name) { refuse = λ bytes. refusal_of_names bytes }
+
+-- the file that gives names, where one is given
 abbrev pub source_steps : Option (List ℕ) → List Step
 source_steps None = []
-source_steps (Some name) = source_step name ∷ []
+source_steps (Some name) = names_step name ∷ []
 
 -- the files of a command, in the order in which they are read
 abbrev pub steps_of : Command → List Step
@@ -33,7 +42,7 @@ steps_of c = image_step c.image ∷ script_step c.script ∷ source_steps c.sour
 abbrev pub all_read : List (List ℕ) → Option Expectation
 all_read files = Some (expectation_of_bytes [])
 
--- what the first files decide: nothing as yet; or that one is refused, and how; or what is to be run, and the source that gives names
+-- what the first files decide: nothing as yet; or that one is refused, and how; or what is to be run, and the file that gives names
 pub data Decision : Type 0 where
   undecided : Decision
   refused : det.End → Decision
@@ -67,18 +76,18 @@ whole_of files = undecided
 abbrev pub decision_of : Command → List (List ℕ) → Decision
 decision_of c files = decide (steps_of c) whole_of files
 
--- the symbols that a source gives, where there is one: its labels
-abbrev pub AreSymbolsOf : Option (List ℕ) → Option (List Symbol) → Type 0
-AreSymbolsOf None None = Unit {0}
-AreSymbolsOf (Some source) (Some symbols) = AreLabelsOf source symbols
-AreSymbolsOf source symbols = ⊥
+-- the symbols that a file gives, where there is one
+abbrev pub AreNames : Option (List ℕ) → Option (List Symbol) → Type 0
+AreNames None None = Unit {0}
+AreNames (Some file) (Some symbols) = AreSymbolsOf file symbols
+AreNames source symbols = ⊥
 
 -- What comes of that which the files decide. While they decide nothing, a load failed or memory ran out, and nothing is written. At a refusal
 -- nothing is written. Else the question is answered, of the tree that the image boots to with these devices and this fuel.
 abbrev pub Ends : Command → Decision → Input → Output → End → Type 0
 Ends c undecided i out end = IsUntouched out × (((end ≡ Failed ReadFault) × Rose i.faults_before i.faults_after) ⊎ (end ≡ Failed NoMemory))
 Ends c (refused e) i out end = IsBad e × IsUntouched out × ((end ≡ Failed e) ⊎ (end ≡ Failed NoMemory))
-Ends c (run image devices source) i out end = (symbols : Option (List Symbol)) × AreSymbolsOf source symbols × Explains (boot image devices c.fuel) c symbols out end
+Ends c (run image devices source) i out end = (symbols : Option (List Symbol)) × AreNames source symbols × Explains (boot image devices c.fuel) c symbols out end
 
 -- How a command goes: there are files, those that are told among them, which decide how it ends.
 pub record Course (c : Command) (i : Input) (out : Output) (end : End) : Type 0 where
@@ -123,7 +132,7 @@ pub record Begun (words : List (List ℕ)) (i : Input) (out : Output) (end : End
       → Ends c d i out end ⊎ Ends c undecided i out end
   -- where what is told is a run and no count rose, the answer is written whole, or the moment never comes, unless memory ran out
   pub complete : (c : Command) → line words ≡ Some c → (image : Image) (devices : Devices) (source : Option (List ℕ)) → decision_of c (told_files (steps_of c) i.told) ≡ run image devices source → IsQuiet i out
-      → ((end ≡ Shown) × (symbols : Option (List Symbol)) × AreSymbolsOf source symbols × (text : List ℕ) × Shows (boot image devices c.fuel) c symbols text × Wrote out text)
+      → ((end ≡ Shown) × (symbols : Option (List Symbol)) × AreNames source symbols × (text : List ℕ) × Shows (boot image devices c.fuel) c symbols text × Wrote out text)
       ⊎ (NeverComes (boot image devices c.fuel) c.question end × IsUntouched out)
       ⊎ (end ≡ Failed NoMemory)
   -- the causes that the files do not tell

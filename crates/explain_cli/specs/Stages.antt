@@ -10,7 +10,7 @@ use Rattle.symbols.specs.Symbols.{Symbol}
 use Rattle.explain_words.specs.Line.{Command}
 use Rattle.explain_cli.specs.declared.names.Names.{Names}
 use Rattle.explain_cli.specs.declared.reading.Loaded.{Loaded}
-use Rattle.explain_cli.specs.Answers.{AreSymbolsOf, Decision, all_read, decide, undecided, refused, run, steps_of, whole_of}
+use Rattle.explain_cli.specs.Answers.{AreNames, Decision, all_read, decide, undecided, refused, run, steps_of, whole_of}
 
 -- the symbols of what gives names
 abbrev pub symbols_of : Option Names → Option (List Symbol)
@@ -22,7 +22,7 @@ Decides undecided i (Ok x) = ⊥
 Decides undecided i (Err f) = ((f ≡ ReadFault) × Rose i.faults_before i.faults_after) ⊎ (f ≡ NoMemory)
 Decides (refused e) i (Ok x) = ⊥
 Decides (refused e) i (Err f) = IsBad e × ((f ≡ e) ⊎ (f ≡ NoMemory))
-Decides (run image devices source) i (Ok x) = (image ≡ x.image) × (devices ≡ x.devices) × AreSymbolsOf source (symbols_of x.names)
+Decides (run image devices source) i (Ok x) = (image ≡ x.image) × (devices ≡ x.devices) × AreNames source (symbols_of x.names)
 Decides (run image devices source) i (Err f) = ⊥
 
 -- files were read, and this is answered

@@ -13,7 +13,7 @@ pub struct Command<'a> {
     pub image: &'a str,
     /// The script's file name.
     pub script: &'a str,
-    /// The file name of the source whose labels name addresses: `--source`, or none.
+    /// The name of the file that gives names to addresses, a source or an executable file: `--source`, or none.
     pub source: Option<&'a str>,
 }
 

@@ -1,5 +1,5 @@
 use Rattle.std.proofs.Common.{inl, refl, subst}
-use Rattle.rv_asm.specs.View.{Refuses}
+use Rattle.image_symbols.specs.Files.{Tells}
 use Rattle.explain_cli.proofs.Sources.{refused_with, taken}
 use Rattle.explain_cli.proofs.names.read_names.Goals as goal
 
@@ -8,4 +8,4 @@ returns-in-Ok-clause-judged c = taken c.args.bytes.now (λ e h. let no = c.in-Ok
 
 pub returns-in-Err-Bad-clause-judged : goal.returns-in-Err-Bad-clause-judged
 returns-in-Err-Bad-clause-judged c =
-    inl (refused_with c.args.bytes.now c.in-Err-Bad.e (subst (λ f. Refuses f c.args.bytes.now) c.in-Err-Bad.field-0-is c.in-Err-Bad.ensures.fault), refl)
+    inl (refused_with c.args.bytes.now c.in-Err-Bad.e (subst (λ f. Tells f c.args.bytes.now) c.in-Err-Bad.field-0-is c.in-Err-Bad.ensures.fault), refl)
