@@ -1,5 +1,5 @@
 -- What is told of the spaces of a settled tree.
-use Rattle.std.proofs.Common.{◌≡◌, ℕ, true, List, [], ◌∷◌, ◌++◌, Option, Some, None, refl, sym, ap, ◌∙◌, subst}
+use Rattle.std.proofs.Common.{◌≡◌, ℕ, true, List, [], ◌++◌, Some, None, refl, sym, ap, ◌∙◌, subst}
 use Rattle.std.specs.Prelude.{option_map}
 use Rattle.memory_model.specs.Memory.{Memory}
 use Rattle.file_model.specs.Sizes.{slot_count}
@@ -32,9 +32,11 @@ top_told root r end p t m stop files text is same why told grown =
 
 -- of one that stands there, what is told of its top
 pub there : (root end s : Space) (p : List ℕ) (t : Top) (text : List ℕ) → at p end ≡ Some s → t ≡ top_of s → ExplainsTop root end p (Some t) text → ExplainsSpace root end p text
+unfolding ExplainsSpace
 there root end s p t text is top told = subst (λ o. ExplainsTop root end p (option_map top_of o) text) (sym is) (subst (λ u. ExplainsTop root end p (Some u) text) top told)
 
 pub nowhere : (root end : Space) (p text : List ℕ) → at p end ≡ None → text ≡ [] → ExplainsSpace root end p text
+unfolding ExplainsSpace
 nowhere root end p text none empty = subst (λ o. ExplainsTop root end p (option_map top_of o) text) (sym none) empty
 
 -- of all of them

@@ -121,7 +121,7 @@ ExplainsTop root end p (Some t) text =
     (stop : List ℕ) × (files : List ℕ) × ExplainsStop root end p t (ending_of t.status) stop × HasParts (ExplainsSlot root p t.memory) (numbers_below slot_count) files × (text ≡ stop ++ files)
 
 -- of the space at a path of the settled tree
-abbrev pub ExplainsSpace : Space → Space → List ℕ → List ℕ → Type 0
+unfoldable pub ExplainsSpace : Space → Space → List ℕ → List ℕ → Type 0
 ExplainsSpace root end p text = ExplainsTop root end p (top_at p end) text
 
 -- where there is nothing to tell of, it says so

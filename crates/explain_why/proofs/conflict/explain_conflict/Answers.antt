@@ -1,7 +1,6 @@
-use Rattle.std.proofs.Common.{◌≡◌, List, Option, refl, ap, ◌∙◌, subst}
+use Rattle.std.proofs.Common.{◌≡◌, ap, ◌∙◌, subst}
 use Rattle.std.specs.Prelude.{option_map, slice_index}
 use Rattle.std.proofs.lemmas.Result.{IfOk-weaker}
-use Rattle.arrayvec.specs.ArrayVec.{ArrayVec}
 use Rattle.space_model.specs.Space.{Top}
 use Rattle.explain_why.specs.Origin.{child_path}
 use Rattle.explain_why.proofs.Joins.{joined}

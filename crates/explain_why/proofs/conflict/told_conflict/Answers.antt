@@ -1,4 +1,4 @@
-use Rattle.std.proofs.Common.{◌≡◌, ◌++◌, codes, ap, ◌∙◌, subst}
+use Rattle.std.proofs.Common.{◌++◌, codes, ap, ◌∙◌, subst}
 use Rattle.std.specs.Prelude.{slice_index, string_bytes}
 use Rattle.memory_model.specs.Memory.{byte_at}
 use Rattle.space_model.specs.Space.{Top}

@@ -1,5 +1,4 @@
 use Rattle.std.proofs.Common.{◌≡◌}
-use Rattle.space_model.specs.Sound.{IsSound}
 use Rattle.explain_why.specs.Parts.{HasParts, numbers_below}
 use Rattle.explain_why.specs.Why.{ExplainsSlot}
 use Rattle.explain_why.proofs.files.explain_files.Given as goal

@@ -1,4 +1,4 @@
-use Rattle.std.proofs.Common.{◌≡◌, [], ◌∷◌, ◌++◌, codes, IfSome, IsNone, refl, sym, ap, ap₂, ◌∙◌, subst}
+use Rattle.std.proofs.Common.{[], ◌∷◌, ◌++◌, codes, IfSome, IsNone, refl, sym, ap, ap₂, ◌∙◌, subst}
 use Rattle.std.proofs.lemmas.Result.{IfOk-weaker}
 use Rattle.explain_core.specs.Watch.{noted_of}
 use Rattle.explain_why.specs.Origin.{IsLeftBy, TellsOrigin}

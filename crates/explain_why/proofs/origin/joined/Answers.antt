@@ -1,4 +1,3 @@
-use Rattle.std.proofs.Common.{arith}
 use Rattle.explain_core.specs.Watch.{noted_of}
 use Rattle.explain_why.proofs.Origins.{happens}
 use Rattle.explain_why.proofs.origin.joined.Goals as goal

@@ -1,6 +1,5 @@
-use Rattle.std.proofs.Common.{◌≡◌, ◌∙◌, refl, sym, subst, arith, rules}
+use Rattle.std.proofs.Common.{◌∙◌, sym, subst, rules}
 use Rattle.space_model.specs.Sound.{IsSound}
-use Rattle.explain_why.specs.Parts.{HasParts}
 use Rattle.explain_why.specs.Why.{ExplainsSpace}
 use Rattle.explain_why.proofs.Parts.{next_of}
 use Rattle.explain_why.proofs.telling.explain_all.Goals as goal
