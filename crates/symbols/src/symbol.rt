@@ -1,8 +1,8 @@
-ghost use Rattle.std.specs.Prelude.{◌≡◌, ◌≤◌, [], true, false, leb, length, map, option_map, IfOk};
+ghost use Rattle.std.specs.Prelude.{◌≡◌, ◌≤◌, true, false, leb, length, map, option_map, IfOk};
 ghost use Rattle.std.specs.List.Sorted.{IsNonDecreasingBy, IsPartitionPoint};
 ghost use Rattle.symbols.specs.Symbols.{IsArranged, place_at, place_of, symbol_of};
 
-use std::alloc::{AllocError, Global};
+use std::alloc::AllocError;
 use std::marker::Model;
 
 /// A name of an address.
@@ -55,15 +55,6 @@ fn count_up_to(symbols: &[Symbol], address: u32) -> usize
 }
 
 impl Symbols {
-    /// No symbols.
-    pub fn none(alloc: Global) -> Symbols
-        ensures { result ≡ [] }
-    {
-        Symbols {
-            symbols: Vec::new(alloc),
-        }
-    }
-
     /// These symbols in ascending order of their addresses; those of one address stay in their order. The one error is want of memory.
     pub fn new(symbols: Vec<Symbol>) -> Result<Symbols, AllocError>
         ensures { IfOk result (λ s. IsArranged (map symbol_of symbols.items) s) }
