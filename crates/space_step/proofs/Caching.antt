@@ -26,7 +26,7 @@ other_byte byte a One v q aligned other = grind (arith, nat_tests, common_steps)
 other_byte byte a Two v q aligned other = grind (arith, nat_tests, common_steps)
 other_byte byte a Four v q aligned other = grind (arith, nat_tests, common_steps)
 
-byte_stays : (m : Memory) (a : ℕ) (w : Width) (v q : ℕ) → a % width_bytes w ≡ 0 → (q / 4 ≡ a / 4 → ⊥) → byte_at (with_number m a w v) q ≡ byte_at m q
+pub byte_stays : (m : Memory) (a : ℕ) (w : Width) (v q : ℕ) → a % width_bytes w ≡ 0 → (q / 4 ≡ a / 4 → ⊥) → byte_at (with_number m a w v) q ≡ byte_at m q
 byte_stays m a w v q aligned other = byte_stored m a w v q ∙ other_byte (byte_at m) a w v q aligned other
 
 number_of : ℕ → ℕ → ℕ → ℕ → ℕ

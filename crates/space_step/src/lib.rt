@@ -23,6 +23,6 @@ pub use peeking::peek;
 pub use run::{Run, run_local};
 pub use running::{advance, next};
 pub use source::{Source, Trap};
-pub use stepping::step_from;
+pub use stepping::forget_stored;
 pub use streaming::advance_to;
 pub use trap_ret::AcceptedCall;

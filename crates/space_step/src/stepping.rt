@@ -12,9 +12,9 @@ use rv_exec::{FlatInstruction, RegisterFile, Stepped, perform};
 use space_mem::Mem;
 use std::alloc::AllocError;
 
-// Has the source forget the word that an instruction stores to, if it is a store.
+/// Has a source forget the word that an instruction stores to, if it is a store.
 #[inline(always)]
-fn forget_stored<S: Source>(source: &mut S, x: &RegisterFile, instruction: FlatInstruction)
+pub fn forget_stored<S: Source>(source: &mut S, x: &RegisterFile, instruction: FlatInstruction)
     requires { HasFields (meaning instruction) }
     ensures before { (v : View) → S.agrees source.old v → S.agrees source.new v }
     ensures after { (m : Memory) → S.agrees source.old (view_of m) → Outlives (S.agrees source.new) m x.now (meaning instruction) }
@@ -24,11 +24,11 @@ fn forget_stored<S: Source>(source: &mut S, x: &RegisterFile, instruction: FlatI
     }
 }
 
-/// The instruction at pc, from a source: this is the one place that executes an instruction. A call and a trap change nothing.
+/// The instruction at pc, from a source: this is the one place that executes an instruction of a space that runs. A call and a trap change nothing.
 /// Only a store may fail, for want of memory, and then nothing changes.
 #[inline(always)]
 #[tactic(auto, using(crate::proofs::Seen::steps_seen))]
-pub fn step_from<S: Source>(
+pub(crate) fn step_from<S: Source>(
     source: &mut S,
     pc: &mut u32,
     x: &mut RegisterFile,
