@@ -19,7 +19,7 @@ same_bytes m s a (suc n) same =
     (ap (byte_at m) (sym at) ∙ same 0 (omega arith) ∙ ap (byte_at s) at)
     (same_bytes m s (a + 1) n (λ k below. ap (byte_at m) {x = a + 1 + k} {y = a + suc k} (omega arith) ∙ same (suc k) (omega arith) ∙ ap (byte_at s) {x = a + suc k} {y = a + 1 + k} (omega arith)))
 
-unchanged : (m s : Memory) (page : ℕ) → SamePage m s page → is_changed m s page ≡ false
+pub unchanged : (m s : Memory) (page : ℕ) → SamePage m s page → is_changed m s page ≡ false
 unfolding page_bytes
 unchanged m s page same = ap not ((bytes_eq-Decides (page_bytes m page) (page_bytes s page)).1 (same_bytes m s (page_size * page) page_size same))
 
@@ -45,7 +45,7 @@ clean_pages : (h : Held) (s : Memory) (page k n : ℕ) → Covers h s → page +
 clean_pages h s page k n covers within clean = passed (is_changed h.memory s) page_address page k n (λ q above below. unchanged h.memory s q (covers q (omega (arith, below, within)) (clean q above below)))
 
 -- a page that is looked at
-at_page : (m s : Memory) (page n : ℕ) → each_page (is_changed m s) page_address page (suc n) ≡ change_at m s page ++ each_page (is_changed m s) page_address (page + 1) n
+pub at_page : (m s : Memory) (page n : ℕ) → each_page (is_changed m s) page_address page (suc n) ≡ change_at m s page ++ each_page (is_changed m s) page_address (page + 1) n
 at_page m s page n = by_test (is_changed m s page) refl
   where
     by_test : (b : Bool) → is_changed m s page ≡ b → each_page (is_changed m s) page_address page (suc n) ≡ (if is_changed m s page then page_address page ∷ [] else []) ++ each_page (is_changed m s) page_address (page + 1) n

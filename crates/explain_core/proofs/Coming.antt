@@ -31,7 +31,7 @@ use Rattle.explain_core.specs.Trace.{trace_lines}
 use Rattle.explain_core.specs.Watch.{Kept, keep_all, nothing_kept}
 use Rattle.explain_core.specs.Text.{event_text}
 use Rattle.explain_core.specs.declared.bytes.Bytes.{Bytes}
-use Rattle.explain_core.proofs.Schedules.{whole, replay_parts, own_parts, goes_then, stays, leads_replay, child_goes, now_there}
+use Rattle.explain_core.proofs.Schedules.{whole, replay_parts, own_parts, goes_then, stays, leads_replay, child_goes, child_quiet, now_there}
 use Rattle.explain_core.proofs.Stopped.{none_own}
 use Rattle.explain_core.proofs.Traces.{front, kept_lines, kept_then}
 use Rattle.explain_core.proofs.Turns.{ends_append}
@@ -98,6 +98,7 @@ come_below levels n a wanted left p old new t cs c d is come =
       last = λ none. subst (EndsWith come.own) (sym (ap (λ o. option_map top_of (option_and_then (at p) o)) now)) (come.last none);
       over = λ some. subst (λ o. IfSome o (WayStopped p)) (sym now) (come.over some);
       top = refl;
+      itself = child_quiet levels n p come.own t cs c d is come.goes;
     }
 
 -- none is on the way
@@ -110,6 +111,7 @@ none_below levels n a wanted p old t cs is = record {
   last = λ none. tt;
   over = λ some. subst (λ o. IfSome o (WayStopped p)) (sym is) tt;
   top = refl;
+  itself = stays levels [] (space t cs);
 }
 
 -- in the words of a depth

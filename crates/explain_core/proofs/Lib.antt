@@ -6,6 +6,8 @@ pub mod Traces
 pub mod Coming
 pub mod LastChange
 pub mod WatchedEvents
+pub mod Leaving
+pub mod BothSides
 pub mod Lines
 pub mod Names
 pub mod Rows
@@ -13,3 +15,4 @@ pub mod EachPage
 pub mod Ranges
 pub mod Runs
 pub mod Changes
+pub mod Between

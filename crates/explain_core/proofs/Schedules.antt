@@ -99,3 +99,12 @@ child_goes levels n p own t cs c d is a = record {
   leads = replay_below a.schedule levels n t cs c is ∙ ap (λ x. space t (over n (λ y. x) cs)) a.leads;
   events = own_of_child a.schedule levels n p t cs c is ∙ a.events;
 }
+
+-- which has no own event then
+pub child_quiet : (levels n : ℕ) (p : List ℕ) (own : List OwnEvent) (t : Top) (cs : Children) (c d : Space) → find n cs ≡ Some c → GoesBy (pred levels) p own c d
+    → GoesBy levels [] [] (space t cs) (space t (over n (λ x. d) cs))
+child_quiet levels n p own t cs c d is a = record {
+  schedule = map (λ q. n ∷ q) a.schedule;
+  leads = replay_below a.schedule levels n t cs c is ∙ ap (λ x. space t (over n (λ y. x) cs)) a.leads;
+  events = own_elsewhere a.schedule levels n [] (space t cs) (λ q. refl);
+}

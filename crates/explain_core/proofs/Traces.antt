@@ -4,19 +4,19 @@ use Rattle.std.proofs.lemmas.Bool.Decides.{nat_tests}
 use Rattle.std.proofs.lemmas.List.{append-nil}
 use Rattle.std.specs.List.{slice_get}
 use Rattle.std.specs.Prelude.{◌==◌, nat_le, not}
-use Rattle.instruction_model.specs.declared.Instruction.{Instruction}
-use Rattle.instruction_model.specs.Outcome.{Registers}
+use Rattle.memory_model.specs.Memory.{Memory}
 use Rattle.space_model.specs.Space.{Space, space, Children, Top, top_of}
 use Rattle.event_laws.specs.OwnEvents.{OwnEvent}
 use Rattle.explain_core.specs.declared.watching.Asked.{Asked}
+use Rattle.explain_core.specs.declared.watching.Found.{Found}
 use Rattle.explain_core.specs.declared.watching.Noticing.{Noticing}
 use Rattle.explain_core.specs.declared.watching.Noticing.TheVariants as notice
 use Rattle.explain_core.specs.declared.watching.Watched.{Watched}
 use Rattle.explain_core.specs.declared.going.Turn.{Turn}
 use Rattle.explain_core.specs.Going.{StartsWith, EndsWith, TakesTurn, TellsTurn}
 use Rattle.explain_core.specs.Instructions.{instruction_at_pc}
-use Rattle.explain_core.specs.Trace.{event_line, trace_lines}
-use Rattle.explain_core.specs.Watch.{IsLastChange, Kept, NoneChanges, changes, keep, keep_all, noticed, value_before, watched_in}
+use Rattle.explain_core.specs.Trace.{calling_memory, trace_lines, traced_line}
+use Rattle.explain_core.specs.Watch.{IsLastChange, Kept, NoneChanges, changes, found_by, keep, keep_all, memory_before, moment_at, moment_of, noticed, watched_in}
 
 pub keep_append : (a : Asked) (k : ℕ) (xs ys : List OwnEvent) (kept : Kept) → keep_all a k (xs ++ ys) kept ≡ keep_all a (k + length xs) ys (keep_all a k xs kept)
 keep_append a k [] ys kept = ap (λ n. keep_all a n ys kept) (omega arith)
@@ -58,7 +58,7 @@ tells_nothing levels left number a turn old s now some last is none t =
 
 -- one event that is asked for
 pub tells_one : (levels left number : ℕ) (a : Asked) (turn : Turn) (old new : Kept) (s now : Space) → 1 ≤ number → number ≤ a.to → a.from ≤ number → left ≡ a.to + 1 - number → 0 < turn.events → TakesTurn levels 1 turn s now
-    → new ≡ (let t = top_of s in noticed a.path.items a.noticing number t.registers (instruction_at_pc t) (value_before a.noticing t) (top_of now) old) → TellsTurn levels left a turn old new s now
+    → new ≡ noticed a.path.items a.noticing number (found_by a.noticing (top_of s)) (memory_before a.noticing (top_of s)) (top_of now) old → TellsTurn levels left a turn old new s now
 tells_one levels left number a turn old new s now some last asked is one t told =
     let count = t.count in
     let within = t.within in
@@ -68,24 +68,22 @@ tells_one levels left number a turn old new s now some last asked is one t told 
     same e = cc
 
     the_one : (xs : List OwnEvent) → length xs ≡ 1 → StartsWith xs (top_of s) → EndsWith xs (Some (top_of now))
-        → (let t = top_of s in noticed a.path.items a.noticing number t.registers (instruction_at_pc t) (value_before a.noticing t) (top_of now) old) ≡ keep_all a (a.to - left) xs old
+        → noticed a.path.items a.noticing number (found_by a.noticing (top_of s)) (memory_before a.noticing (top_of s)) (top_of now) old ≡ keep_all a (a.to - left) xs old
     the_one [] e first end = absurd (omega (arith, e))
     the_one (x ∷ y ∷ xs) e first end = absurd (omega (arith, e))
     the_one (x ∷ []) e first end =
         let next : number ≡ suc (a.to - left) = omega (arith, some, last, is) in
         let yes : nat_le a.from (suc (a.to - left)) ≡ true = grind (arith, nat_tests) in
-        ap₂ (λ n u. let t = top_of s in noticed a.path.items a.noticing n t.registers (instruction_at_pc t) (value_before a.noticing t) u old) next (same end)
-        ∙ ap (λ t. noticed a.path.items a.noticing (suc (a.to - left)) t.registers (instruction_at_pc t) (value_before a.noticing t) x.after old) (sym first)
+        ap₂ (λ n u. noticed a.path.items a.noticing n (found_by a.noticing (top_of s)) (memory_before a.noticing (top_of s)) u old) next (same end)
+        ∙ ap (λ t. noticed a.path.items a.noticing (suc (a.to - left)) (found_by a.noticing t) (memory_before a.noticing t) x.after old) (sym first)
         ∙ sym (rw yes refl)
 
 -- in the words of what is known before it happens
-pub one_noticed : (p : List ℕ) (w : Noticing) (number : ℕ) (s now : Space) (t u : Top) (cs ds : Children) (r : Registers) (i : Option Instruction) (v : ℕ) (old new : Kept) → space t cs ≡ s → space u ds ≡ now → r ≡ t.registers → i ≡ instruction_at_pc t
-    → v ≡ value_before w t → new ≡ noticed p w number r i v u old
-    → new ≡ (let t = top_of s in noticed p w number t.registers (instruction_at_pc t) (value_before w t) (top_of now) old)
-one_noticed p w number s now t u cs ds r i v old new before after registers found value is =
-    is ∙ ap₂ (λ q j. noticed p w number q j v u old) registers found
-    ∙ ap (λ n. noticed p w number t.registers (instruction_at_pc t) n u old) value
-    ∙ ap₂ (λ (y z : Space). let t = top_of y in noticed p w number t.registers (instruction_at_pc t) (value_before w t) (top_of z) old) before after
+pub one_noticed : (p : List ℕ) (w : Noticing) (number : ℕ) (s now : Space) (t u : Top) (cs ds : Children) (f : Found) (m : Option Memory) (old new : Kept) → space t cs ≡ s → space u ds ≡ now → f ≡ found_by w t → m ≡ memory_before w t
+    → new ≡ noticed p w number f m u old → new ≡ noticed p w number (found_by w (top_of s)) (memory_before w (top_of s)) (top_of now) old
+one_noticed p w number s now t u cs ds f m old new before after found memory is =
+    is ∙ ap₂ (λ g n. noticed p w number g n u old) found memory
+    ∙ ap₂ (λ (y z : Space). noticed p w number (found_by w (top_of y)) (memory_before w (top_of y)) (top_of z) old) before after
 
 -- what is kept so far, and then of more events
 pub kept_then : (a : Asked) (wanted left : ℕ) (old mid new : Kept) (xs ys : List OwnEvent) → wanted ≤ a.to → length xs + left ≡ wanted → mid ≡ keep_all a (a.to - wanted) xs old
@@ -96,14 +94,14 @@ kept_then a wanted left old mid new xs ys fits count first last =
 
 -- where lines are asked for, these
 abbrev with_lines : List ℕ → Kept → Kept
-with_lines l kept = record { lines = l; last = kept.last; number = kept.number }
+with_lines l kept = record { lines = l; last = kept.last }
 
 pub kept_lines : (a : Asked) (k : ℕ) (xs : List OwnEvent) (kept : Kept) → a.noticing ≡ notice.Lines → keep_all a k xs kept ≡ with_lines (kept.lines ++ trace_lines a.path.items a.from k xs) kept
 kept_lines a k [] kept none = ap (λ l. with_lines l kept) (sym (append-nil kept.lines))
 kept_lines a k (x ∷ xs) kept none = one (λ v. kept_lines a (suc k) xs v none) (nat_le a.from (suc k)) refl
   where
     line : List ℕ
-    line = event_line a.path.items (suc k) x.before.registers (instruction_at_pc x.before) x.after
+    line = traced_line a.path.items (suc k) x.before.registers (instruction_at_pc x.before) (calling_memory x.before) x.after
 
     one : ((v : Kept) → keep_all a (suc k) xs v ≡ with_lines (v.lines ++ trace_lines a.path.items a.from (suc k) xs) v) → (b : Bool) → nat_le a.from (suc k) ≡ b
         → keep_all a k (x ∷ xs) kept ≡ with_lines (kept.lines ++ trace_lines a.path.items a.from k (x ∷ xs)) kept
@@ -112,14 +110,18 @@ kept_lines a k (x ∷ xs) kept none = one (λ v. kept_lines a (suc k) xs v none)
         rw (asked, none) (later (with_lines (kept.lines ++ line) kept)
         ∙ ap (λ l. with_lines l kept) (append_assoc kept.lines line (trace_lines a.path.items a.from (suc k) xs)))
 
--- the number of the last of own events that changed what is watched is kept, or what was kept before, where none of them did
+-- the last of own events that changed what is watched is kept, or what was kept before, where none of them did
 pub record KeepsLast (w : Watched) (k : ℕ) (xs : List OwnEvent) (now : Kept) : Type 0 where
   pub number : ℕ
   pub event : OwnEvent
   pub is_last : IsLastChange w xs number event
-  pub kept : now.number ≡ Some (suc (k + number))
+  pub kept : now.last ≡ Some (moment_at w (suc (k + number)) event)
 
-pub keep_last : (a : Asked) (w : Watched) (k : ℕ) (xs : List OwnEvent) (kept : Kept) → a.noticing ≡ notice.Number w → a.from ≤ 1 → KeepsLast w k xs (keep_all a k xs kept) ⊎ (NoneChanges w xs × (keep_all a k xs kept ≡ kept))
+first_kept : (w : Watched) (k : ℕ) (e : OwnEvent) → suc k ≡ suc (k + 0) → Some (moment_of w (suc k) (found_by (notice.Change w) e.before) e.after) ≡ Some (moment_at w (suc (k + 0)) e)
+unfolding moment_at
+first_kept w k e next = ap (λ n. Some (moment_of w n (found_by (notice.Change w) e.before) e.after)) next
+
+pub keep_last : (a : Asked) (w : Watched) (k : ℕ) (xs : List OwnEvent) (kept : Kept) → a.noticing ≡ notice.Change w → a.from ≤ 1 → KeepsLast w k xs (keep_all a k xs kept) ⊎ (NoneChanges w xs × (keep_all a k xs kept ≡ kept))
 keep_last a w k [] kept is all = inr (λ j e here. cc, refl)
 keep_last a w k (x ∷ xs) kept is all = onward (keep_last a w (suc k) xs (keep a k x kept) is all) (changes w x) refl
   where
@@ -153,7 +155,7 @@ keep_last a w k (x ∷ xs) kept is all = onward (keep_last a w (suc k) xs (keep 
         → KeepsLast w k (x ∷ xs) (keep_all a k (x ∷ xs) kept) ⊎ (NoneChanges w (x ∷ xs) × (keep_all a k (x ∷ xs) kept ≡ kept))
     onward (inl l) b e =
         let next : suc (suc k + l.number) ≡ suc (k + suc l.number) = omega arith in
-        inl (record { number = suc l.number; event = l.event; is_last = later l.number l.event l.is_last; kept = l.kept ∙ ap Some next })
+        inl (record { number = suc l.number; event = l.event; is_last = later l.number l.event l.is_last; kept = l.kept ∙ ap (λ n. Some (moment_at w n l.event)) next })
     onward (inr r) true e =
         let test = other_test (watched_in w x.after == watched_in w x.before) e in
         let next : suc k ≡ suc (k + 0) = omega arith in
@@ -161,7 +163,7 @@ keep_last a w k (x ∷ xs) kept is all = onward (keep_last a w (suc k) xs (keep 
           number = 0;
           event = x;
           is_last = record { event = refl; changed = e; last = behind r.0 };
-          kept = ap (λ (v : Kept). v.number) r.1 ∙ rw (yes, is, test) (ap Some next);
+          kept = ap (λ (v : Kept). v.last) r.1 ∙ rw (yes, is, test) (first_kept w k x next);
         })
     onward (inr r) false e =
         let test = same_test (watched_in w x.after == watched_in w x.before) e in

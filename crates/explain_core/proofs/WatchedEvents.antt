@@ -1,4 +1,4 @@
--- A stretch of instructions of a space that is watched, as own events of which the number of the last that changed what is watched is kept.
+-- A stretch of instructions of a space that is watched, as own events of which the last that changed what is watched is kept.
 use Rattle.std.proofs.Common.{◌≡◌, ℕ, zero, suc, ◌+◌, ◌-◌, ◌<◌, ◌≤◌, Bool, true, false, List, [], ◌∷◌, ◌++◌, length, length-append, Option, Some, None, if◌then◌else◌, Ok, refl, sym, ap, ap₂, ◌∙◌, subst, arith, add-one}
 use Rattle.std.proofs.lemmas.Bool.Decides.{nat_tests}
 use Rattle.std.specs.Prelude.{◌==◌, nat_le}
@@ -6,6 +6,7 @@ use Rattle.memory_model.specs.Memory.{Memory, with_number}
 use Rattle.instruction_model.specs.Outcome.{Registers, Outcome, goes, stores, calls, traps, view_of, outcome}
 use Rattle.rv_exec.specs.declared.stepping.Stepped.TheVariants.{Next}
 use Rattle.rv_exec.specs.Steps.{Steps}
+use Rattle.space_model.specs.declared.Status.{Status}
 use Rattle.space_model.specs.declared.Status.TheVariants.{Running}
 use Rattle.space_model.specs.Space.{Top, Space, space, Children, top_of}
 use Rattle.space_model.specs.Change.{after_spending}
@@ -19,64 +20,73 @@ use Rattle.demand_eval.proofs.Turns.{advanced}
 use Rattle.event_laws.specs.OwnEvents.{OwnEvent}
 use Rattle.explain_core.specs.declared.stretch.Stretch.{Stretch}
 use Rattle.explain_core.specs.declared.watching.Asked.{Asked}
+use Rattle.explain_core.specs.declared.watching.Found.{Found}
+use Rattle.explain_core.specs.declared.watching.Moment.{Moment}
 use Rattle.explain_core.specs.declared.watching.Noticing.TheVariants as notice
 use Rattle.explain_core.specs.declared.watching.Watched.{Watched}
 use Rattle.explain_core.specs.Going.{GoesBy, StartsWith, EndsWith, TellsTurn}
-use Rattle.explain_core.specs.Stretch.{Watches, WatchesFrom, last_of, with_parts}
-use Rattle.explain_core.specs.Watch.{Kept, keep, keep_all, value_in, watched_in, with_last}
+use Rattle.explain_core.specs.Stretch.{Watches, WatchesFrom, found_in, last_of, moment_between, with_parts}
+use Rattle.explain_core.specs.Watch.{Kept, found_by, keep, keep_all, moment_of, value_in, watched_in, with_last}
 use Rattle.explain_core.proofs.Schedules.{goes_then, stays}
 use Rattle.explain_core.proofs.Traces.{keep_append}
 use Rattle.explain_core.proofs.Turns.{ends_append, follows_below, local_event, starts_append}
 
-step_is_done : (takes : Bool) (o : Outcome) (r s : Registers) (m n : Memory) → Steps with_number takes o (Ok Next) r m s n → IsDone o m s n
-step_is_done takes (goes t) r s m n h = h
-step_is_done takes (stores t at width value) r s m n h = h
-step_is_done takes calls r s m n h = absurd h
-step_is_done takes (traps number value) r s m n h = absurd h
+-- an instruction that was done, by its own outcome
+pub step_is_done : (takes : Bool) (o p : Outcome) (r s : Registers) (m n : Memory) → o ≡ p → Steps with_number takes p (Ok Next) r m s n → IsDone o m s n
+step_is_done takes o (goes t) r s m n is h = subst (λ q. IsDone q m s n) (sym is) h
+step_is_done takes o (stores t at width value) r s m n is h = subst (λ q. IsDone q m s n) (sym is) h
+step_is_done takes o calls r s m n is h = absurd h
+step_is_done takes o (traps number value) r s m n is h = absurd h
+
+-- what is kept of it, where it may change what is watched
+pub noted : (w : Watched) (number : ℕ) (r s : Registers) (m n : Memory) (found : Found) (old new : Option Moment) → found ≡ found_in w r m
+    → new ≡ (if value_in w s.x n == found.value then old else Some (moment_between w number found s n)) → new ≡ last_of w number r m s n old
+noted w number r s m n found old new is told = told ∙ ap (λ (f : Found). if value_in w s.x n == f.value then old else Some (moment_between w number f s n)) is
+
+same_number : (x y : ℕ) → x ≡ y → (x == y) ≡ true
+same_number x y e = grind (arith, nat_tests)
+
+-- and where it leaves that as it is
+pub left_alone : (w : Watched) (number : ℕ) (r s : Registers) (m n : Memory) (old new : Option Moment) → value_in w s.x n ≡ value_in w r.x m → new ≡ old → new ≡ last_of w number r m s n old
+left_alone w number r s m n old new same is = is ∙ sym (ap (λ b. if b then old else Some (moment_between w number (found_in w r m) s n)) (same_number (value_in w s.x n) (value_in w r.x m) same))
 
 -- one instruction more
-pub watches_more : (w : Watched) (first count : ℕ) (r q s : Registers) (m k n : Memory) (before last : Option ℕ) (takes : Bool) → Watches w first count r m q k before
-    → Steps with_number takes (outcome (view_of k) q) (Ok Next) q k s n → last ≡ last_of w (first + count) q k s n before → Watches w first (count + 1) r m s n last
-watches_more w first count r q s m k n before last takes h step is = rw add-one (q, k, before, h, step_is_done takes _ q s k n step, is)
-
--- in the words of the two values
-pub last_left : (w : Watched) (first count counted found left : ℕ) (q s : Registers) (k n : Memory) (before last : Option ℕ) → last ≡ (if left == found then before else Some (first + counted)) → counted ≡ count
-    → left ≡ value_in w s.x n → found ≡ value_in w q.x k → last ≡ last_of w (first + count) q k s n before
-last_left w first count counted found left q s k n before last is same now was =
-    is ∙ ap₂ (λ a b. if a == b then before else Some (first + counted)) now was ∙ ap (λ m. if value_in w s.x n == value_in w q.x k then before else Some (first + m)) same
+pub watches_more : (w : Watched) (first count : ℕ) (r q s : Registers) (m k n : Memory) (before last : Option Moment) → Watches w first count r m q k before
+    → IsDone (outcome (view_of k) q) k s n → last ≡ last_of w (first + count) q k s n before → Watches w first (count + 1) r m s n last
+watches_more w first count r q s m k n before last h done is = rw add-one (q, k, before, h, done, is)
 
 -- what is watched leaves as many instructions
-pub watches_executes : (w : Watched) (first n : ℕ) (r : Registers) (m : Memory) (s : Registers) (k : Memory) (last : Option ℕ) → Watches w first n r m s k last → Executes n r m s k
+pub watches_executes : (w : Watched) (first n : ℕ) (r : Registers) (m : Memory) (s : Registers) (k : Memory) (last : Option Moment) → Watches w first n r m s k last → Executes n r m s k
 watches_executes w first zero r m s k last h = (h.0, h.1)
 watches_executes w first (suc n) r m s k last h = (h.0, h.1, watches_executes w first n r m h.0 h.1 h.2 h.3, h.4)
 
 -- so many own events, which are those of the stretch
-record Own (levels n first : ℕ) (w : Watched) (t u : Top) (cs : Children) (last : Option ℕ) : Type 0 where
+record Own (levels n first : ℕ) (w : Watched) (t u : Top) (cs : Children) (last : Option Moment) : Type 0 where
   own : List OwnEvent
   goes : GoesBy levels [] own (space t cs) (space u cs)
   count : length own ≡ n
   start : StartsWith own t
   end : EndsWith own (Some u)
-  kept : (a : Asked) (k : ℕ) (old : Kept) → a.noticing ≡ notice.Number w → a.from ≤ suc k → first ≡ suc k → keep_all a k own old ≡ with_last last old
+  kept : (a : Asked) (k : ℕ) (old : Kept) → a.noticing ≡ notice.Change w → a.from ≤ suc k → first ≡ suc k → keep_all a k own old ≡ with_last last old
 
 -- a space behind so many instructions
 abbrev behind : ℕ → Top → Registers → Memory → Top
 behind n t r m = after_spending n t (with_parts t r m)
 
-number_then : (b : Bool) (before : Option ℕ) (number : ℕ) (old : Kept)
-    → (if b then with_last before old else (let k = with_last before old in record { lines = k.lines; last = k.last; number = Some number })) ≡ with_last (if b then before else Some number) old
-number_then true before number old = refl
-number_then false None number old = refl
-number_then false (Some n) number old = refl
+last_then : (b : Bool) (before : Option Moment) (m : Moment) (old : Kept) → (if b then with_last before old else with_last (Some m) (with_last before old)) ≡ with_last (if b then before else Some m) old
+last_then true before m old = refl
+last_then false None m old = refl
+last_then false (Some n) m old = refl
 
 -- one event more is kept
-keep_one : (a : Asked) (w : Watched) (k number : ℕ) (e : OwnEvent) (before : Option ℕ) (old : Kept) → a.noticing ≡ notice.Number w → a.from ≤ suc k → number ≡ suc k
-    → keep a k e (with_last before old) ≡ with_last (if watched_in w e.after == watched_in w e.before then before else Some number) old
-keep_one a w k number e before old watched from is =
+keep_one : (a : Asked) (w : Watched) (k : ℕ) (e : OwnEvent) (before : Option Moment) (m : Moment) (old : Kept) → a.noticing ≡ notice.Change w → a.from ≤ suc k → moment_of w (suc k) (found_by (notice.Change w) e.before) e.after ≡ m
+    → keep a k e (with_last before old) ≡ with_last (if watched_in w e.after == watched_in w e.before then before else Some m) old
+keep_one a w k e before m old watched from is =
     let yes : nat_le a.from (suc k) ≡ true = grind (arith, nat_tests) in
-    rw (yes, watched) (number_then (watched_in w e.after == watched_in w e.before) before (suc k) old) ∙ ap (λ n. with_last (if watched_in w e.after == watched_in w e.before then before else Some n) old) (sym is)
+    rw (yes, watched) (last_then (watched_in w e.after == watched_in w e.before) before (moment_of w (suc k) (found_by (notice.Change w) e.before) e.after) old)
+    ∙ ap (λ x. with_last (if watched_in w e.after == watched_in w e.before then before else Some x) old) is
 
-own_watched : (levels first n : ℕ) (w : Watched) (t : Top) (cs : Children) (r : Registers) (m : Memory) (last : Option ℕ) → t.status ≡ Running → Pays n t → Watches w first n t.registers t.memory r m last
+own_watched : (levels first n : ℕ) (w : Watched) (t : Top) (cs : Children) (r : Registers) (m : Memory) (last : Option Moment) → t.status ≡ Running → Pays n t → Watches w first n t.registers t.memory r m last
     → Own levels n first w t (behind n t r m) cs last
 own_watched levels first zero w t cs r m last running pays h =
     let same : behind 0 t r m ≡ t = stretch_starts t r m h.0 h.1 in
@@ -108,12 +118,16 @@ own_watched levels first (suc n) w t cs r m last running pays h =
       kept = λ a j old watched from is.
           let at : first + n ≡ suc (j + length rest.own) = omega (arith, is, count) in
           keep_append a j rest.own (e ∷ []) old ∙ ap (keep a (j + length rest.own) e) (rest.kept a j old watched from is)
-          ∙ keep_one a w (j + length rest.own) (first + n) e before old watched (omega (arith, from)) at ∙ ap (λ o. with_last o old) (sym h.5);
+          ∙ keep_one a w (j + length rest.own) e before (moment_between w (first + n) (found_in w q k) r m) old watched (omega (arith, from)) (moment (first + n) (suc (j + length rest.own)) q k at) ∙ ap (λ o. with_last o old) (sym h.5);
     }
   where
-    from_start : (n : ℕ) (q : Registers) (k : Memory) (before : Option ℕ) → n ≡ 0 → Watches w first n t.registers t.memory q k before → behind n t q k ≡ t
+    from_start : (n : ℕ) (q : Registers) (k : Memory) (before : Option Moment) → n ≡ 0 → Watches w first n t.registers t.memory q k before → behind n t q k ≡ t
     from_start zero q k before none h = stretch_starts t q k h.0 h.1
     from_start (suc n) q k before none h = absurd (omega (arith, none))
+
+    moment : (number later : ℕ) (q : Registers) (k : Memory) → number ≡ later
+        → moment_of w later (found_by (notice.Change w) (behind n t q k)) (behind (suc n) t r m) ≡ moment_between w number (found_in w q k) r m
+    moment number later q k at = ap₂ (λ (x : ℕ) (y : Status). record { number = x; found = found_in w q k; after = r; status = y; value = value_in w r.x m }) (sym at) running
 
 -- nothing has changed where there was none
 pub unwatched : (w : Watched) (first most : ℕ) (s : Stretch) (t u : Top) → WatchesFrom w first most s t u → s.count ≡ 0 → u ≡ t
@@ -124,7 +138,7 @@ unwatched w first most s t u h none = h.paid ∙ ap (λ n. behind n t u.register
 
 -- a turn of such instructions
 pub watched_turn : (levels left first most : ℕ) (a : Asked) (w : Watched) (stretch : Stretch) (old new : Kept) (t u : Top) (cs : Children) (s now : Space) → IsSoundBelow levels s → space t cs ≡ s → space u cs ≡ now
-    → t.status ≡ Running → WatchesFrom w first most stretch t u → most ≤ left → 1 ≤ left → left ≤ a.to → first ≡ a.to - left + 1 → a.from ≤ first → a.noticing ≡ notice.Number w → (stretch.count ≡ 0 → ⊥)
+    → t.status ≡ Running → WatchesFrom w first most stretch t u → most ≤ left → 1 ≤ left → left ≤ a.to → first ≡ a.to - left + 1 → a.from ≤ first → a.noticing ≡ notice.Change w → (stretch.count ≡ 0 → ⊥)
     → new ≡ with_last stretch.last old → TellsTurn levels left a (record { events = stretch.count; stopped = false }) old new s now
 watched_turn levels left first most a w stretch old new t u cs s now ok is after running watches fits some within number from watched more kept =
     let l = own_watched levels first stretch.count w t cs u.registers u.memory stretch.last running watches.pays watches.done in

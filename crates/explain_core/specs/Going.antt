@@ -80,3 +80,4 @@ pub record HasComeBelow (levels : ℕ) (p : List ℕ) (a : Asked) (wanted left :
   pub last : left ≡ 0 → EndsWith own (top_at p now)
   pub over : 0 < left → BelowStopped p (children_of now)
   pub top : top_of now ≡ top_of s
+  pub itself : GoesBy levels [] [] s now

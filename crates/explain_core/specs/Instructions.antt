@@ -1,9 +1,9 @@
 -- Instructions as text, as the assembler of sources takes them.
 -- Source: RISC-V Assembly Programmer's Manual, for operands and their order.
 -- Our choice: that the target of a branch or a jump is its address; an address, and an upper immediate, is written in eight hexadecimal digits.
-use Rattle.std.specs.Prelude.{ℕ, ◌+◌, ◌-◌, ◌/◌, ◌%◌, ◌^◌, ◌==◌, nat_lt, List, [], ◌∷◌, ◌++◌, Option, Some, None, codes, get_or, if◌then◌else◌}
+use Rattle.std.specs.Prelude.{ℕ, ◌+◌, ◌-◌, ◌/◌, ◌%◌, ◌^◌, ◌==◌, nat_lt, Bool, true, false, List, [], ◌∷◌, ◌++◌, Option, Some, None, codes, get_or, if◌then◌else◌}
 use Rattle.std.specs.Fmt.{decimal}
-use Rattle.memory_model.specs.Memory.{byte_at, may_fetch, number_from}
+use Rattle.memory_model.specs.Memory.{Memory, byte_at, may_fetch, number_from}
 use Rattle.memory_model.specs.declared.Width.{Width}
 use Rattle.memory_model.specs.declared.Width.TheVariants.{One, Two, Four}
 use Rattle.instruction_model.specs.declared.Comparison.{Comparison}
@@ -105,10 +105,19 @@ instruction_text pc Fence = codes "fence"
 instruction_text pc Ecall = codes "ecall"
 instruction_text pc Ebreak = codes "ebreak"
 
--- what stands at pc, where an instruction can be fetched there
+-- what stands at an address of a memory, where an instruction can be fetched there
+abbrev pub instruction_in : Memory → ℕ → Option Instruction
+instruction_in m pc = if pc % 4 == 0 then (if may_fetch m pc then instruction_of (number_from (byte_at m) Four pc) else None) else None
+
+-- and at pc
 abbrev pub instruction_at_pc : Top → Option Instruction
-instruction_at_pc t =
-    if t.registers.pc % 4 == 0 then (if may_fetch t.memory t.registers.pc then instruction_of (number_from (byte_at t.memory) Four t.registers.pc) else None) else None
+instruction_at_pc t = instruction_in t.memory t.registers.pc
+
+-- an instruction is a call
+abbrev pub is_call : Option Instruction → Bool
+is_call None = false
+is_call (Some Ecall) = true
+is_call (Some other) = false
 
 -- a space before it; nothing where there is none
 abbrev pub instruction_part : ℕ → Option Instruction → List ℕ

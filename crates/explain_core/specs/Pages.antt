@@ -1,11 +1,12 @@
 -- Pages of a memory of which something is shown: the runs of pages with one permission other than 0, and the pages that have changed since a snapshot.
 -- Our choice: that pages with permission 0 are not shown, and that runs and pages are named by addresses.
-use Rattle.std.specs.Prelude.{ℕ, zero, suc, ◌+◌, ◌-◌, ◌*◌, ◌==◌, ◌&&◌, ◌||◌, Bool, not, List, [], ◌∷◌, map, if◌then◌else◌}
+use Rattle.std.specs.Prelude.{ℕ, zero, suc, ◌+◌, ◌-◌, ◌*◌, ◌<◌, ◌≤◌, ◌==◌, ◌&&◌, ◌||◌, Bool, not, List, [], ◌∷◌, map, if◌then◌else◌}
 use Rattle.std.specs.List.{filter, range_with_len}
 use Rattle.std.specs.Str.{bytes_eq}
 use Rattle.memory_model.specs.Memory.{Memory, permission_at}
 use Rattle.memory_model.specs.Sizes.{page_size, pages}
 use Rattle.report_model.specs.Digest.{page_bytes}
+use Rattle.space_mem.specs.Held.{AllZero}
 use Rattle.explain_core.specs.declared.pages.Run.{Run}
 
 -- of n pages from one on, what is shown of each that a test picks
@@ -55,3 +56,10 @@ changed_pages m snapshot = each_page (is_changed m snapshot) page_address 0 page
 -- a page's first address, where it has changed
 abbrev pub change_at : Memory → Memory → ℕ → List ℕ
 change_at m snapshot page = if is_changed m snapshot page then page_address page ∷ [] else []
+
+-- the next page of which one of two memories may have a byte other than 0
+pub record IsNextKeptIn (m n : Memory) (from page : ℕ) : Type 0 where
+  pub above : from ≤ page
+  pub below : page < pages
+  pub zero : AllZero m from page
+  pub others : AllZero n from page

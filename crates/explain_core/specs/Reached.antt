@@ -1,7 +1,6 @@
 -- What is shown of an event, which is named by the path of its space and by its number among the own events there.
 -- Our choice: that a space is shown just behind the event that is asked for.
-use Rattle.std.specs.Prelude.{◌≡◌, ℕ, suc, ◌+◌, ◌-◌, ◌^◌, false, List, length, Option, Some, min, take}
-use Rattle.std.specs.List.{slice_get}
+use Rattle.std.specs.Prelude.{◌≡◌, ℕ, suc, ◌+◌, ◌-◌, ◌^◌, List, length, Option, Some, None, min, take}
 use Rattle.space_model.specs.Space.{Space}
 use Rattle.space_model.specs.Path.{at}
 use Rattle.det_laws.specs.Tops.{top_at}
@@ -10,7 +9,8 @@ use Rattle.event_laws.specs.OwnEvents.{OwnEvent, IsOwnEvent, own_events}
 use Rattle.explain_core.specs.declared.bytes.Bytes.{Bytes}
 use Rattle.explain_core.specs.Text.{end_text, event_text}
 use Rattle.explain_core.specs.Trace.{trace_lines}
-use Rattle.explain_core.specs.Watch.{IsLastChange, NoneChanges, Noted, changes, note}
+use Rattle.explain_core.specs.Watch.{IsLastChange, NoneChanges, Noted, moment_at, note}
+use Rattle.explain_core.specs.declared.watching.Moment.{Moment}
 use Rattle.explain_core.specs.declared.watching.Watched.{Watched}
 
 -- a schedule that has this own event leads from `start` to `now`, where the top at the path is that behind the event
@@ -46,21 +46,19 @@ IsTrace start p from to text = (ps : List (List ℕ)) → NoneMayHappen (after_a
 abbrev pub TellsLastChange : Space → List ℕ → ℕ → Watched → Noted → Type 0
 TellsLastChange start p to w c = (ps : List (List ℕ)) → NoneMayHappen (after_all ps start) → (k : ℕ) × (e : OwnEvent) × IsLastChange w (take to (own_events p ps start)) k e × (c ≡ note p w (suc k) e)
 
--- the number of the last own event that changed what is watched, among the first so many of every schedule that has ended
-abbrev pub TellsLastNumber : Space → List ℕ → ℕ → Watched → ℕ → Type 0
-TellsLastNumber start p to w n = (ps : List (List ℕ)) → NoneMayHappen (after_all ps start) → (k : ℕ) × (e : OwnEvent) × IsLastChange w (take to (own_events p ps start)) k e × (n ≡ suc k)
-
--- what is told of the own event of a number, which changed what is watched, in every schedule that has ended
-abbrev pub TellsChange : Space → List ℕ → ℕ → Watched → Noted → Type 0
-TellsChange start p number w c = (ps : List (List ℕ)) → NoneMayHappen (after_all ps start) → (e : OwnEvent) × (slice_get (own_events p ps start) (number - 1) ≡ Some e) × (c ≡ note p w number e)
-
--- in no schedule that has ended the own event of a number changed it
-abbrev pub ChangesNothing : Space → List ℕ → ℕ → Watched → Type 0
-ChangesNothing start p number w = (ps : List (List ℕ)) → NoneMayHappen (after_all ps start) → (e : OwnEvent) → slice_get (own_events p ps start) (number - 1) ≡ Some e → changes w e ≡ false
-
 -- none of the first so many own events of a schedule that has ended changes what is watched
 abbrev pub NeverChanges : Space → List ℕ → ℕ → Watched → Type 0
 NeverChanges start p to w = (ps : List (List ℕ)) → NoneMayHappen (after_all ps start) → NoneChanges w (take to (own_events p ps start))
+
+-- what is kept of the last own event that changed what is watched, or that none did
+abbrev pub TellsMoment : Space → List ℕ → ℕ → Watched → Option Moment → Type 0
+TellsMoment start p to w None = NeverChanges start p to w
+TellsMoment start p to w (Some m) = (ps : List (List ℕ)) → NoneMayHappen (after_all ps start) → (k : ℕ) × (e : OwnEvent) × IsLastChange w (take to (own_events p ps start)) k e × (m ≡ moment_at w (suc k) e)
+
+-- what is told of it
+abbrev pub TellsLast : Space → List ℕ → ℕ → Watched → Option Noted → Type 0
+TellsLast start p to w None = NeverChanges start p to w
+TellsLast start p to w (Some c) = TellsLastChange start p to w c
 
 -- every schedule that has ended has so many own events of a path, or all that a number of 64 bits can count
 abbrev pub HasSoMany : Space → List ℕ → ℕ → Type 0

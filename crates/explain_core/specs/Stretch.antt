@@ -1,14 +1,21 @@
 -- A stretch of instructions of a space that is watched, over its registers and its memory alone.
 -- Our choice: a restatement for proofs.
-use Rattle.std.specs.Prelude.{◌≡◌, ℕ, zero, suc, ◌+◌, ◌<◌, ◌≤◌, ◌==◌, Option, Some, None, if◌then◌else◌}
+use Rattle.std.specs.Prelude.{◌≡◌, ℕ, zero, suc, ◌+◌, ◌/◌, ◌<◌, ◌≤◌, ◌==◌, Bool, true, false, Option, Some, None, List, slice_index, if◌then◌else◌}
 use Rattle.memory_model.specs.Memory.{Memory}
-use Rattle.instruction_model.specs.Outcome.{Registers, view_of, outcome}
+use Rattle.instruction_model.specs.declared.Instruction.{Instruction}
+use Rattle.instruction_model.specs.declared.Instruction.TheVariants.{Lui, Auipc, Jal, Jalr, Branch, Load, Store, OperateImmediate, Operate, Fence, Ecall, Ebreak}
+use Rattle.instruction_model.specs.Outcome.{Registers, view_of, offset, outcome, perform}
+use Rattle.rv_exec.specs.Steps.{registers_at}
 use Rattle.space_model.specs.Space.{Top}
 use Rattle.space_model.specs.Change.{after_spending}
+use Rattle.space_model.specs.declared.Status.TheVariants.{Running}
 use Rattle.space_step.specs.Stretch.{IsDone, Pays}
 use Rattle.explain_core.specs.declared.stretch.Stretch.{Stretch}
+use Rattle.explain_core.specs.declared.watching.Found.{Found}
+use Rattle.explain_core.specs.declared.watching.Moment.{Moment}
 use Rattle.explain_core.specs.declared.watching.Watched.{Watched}
 use Rattle.explain_core.specs.declared.watching.Watched.TheVariants.{Byte, Register}
+use Rattle.explain_core.specs.Instructions.{instruction_in}
 use Rattle.explain_core.specs.Watch.{value_in}
 
 -- a byte, or one of the 32 registers
@@ -16,15 +23,61 @@ abbrev pub IsWatchable : Watched → Type 0
 IsWatchable (Byte a) = Unit {0}
 IsWatchable (Register r) = r < 32
 
--- the number of an instruction that changed what is watched, else of the last before it that did
-abbrev pub last_of : Watched → ℕ → Registers → Memory → Registers → Memory → Option ℕ → Option ℕ
-last_of w number r m s n before = if value_in w s.x n == value_in w r.x m then before else Some number
+-- ---- which instructions may change what is watched
 
--- registers and memory before and after so many instructions, of which the first has a number, and the number of the last that changed what is watched
-abbrev pub Watches : Watched → ℕ → ℕ → Registers → Memory → Registers → Memory → Option ℕ → Type 0
+-- the register that an instruction has for its result; x0, which stays 0, of one that has none
+abbrev pub result_register : Instruction → ℕ
+result_register (Lui r v) = r
+result_register (Auipc r v) = r
+result_register (Jal r v) = r
+result_register (Jalr r a v) = r
+result_register (Branch c a b v) = 0
+result_register (Load k r a v) = r
+result_register (Store width a b v) = 0
+result_register (OperateImmediate o r a v) = r
+result_register (Operate o r a b) = r
+result_register Fence = 0
+result_register Ecall = 0
+result_register Ebreak = 0
+
+-- an instruction stores into the aligned word of an address
+abbrev pub stores_into : Instruction → List ℕ → ℕ → Bool
+stores_into (Lui r v) x a = false
+stores_into (Auipc r v) x a = false
+stores_into (Jal r v) x a = false
+stores_into (Jalr r b v) x a = false
+stores_into (Branch c b d v) x a = false
+stores_into (Load k r b v) x a = false
+stores_into (Store width b d v) x a = offset (slice_index x b) v / 4 == a / 4
+stores_into (OperateImmediate o r b v) x a = false
+stores_into (Operate o r b d) x a = false
+stores_into Fence x a = false
+stores_into Ecall x a = false
+stores_into Ebreak x a = false
+
+-- an instruction leaves what is watched as it is, whatever memory holds
+abbrev pub Leaves : Watched → Instruction → List ℕ → Type 0
+Leaves w i x = (pc : ℕ) (m : Memory) (s : Registers) (n : Memory) → IsDone (perform i (view_of m) (registers_at pc x)) m s n → value_in w s.x n ≡ value_in w x m
+
+-- ---- what is found of them
+
+-- what an instruction finds
+abbrev pub found_in : Watched → Registers → Memory → Found
+found_in w r m = record { registers = r; instruction = instruction_in m r.pc; value = value_in w r.x m }
+
+-- of an instruction of a number that changed what is watched: what it found and what it left
+abbrev pub moment_between : Watched → ℕ → Found → Registers → Memory → Moment
+moment_between w number found s n = record { number = number; found = found; after = s; status = Running; value = value_in w s.x n }
+
+-- that of an instruction that changed what is watched, else that of the last before it that did
+abbrev pub last_of : Watched → ℕ → Registers → Memory → Registers → Memory → Option Moment → Option Moment
+last_of w number r m s n before = if value_in w s.x n == value_in w r.x m then before else Some (moment_between w number (found_in w r m) s n)
+
+-- registers and memory before and after so many instructions, of which the first has a number, and what is found of the last that changed what is watched
+abbrev pub Watches : Watched → ℕ → ℕ → Registers → Memory → Registers → Memory → Option Moment → Type 0
 Watches w first zero r m s n last = (s ≡ r) × (n ≡ m) × (last ≡ None)
 Watches w first (suc count) r m s n last =
-    (q : Registers) × (k : Memory) × (before : Option ℕ) × Watches w first count r m q k before × IsDone (outcome (view_of k) q) k s n × (last ≡ last_of w (first + count) q k s n before)
+    (q : Registers) × (k : Memory) × (before : Option Moment) × Watches w first count r m q k before × IsDone (outcome (view_of k) q) k s n × (last ≡ last_of w (first + count) q k s n before)
 
 -- a space with other registers and another memory
 abbrev pub with_parts : Top → Registers → Memory → Top

@@ -1,18 +1,20 @@
-ghost use Rattle.std.specs.Prelude.{◌≡◌, ℕ, ◌-◌, ◌+◌, ◌≤◌, ◌∷◌, [], true, false, IfOk, IfSome, IsNone};
+ghost use Rattle.std.specs.Prelude.{◌≡◌, ℕ, ◌-◌, ◌+◌, ◌≤◌, ◌∷◌, [], true, false, IfOk, IfSome, IsNone, option_map};
 ghost use Rattle.call_model.specs.Limits.{greatest_depth, levels_below};
 ghost use Rattle.space_model.specs.Sound.{IsSound};
 ghost use Rattle.demand_eval.specs.Turns.{IsSoundBelow};
 ghost use Rattle.explain_core.specs.Going.{HasCome, HasComeBelow, TakesTurn, TellsTurn};
-ghost use Rattle.explain_core.specs.Reached.{ChangesNothing, HasJustHappened, HasSoMany, IsTrace, NeverChanges, NeverHappens, TellsChange, TellsLastChange, TellsLastNumber};
+ghost use Rattle.explain_core.specs.Reached.{HasJustHappened, HasSoMany, IsTrace, NeverHappens, TellsLast, TellsMoment};
 ghost use Rattle.explain_core.specs.Stretch.{IsWatchable};
 ghost use Rattle.explain_core.specs.Watch.{kept_of, noted_of};
-ghost use Rattle.explain_core.specs.declared.watching.Noticing.TheVariants.{Number};
+ghost use Rattle.explain_core.specs.declared.watching.Noticing.TheVariants as kinds;
 
 use crate::stretch::watch_stretch;
-use crate::watching::{Asked, Change, Kept, Noticing, Watched, before_event, keep_number, notice};
+use crate::watching::{
+    Asked, Change, Kept, Noticing, Watched, before_event, keep_last, notice, told_last,
+};
 use demand_eval::{Runner, STRETCH, wait_for};
 use space_step::{DecodeCache, Next, advance};
-use space_tree::{Path, Space, copy_tree};
+use space_tree::{Path, Space};
 use std::alloc::{AllocError, Global};
 use user_runtime::meet;
 
@@ -25,8 +27,8 @@ pub(crate) struct Turn {
     pub(crate) stopped: bool,
 }
 
-// Local events of a space, and then the call that is next, if there is one, once what it waits for is ready; at most so many events.
-fn take_turn(
+/// Local events of a space, and then the call that is next, if there is one, once what it waits for is ready; at most so many events.
+pub(crate) fn take_turn(
     runner: &mut Runner,
     space: &mut Space,
     most: u32,
@@ -102,7 +104,7 @@ fn take_noticed_turn(
     requires sound { IsSoundBelow (levels_below depth) space.old }
     ensures { IfOk result (λ turn. TellsTurn (levels_below depth) (asked.now.to + 1 - number) asked.now turn (kept_of kept.old) (kept_of kept.new) space.old space.new) }
 {
-    let before = before_event(asked.noticing, &space.top);
+    let before = before_event(asked.noticing, &mut space.top)?;
     let turn = take_turn(runner, space, 1, depth)?;
     if turn.events == 0 {
         return Ok(turn);
@@ -121,7 +123,7 @@ fn is_watchable(watched: Watched) -> bool
     }
 }
 
-// Instructions of a space of whose own events so many are left, up to a call or a trap; the number of the last that changed what is watched is kept.
+// Instructions of a space of whose own events so many are left, up to a call or a trap; the last that changed what is watched is kept.
 // None where there are no such instructions, and then nothing has changed.
 fn take_watched_turn(
     runner: &mut Runner,
@@ -134,7 +136,7 @@ fn take_watched_turn(
     requires some { 1 ≤ left }
     requires within { left ≤ asked.now.to }
     requires asked { asked.now.from ≤ asked.now.to - left + 1 }
-    requires number { asked.now.noticing ≡ Number watched }
+    requires noticing { asked.now.noticing ≡ kinds.Change watched }
     ensures some { (levels : ℕ) → IsSoundBelow levels space.old → IfSome result (λ turn. TellsTurn levels left asked.now turn (kept_of kept.old) (kept_of kept.new) space.old space.new) }
     ensures none { IsNone result → (space.new ≡ space.old) × (kept_of kept.new ≡ kept_of kept.old) }
 {
@@ -147,7 +149,7 @@ fn take_watched_turn(
     if stretch.count == 0 {
         return None;
     }
-    keep_number(kept, stretch.last);
+    keep_last(kept, stretch.last);
     Some(Turn {
         events: stretch.count,
         stopped: false,
@@ -170,7 +172,7 @@ fn take_asked_turn(
     requires sound { IsSoundBelow (levels_below depth) space.old }
     ensures { IfOk result (λ turn. TellsTurn (levels_below depth) left asked.now turn (kept_of kept.old) (kept_of kept.new) space.old space.new) }
 {
-    if let Noticing::Number(watched) = asked.noticing {
+    if let Noticing::Change(watched) = asked.noticing {
         if let Some(turn) = take_watched_turn(runner, space, kept, asked, watched, left) {
             return Ok(turn);
         }
@@ -179,8 +181,8 @@ fn take_asked_turn(
     take_noticed_turn(runner, space, kept, asked, number, depth)
 }
 
-// A turn of a space of whose own events so many are left: each that is asked for is noticed.
-fn take_told_turn(
+/// A turn of a space of whose own events so many are left: each that is asked for is noticed.
+pub(crate) fn take_told_turn(
     runner: &mut Runner,
     space: &mut Space,
     kept: &mut Kept,
@@ -228,9 +230,9 @@ fn go_itself(
     }
 }
 
-// Events at a path below a space, as far as they need none of the space itself: those of the child on the way.
+/// Events at a path below a space, as far as they need none of the space itself: those of the child on the way.
 #[cycle(go)]
-fn go_below(
+pub(crate) fn go_below(
     runner: &mut Runner,
     space: &mut Space,
     kept: &mut Kept,
@@ -309,7 +311,8 @@ fn go(
     }
 }
 
-fn copied(path: &Path) -> Result<Path, AllocError>
+/// A copy of a path.
+pub(crate) fn copied(path: &Path) -> Result<Path, AllocError>
     ensures { IfOk result (λ p. p.items ≡ path.now.items) }
 {
     path.clone()
@@ -387,59 +390,31 @@ pub fn trace(
     Ok(kept.lines)
 }
 
-// The number of the last of the first so many own events of the space at a path that changed what is watched.
-fn last_number(
+// What is kept of the first so many own events of the space at a path: the last that changed what is watched.
+fn last_kept(
     alloc: Global,
     tree: Space,
     path: &Path,
     to: u64,
     watched: Watched,
-) -> Result<Option<u64>, AllocError>
+) -> Result<Kept, AllocError>
     requires sound { IsSound tree }
     requires some { 1 ≤ to }
-    ensures some { IfOk result (λ o. IfSome o (TellsLastNumber tree path.now.items to watched)) }
-    ensures counted { IfOk result (λ o. IfSome o (λ n. 1 ≤ n)) }
-    ensures none { IfOk result (λ o. IsNone o → NeverChanges tree path.now.items to watched) }
+    ensures { IfOk result (λ k. TellsMoment tree path.now.items to watched k.last) }
 {
     let mut tree = tree;
     let asked = Asked {
         path: copied(path)?,
         from: 1,
         to,
-        noticing: Noticing::Number(watched),
-    };
-    let mut kept = Kept::new(alloc);
-    go_as_asked(alloc, &mut tree, &mut kept, &asked)?;
-    Ok(kept.number)
-}
-
-// What the own event of a number, from 1 on, of the space at a path was, where it changed what is watched.
-fn change_at(
-    alloc: Global,
-    tree: Space,
-    path: &Path,
-    number: u64,
-    watched: Watched,
-) -> Result<Option<Change>, AllocError>
-    requires sound { IsSound tree }
-    requires some { 1 ≤ number }
-    ensures some { IfOk result (λ o. IfSome o (λ c. TellsChange tree path.now.items number watched (noted_of c))) }
-    ensures none { IfOk result (λ o. IsNone o → ChangesNothing tree path.now.items number watched) }
-{
-    let mut tree = tree;
-    let asked = Asked {
-        path: copied(path)?,
-        from: number,
-        to: number,
         noticing: Noticing::Change(watched),
     };
     let mut kept = Kept::new(alloc);
     go_as_asked(alloc, &mut tree, &mut kept, &asked)?;
-    Ok(kept.last)
+    Ok(kept)
 }
 
-/// The last of the first so many own events of the space at a path that changed what is watched; none exactly where none of them did. The tree goes
-/// on twice: once for the number of that event, and once up to it. The one error is want of memory.
+/// The last of the first so many own events of the space at a path that changed what is watched; none exactly where none of them did. The one error is want of memory.
 pub fn last_change(
     alloc: Global,
     tree: Space,
@@ -448,18 +423,13 @@ pub fn last_change(
     watched: Watched,
 ) -> Result<Option<Change>, AllocError>
     requires { IsSound tree }
-    ensures some { IfOk result (λ o. IfSome o (λ c. TellsLastChange tree path.now.items to watched (noted_of c))) }
-    ensures none { IfOk result (λ o. IsNone o → NeverChanges tree path.now.items to watched) }
+    ensures { IfOk result (λ o. TellsLast tree path.now.items to watched (option_map noted_of o)) }
 {
     if to == 0 {
         return Ok(None);
     }
-    let mut tree = tree;
-    let again = copy_tree(alloc, &mut tree)?;
-    match last_number(alloc, tree, path, to, watched)? {
-        None => Ok(None),
-        Some(number) => change_at(alloc, again, path, number, watched),
-    }
+    let kept = last_kept(alloc, tree, path, to, watched)?;
+    told_last(alloc, path, &kept)
 }
 
 /// How many own events the space at a path has until no space of the tree runs any more, as far as there are at most so many. The one error is want of

@@ -1,10 +1,10 @@
 ghost use Rattle.std.specs.Prelude.{◌≡◌, ◌<◌, [], IfOk, get_or, string_bytes};
 ghost use Rattle.instruction_model.specs.Form.{HasFields};
 ghost use Rattle.source_model.specs.RegisterNames.{register_names};
-ghost use Rattle.explain_core.specs.Instructions.{address_text, branch_name, hex_text, immediate_name, instruction_at_pc, instruction_part, instruction_text, load_name, operation_name, register_name, signed_text, store_name, target_text, three_operands, two_operands};
+ghost use Rattle.explain_core.specs.Instructions.{address_text, branch_name, hex_text, immediate_name, instruction_at_pc, instruction_in, instruction_part, instruction_text, is_call, load_name, operation_name, register_name, signed_text, store_name, target_text, three_operands, two_operands};
 
 use rv_decode::{Comparison, Instr, Instruction, LoadKind, Operation, Width, decode};
-use space_tree::Top;
+use space_tree::{Mem, Top};
 use std::alloc::{AllocError, Global};
 
 /// The name of a register, 0 to 31 (RISC-V Assembly Programmer's Manual, "General registers").
@@ -255,17 +255,33 @@ pub(crate) fn instruction_text(
     }
 }
 
+/// The instruction at an address of a memory, where it can be fetched.
+pub(crate) fn instruction_in(memory: &Mem, pc: u32) -> Option<Instr>
+    ensures { result ≡ instruction_in memory.now.memory pc }
+{
+    if pc % 4 != 0 {
+        return None;
+    }
+    match memory.fetch(pc) {
+        Some(word) => decode(word),
+        None => None,
+    }
+}
+
 /// The instruction at pc, where it can be fetched.
 pub fn instruction_at_pc(top: &Top) -> Option<Instr>
     ensures { result ≡ instruction_at_pc top.now }
 {
-    let pc = top.registers.pc;
-    if pc % 4 != 0 {
-        return None;
-    }
-    match top.memory.fetch(pc) {
-        Some(word) => decode(word),
-        None => None,
+    instruction_in(&top.memory, top.registers.pc)
+}
+
+/// Whether an instruction is a call.
+pub fn is_call(instruction: Option<Instr>) -> bool
+    ensures { result ≡ is_call instruction }
+{
+    match instruction {
+        Some(instr) => matches!(instr.instruction(), Instruction::Ecall),
+        None => false,
     }
 }
 

@@ -2,6 +2,7 @@
 #![tactic(auto)]
 
 mod asking;
+mod beside;
 mod bytes;
 mod contents;
 mod files;
@@ -12,12 +13,14 @@ mod paths;
 mod showing;
 mod stretch;
 mod tracing;
+mod watched_memory;
 mod watching;
 
 pub use asking::{after_event, at_end};
+pub use beside::last_changes;
 pub use bytes::Bytes;
 pub use going::{count_events, last_change, run_to, trace};
-pub use instructions::{instruction_at_pc, register_name};
+pub use instructions::{instruction_at_pc, is_call, register_name};
 pub use paths::path_text;
 pub use tracing::call_name;
 pub use watching::{Change, Watched};

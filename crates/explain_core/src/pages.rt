@@ -1,8 +1,8 @@
-ghost use Rattle.std.specs.Prelude.{◌≡◌, ◌++◌, ◌<◌, ◌≤◌, IfOk, OnOk};
+ghost use Rattle.std.specs.Prelude.{◌≡◌, ◌++◌, ◌<◌, ◌≤◌, IfOk, IfSome, IsNone, OnOk};
 ghost use Rattle.memory_model.specs.Memory.{permission_at};
 ghost use Rattle.memory_model.specs.Sizes.{pages};
-ghost use Rattle.space_mem.specs.Held.{Covers, HaveOnePermission};
-ghost use Rattle.explain_core.specs.Pages.{change_at, changed_pages, is_changed, run_between, runs_of};
+ghost use Rattle.space_mem.specs.Held.{AllZero, Covers, HaveOnePermission};
+ghost use Rattle.explain_core.specs.Pages.{IsNextKeptIn, change_at, changed_pages, is_changed, run_between, runs_of};
 
 use det_report::page_bytes;
 use memory_model::{PAGE_SIZE, PAGES};
@@ -123,6 +123,36 @@ pub(crate) fn changed_pages(
     let mut from = 0;
     'pages: while let Some(page) = memory.next_dirty(from) {
         push_change(&mut changed, memory, snapshot, page)?;
+        from = page + 1;
+    }
+    Ok(changed)
+}
+
+// The least page from one on of which one of two memories keeps bytes; all before it are 0 in both.
+fn next_kept_in(before: &Mem, after: &Mem, from: u32) -> Option<u32>
+    ensures some { IfSome result (IsNextKeptIn before.now.memory after.now.memory from) }
+    ensures none { IsNone result → AllZero before.now.memory from pages × AllZero after.now.memory from pages }
+{
+    match (before.next_kept(from, PAGES), after.next_kept(from, PAGES)) {
+        (Some(page), Some(other)) => Some(page.min(other)),
+        (Some(page), None) => Some(page),
+        (None, other) => other,
+    }
+}
+
+/// The first addresses of the pages of which a memory has another byte than one before it, rising. It looks at the pages of which either keeps bytes.
+#[tactic(auto, using(crate::proofs::Changes::at_first, crate::proofs::Between::one_more, crate::proofs::Between::at_last))]
+pub(crate) fn pages_between(
+    alloc: Global,
+    before: &Mem,
+    after: &Mem,
+) -> Result<Vec<u32>, AllocError>
+    ensures { IfOk result (λ v. v.items ≡ changed_pages after.now.memory before.now.memory) }
+{
+    let mut changed = Vec::new(alloc);
+    let mut from = 0;
+    'pages: while let Some(page) = next_kept_in(before, after, from) {
+        push_change(&mut changed, after, before, page)?;
         from = page + 1;
     }
     Ok(changed)

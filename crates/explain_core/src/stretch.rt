@@ -1,24 +1,31 @@
-ghost use Rattle.std.specs.Prelude.{◌≡◌, ◌+◌, ◌<◌, ◌≤◌, ◌^◌, ◌==◌, Some, if◌then◌else◌};
-ghost use Rattle.instruction_model.specs.Outcome.{view_of};
+ghost use Rattle.std.specs.Prelude.{◌≡◌, ◌+◌, ◌≤◌, ◌^◌, ◌==◌, false, true, Some, if◌then◌else◌};
+ghost use Rattle.memory_model.specs.Memory.{with_number};
+ghost use Rattle.instruction_model.specs.Form.{HasFields};
+ghost use Rattle.instruction_model.specs.Outcome.{view_of, outcome, perform};
+ghost use Rattle.rv_exec.specs.Flat.{meaning};
+ghost use Rattle.rv_exec.specs.Steps.{Steps, registers_at};
 ghost use Rattle.space_model.specs.Change.{after_spending};
 ghost use Rattle.space_model.specs.declared.Status.TheVariants.{Running};
 ghost use Rattle.space_mem.specs.Held.{Marks};
-ghost use Rattle.space_step.specs.Stretch.{Pays};
-ghost use Rattle.explain_core.specs.Stretch.{IsWatchable, Watches, WatchesFrom, with_parts};
+ghost use Rattle.space_step.specs.Stretch.{IsDone, Pays};
+ghost use Rattle.explain_core.specs.Stretch.{IsWatchable, Leaves, Watches, WatchesFrom, found_in, last_of, moment_between, result_register, stores_into, with_parts};
 ghost use Rattle.explain_core.specs.Watch.{value_in};
 
-use crate::watching::Watched;
-use rv_exec::{RegisterFile, Regs, Stepped};
-use space_step::{DecodeCache, Source, budget, step_from};
-use space_tree::{Mem, Top};
+use crate::instructions::instruction_in;
+use crate::watched_memory::WatchedMemory;
+use crate::watching::{Found, Moment, Watched};
+use rv_exec::{FlatInstruction, RegisterFile, Regs, Stepped, perform};
+use space_step::{DecodeCache, Source, budget, forget_stored};
+use space_tree::{Mem, Status, Top};
+use std::alloc::AllocError;
 
 /// Instructions of a space that is watched, none of which is a call or a trap.
 #[derive(Clone, Copy, Debug, PartialEq, Eq)]
 pub(crate) struct Stretch {
     /// How many there are.
     pub(crate) count: u32,
-    /// The number of the last that changed what is watched, if one did.
-    pub(crate) last: Option<u64>,
+    /// What is found of the last that changed what is watched, if one did.
+    pub(crate) last: Option<Moment>,
 }
 
 // What is watched, in registers and memory.
@@ -33,19 +40,226 @@ fn value_in(watched: Watched, x: &RegisterFile, memory: &Mem) -> u32
     }
 }
 
-// The number of an event that has left a value, where it found another; else that of the last before it that did.
+// The register that an instruction has for its result; x0, which stays 0, of one that has none.
 #[inline(always)]
-fn last_changed(found: u32, left: u32, number: u64, before: Option<u64>) -> Option<u64>
-    ensures { result ≡ (if left == found then before else Some number) }
+fn result_register(instruction: FlatInstruction) -> u8
+    ensures { result ≡ result_register (meaning instruction) }
 {
-    if left != found {
-        return Some(number);
+    match instruction {
+        FlatInstruction::Lui { rd, .. }
+        | FlatInstruction::Auipc { rd, .. }
+        | FlatInstruction::Jal { rd, .. }
+        | FlatInstruction::Jalr { rd, .. }
+        | FlatInstruction::Lb { rd, .. }
+        | FlatInstruction::Lh { rd, .. }
+        | FlatInstruction::Lw { rd, .. }
+        | FlatInstruction::Lbu { rd, .. }
+        | FlatInstruction::Lhu { rd, .. }
+        | FlatInstruction::Addi { rd, .. }
+        | FlatInstruction::Slli { rd, .. }
+        | FlatInstruction::Slti { rd, .. }
+        | FlatInstruction::Sltiu { rd, .. }
+        | FlatInstruction::Xori { rd, .. }
+        | FlatInstruction::Srli { rd, .. }
+        | FlatInstruction::Srai { rd, .. }
+        | FlatInstruction::Ori { rd, .. }
+        | FlatInstruction::Andi { rd, .. }
+        | FlatInstruction::Add { rd, .. }
+        | FlatInstruction::Sub { rd, .. }
+        | FlatInstruction::Sll { rd, .. }
+        | FlatInstruction::Slt { rd, .. }
+        | FlatInstruction::Sltu { rd, .. }
+        | FlatInstruction::Xor { rd, .. }
+        | FlatInstruction::Srl { rd, .. }
+        | FlatInstruction::Sra { rd, .. }
+        | FlatInstruction::Or { rd, .. }
+        | FlatInstruction::And { rd, .. } => rd,
+        _ => 0,
     }
-    before
+}
+
+// Whether an instruction stores into the aligned word of an address.
+#[inline(always)]
+fn stores_into(instruction: FlatInstruction, x: &RegisterFile, address: u32) -> bool
+    requires { HasFields (meaning instruction) }
+    ensures { result ≡ stores_into (meaning instruction) x.now address }
+{
+    match instruction {
+        FlatInstruction::Store { rs1, immediate, .. } => {
+            x.register(rs1).wrapping_add(immediate) / 4 == address / 4
+        }
+        _ => false,
+    }
+}
+
+// Whether an instruction may change what is watched.
+#[inline(always)]
+#[tactic(auto, using(crate::proofs::Leaving::leaves_byte, crate::proofs::Leaving::leaves_register))]
+fn may_change(watched: Watched, instruction: FlatInstruction, x: &RegisterFile) -> bool
+    requires watchable { IsWatchable watched }
+    requires fields { HasFields (meaning instruction) }
+    ensures { result ≡ false → Leaves watched (meaning instruction) x.now }
+{
+    match watched {
+        Watched::Byte(address) => stores_into(instruction, x, address),
+        Watched::Register(number) => result_register(instruction) == number,
+    }
+}
+
+// What an instruction finds that may change what is watched.
+#[inline(never)]
+fn found_in(watched: Watched, pc: u32, x: &RegisterFile, memory: &Mem) -> Found
+    requires { IsWatchable watched }
+    ensures { result ≡ found_in watched (registers_at pc x.now) memory.now.memory }
+{
+    Found {
+        registers: Regs::from_parts(pc, *x),
+        instruction: instruction_in(memory, pc),
+        value: value_in(watched, x, memory),
+    }
+}
+
+// Whether an instruction may change what is watched; where it may, what it finds is put in a place that stands ready for it.
+#[inline(always)]
+fn look(
+    found: &mut Found,
+    watched: Watched,
+    instruction: FlatInstruction,
+    pc: u32,
+    x: &RegisterFile,
+    memory: &Mem,
+) -> bool
+    requires watchable { IsWatchable watched }
+    requires fields { HasFields (meaning instruction) }
+    ensures seen { result ≡ true → found.new ≡ found_in watched (registers_at pc x.now) memory.now.memory }
+    ensures none { result ≡ false → Leaves watched (meaning instruction) x.now }
+{
+    if may_change(watched, instruction, x) {
+        *found = found_in(watched, pc, x, memory);
+        return true;
+    }
+    false
+}
+
+// Keeps what an instruction found and left, where it changed what is watched.
+#[inline(never)]
+fn note_change(
+    last: &mut Option<Moment>,
+    watched: Watched,
+    number: u64,
+    found: &Found,
+    pc: u32,
+    x: &RegisterFile,
+    memory: &Mem,
+)
+    requires { IsWatchable watched }
+    ensures { last.new ≡ (if value_in watched x.now memory.now.memory == found.now.value then last.old else Some (moment_between watched number found.now (registers_at pc x.now) memory.now.memory)) }
+{
+    let value = value_in(watched, x, memory);
+    if value != found.value {
+        *last = Some(Moment {
+            number,
+            found: *found,
+            after: Regs::from_parts(pc, *x),
+            status: Status::Running,
+            value,
+        });
+    }
+}
+
+// What an instruction does that stands at pc. A call and a trap change nothing, nor a store for which there is no memory.
+#[inline(always)]
+#[tactic(auto, using(space_step::proofs::Seen::steps_seen))]
+fn does<S: Source>(
+    source: &mut S,
+    pc: &mut u32,
+    x: &mut RegisterFile,
+    memory: &mut WatchedMemory,
+    instruction: FlatInstruction,
+) -> Result<Stepped, AllocError>
+    requires agrees { S.agrees source.old (view_of memory.old.memory) }
+    requires fields { HasFields (meaning instruction) }
+    ensures steps { Steps with_number true (perform (meaning instruction) (view_of memory.old.memory) (registers_at pc.old x.old)) result (registers_at pc.old x.old) memory.old.memory (registers_at pc.new x.new) memory.new.memory }
+    ensures agrees { S.agrees source.new (view_of memory.new.memory) }
+    ensures marks { Marks memory.old memory.new }
+{
+    forget_stored(source, x, instruction);
+    perform(pc, x, memory, instruction)
+}
+
+// The instruction at pc, from a source, and whether it did anything; what is found of it is kept, where it changed what is watched.
+#[inline(always)]
+fn step<S: Source>(
+    source: &mut S,
+    pc: &mut u32,
+    x: &mut RegisterFile,
+    memory: &mut WatchedMemory,
+    found: &mut Found,
+    last: &mut Option<Moment>,
+    watched: Watched,
+    number: u64,
+) -> bool
+    requires agrees { S.agrees source.old (view_of memory.old.memory) }
+    requires watchable { IsWatchable watched }
+    ensures done { result ≡ true → IsDone (outcome (view_of memory.old.memory) (registers_at pc.old x.old)) memory.old.memory (registers_at pc.new x.new) memory.new.memory }
+    ensures last { result ≡ true → last.new ≡ last_of watched number (registers_at pc.old x.old) memory.old.memory (registers_at pc.new x.new) memory.new.memory last.old }
+    ensures same { result ≡ false → (registers_at pc.new x.new ≡ registers_at pc.old x.old) × (memory.new.memory ≡ memory.old.memory) × (last.new ≡ last.old) }
+    ensures agrees { S.agrees source.new (view_of memory.new.memory) }
+    ensures marks { Marks memory.old memory.new }
+{
+    let Ok(instruction) = source.instruction_at(memory.memory(), *pc) else {
+        return false;
+    };
+    let seen = look(found, watched, instruction, *pc, x, memory.memory());
+    let Ok(Stepped::Next) = does(source, pc, x, memory, instruction) else {
+        return false;
+    };
+    if seen {
+        note_change(last, watched, number, found, *pc, x, memory.memory());
+    }
+    true
 }
 
 // Executes instructions from a source, at most as many as the budget, up to a call or a trap. The first has a number among the own events.
 #[inline(never)]
+fn watch_in<S: Source>(
+    source: &mut S,
+    registers: &mut Regs,
+    memory: &mut WatchedMemory,
+    budget: u32,
+    watched: Watched,
+    first: u64,
+) -> Stretch
+    requires agrees { S.agrees source.old (view_of memory.old.memory) }
+    requires watchable { IsWatchable watched }
+    requires fits { first + budget ≤ 2 ^ 64 }
+    ensures within { result.count ≤ budget }
+    ensures done { Watches watched first result.count registers.old memory.old.memory registers.new memory.new.memory result.last }
+    ensures marks { Marks memory.old memory.new }
+    ensures agrees { S.agrees source.new (view_of memory.new.memory) }
+{
+    let mut pc = registers.pc;
+    let mut x = registers.file();
+    let mut found = found_in(watched, pc, &x, memory.memory());
+    let mut last = None;
+    for count in 0..budget {
+        let number = first + u64::from(count);
+        let done = step(
+            source, &mut pc, &mut x, memory, &mut found, &mut last, watched, number,
+        );
+        if !done {
+            *registers = Regs::from_parts(pc, x);
+            return Stretch { count, last };
+        }
+    }
+    *registers = Regs::from_parts(pc, x);
+    Stretch {
+        count: budget,
+        last,
+    }
+}
+
+// The same over a memory that is not watched else.
 fn watch<S: Source>(
     source: &mut S,
     registers: &mut Regs,
@@ -62,28 +276,10 @@ fn watch<S: Source>(
     ensures marks { Marks memory.old memory.new }
     ensures agrees { S.agrees source.new (view_of memory.new.memory) }
 {
-    let mut pc = registers.pc;
-    let mut x = registers.file();
-    let mut value = value_in(watched, &x, memory);
-    let mut last = None;
-    for count in 0..budget {
-        match step_from(source, &mut pc, &mut x, memory) {
-            Ok(Stepped::Next) => {
-                let now = value_in(watched, &x, memory);
-                last = last_changed(value, now, first + u64::from(count), last);
-                value = now;
-            }
-            _ => {
-                *registers = Regs::from_parts(pc, x);
-                return Stretch { count, last };
-            }
-        }
-    }
-    *registers = Regs::from_parts(pc, x);
-    Stretch {
-        count: budget,
-        last,
-    }
+    let mut own = WatchedMemory::take(memory);
+    let stretch = watch_in(source, registers, &mut own, budget, watched, first);
+    *memory = own.into_memory();
+    stretch
 }
 
 // Instructions of a space that can pay for so many, up to a call or a trap, paid for.

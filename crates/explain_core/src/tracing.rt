@@ -1,17 +1,21 @@
-ghost use Rattle.std.specs.Prelude.{◌≡◌, ◌++◌, ◌∷◌, ◌<◌, ◌==◌, [], true, IfOk, codes, if◌then◌else◌, string_bytes};
+ghost use Rattle.std.specs.Prelude.{◌≡◌, ◌++◌, ◌∷◌, ◌<◌, ◌==◌, [], true, IfOk, OnOk, codes, if◌then◌else◌, string_bytes};
+ghost use Rattle.std.specs.List.{flat_map};
+ghost use Rattle.space_mem.specs.Held.{memory_in};
 ghost use Rattle.space_model.specs.Stop.{is_stopped};
 ghost use Rattle.report_model.specs.Report.{hex8, stop_text};
-ghost use Rattle.explain_core.specs.Trace.{act_text, call_name, change_text, changes_text, lowest_bytes, outcome_text, place_text};
+ghost use Rattle.explain_core.specs.Trace.{act_text, call_name, change_text, changes_text, event_line, event_text, lowest_bytes, outcome_text, page_text, pages_text, place_text, traced_line};
 
 use crate::instructions::{instruction_part, register_name};
+use crate::pages::pages_between;
 use crate::paths::path_text;
+use crate::watching::{Before, Found, Moment};
 use call_model::{
     CLOCK, CONSOLE_IN, CONSOLE_OUT, FILE_DELETE, FILE_GET, FILE_LENGTH, FILE_NEW, FILE_PUT, FORK,
     GET, PUT, QCOMMIT, QSTART, RANDOM, RET, TFORK, TJOIN, WAIT,
 };
 use det_report::stop_text;
 use rv_decode::{Instr, Instruction, Width};
-use space_tree::{Path, Regs, Top};
+use space_tree::{Mem, Path, Regs, Status, Top};
 use std::alloc::{AllocError, Global};
 
 /// The name of a call by its number.
@@ -111,6 +115,13 @@ fn act_text(
     }
 }
 
+// A page by its first address.
+fn page_text(alloc: Global, address: u32) -> Result<String, AllocError>
+    ensures { IfOk result (λ s. string_bytes s ≡ page_text address) }
+{
+    format!(in alloc; " page {address:08x}")
+}
+
 // A register that has another value, or nothing.
 fn change_text(alloc: Global, register: u8, old: u32, new: u32) -> Result<String, AllocError>
     requires { register < 32 }
@@ -121,6 +132,17 @@ fn change_text(alloc: Global, register: u8, old: u32, new: u32) -> Result<String
     }
     let name = register_name(register);
     format!(in alloc; " x{register} {name} {old:08x} -> {new:08x}")
+}
+
+// Appends these pages, by their first addresses.
+fn push_pages(alloc: Global, text: &mut String, pages: &[u32]) -> Result<(), AllocError>
+    ensures { OnOk result (string_bytes text.new ≡ string_bytes text.old ++ flat_map page_text pages.now) }
+{
+    for address in pages {
+        let page = page_text(alloc, *address)?;
+        text.push_str(&page)?;
+    }
+    Ok(())
 }
 
 // The registers that have another value.
@@ -136,33 +158,46 @@ fn changes_text(alloc: Global, old: &[u32; 32], new: &[u32; 32]) -> Result<Strin
     Ok(text)
 }
 
-fn stopping_text(alloc: Global, top: &Top) -> Result<String, AllocError>
-    requires { is_stopped top.now.status ≡ true }
-    ensures { IfOk result (λ s. string_bytes s ≡ codes " stops " ++ stop_text top.now.status) }
+fn stopping_text(alloc: Global, status: Status) -> Result<String, AllocError>
+    requires { is_stopped status ≡ true }
+    ensures { IfOk result (λ s. string_bytes s ≡ codes " stops " ++ stop_text status) }
 {
-    let stop = stop_text(alloc, top.status)?;
+    let stop = stop_text(alloc, status)?;
     format!(in alloc; " stops {stop}")
 }
 
-// What came of an event: the cause with which the space has stopped, or what the instruction did.
+// What an instruction did.
+fn running_text(
+    alloc: Global,
+    before: &Regs,
+    instruction: Option<Instr>,
+    after: &Regs,
+) -> Result<String, AllocError>
+    ensures { IfOk result (λ s. string_bytes s ≡ act_text before.now after.now instruction ++ changes_text 0 (let r = before.now in r.x) (let r = after.now in r.x)) }
+{
+    let act = act_text(alloc, before, after, instruction)?;
+    let changes = changes_text(alloc, &before.x, &after.x)?;
+    format!(in alloc; "{act}{changes}")
+}
+
+// What came of an event, by the status and the registers that it left: the cause with which the space has stopped, or what the instruction did.
 fn outcome_text(
     alloc: Global,
     before: &Regs,
     instruction: Option<Instr>,
-    after: &Top,
+    status: Status,
+    after: &Regs,
 ) -> Result<String, AllocError>
-    ensures { IfOk result (λ s. string_bytes s ≡ outcome_text before.now instruction after.now) }
+    ensures { IfOk result (λ s. string_bytes s ≡ outcome_text before.now instruction status after.now) }
 {
-    if after.is_stopped() {
-        return stopping_text(alloc, after);
+    match status {
+        Status::Running => running_text(alloc, before, instruction, after),
+        Status::Stopped { .. } => stopping_text(alloc, status),
     }
-    let act = act_text(alloc, before, &after.registers, instruction)?;
-    let changes = changes_text(alloc, &before.x, &after.registers.x)?;
-    format!(in alloc; "{act}{changes}")
 }
 
-/// An event by its name, and where it stood: pc and the instruction there.
-pub(crate) fn place_text(
+// An event by its name, and where it stood: pc and the instruction there.
+fn place_text(
     alloc: Global,
     path: &Path,
     number: u64,
@@ -177,16 +212,67 @@ pub(crate) fn place_text(
     format!(in alloc; "{place}:{number} pc {pc:08x}{text}")
 }
 
-/// What came of an event, behind its place.
-pub(crate) fn event_line(
+// An event by its name, where it stood, and what came of it.
+fn event_text(
     alloc: Global,
-    place: &str,
-    before: &Regs,
-    instruction: Option<Instr>,
+    path: &Path,
+    number: u64,
+    found: &Found,
+    status: Status,
+    after: &Regs,
+) -> Result<String, AllocError>
+    ensures { IfOk result (λ s. string_bytes s ≡ (let f = found.now in event_text path.now.items number f.registers f.instruction status after.now)) }
+{
+    let place = place_text(alloc, path, number, &found.registers, found.instruction)?;
+    let outcome = outcome_text(alloc, &found.registers, found.instruction, status, after)?;
+    format!(in alloc; "{place}{outcome}")
+}
+
+// The pages that have changed since a memory, where there is one.
+fn pages_text(alloc: Global, before: &Option<Mem>, after: &Mem) -> Result<String, AllocError>
+    ensures { IfOk result (λ s. string_bytes s ≡ pages_text (memory_in before.now) after.now.memory) }
+{
+    let mut text = String::new(alloc);
+    if let Some(before) = before {
+        let pages = pages_between(alloc, before, after)?;
+        push_pages(alloc, &mut text, &pages)?;
+    }
+    Ok(text)
+}
+
+/// The line of an event that changed what is watched.
+pub(crate) fn event_line(alloc: Global, path: &Path, moment: &Moment) -> Result<String, AllocError>
+    ensures { IfOk result (λ s. string_bytes s ≡ (let m = moment.now in event_line path.now.items m.number m.found.registers m.found.instruction m.status m.after)) }
+{
+    let event = event_text(
+        alloc,
+        path,
+        moment.number,
+        &moment.found,
+        moment.status,
+        &moment.after,
+    )?;
+    format!(in alloc; "{event}\n")
+}
+
+/// The line of an event in a trace: of a call with the pages that it has changed since the memory before it.
+pub(crate) fn traced_line(
+    alloc: Global,
+    path: &Path,
+    number: u64,
+    before: &Before,
     after: &Top,
 ) -> Result<String, AllocError>
-    ensures { IfOk result (λ s. string_bytes s ≡ place.now ++ (outcome_text before.now instruction after.now ++ 10 ∷ [])) }
+    ensures { IfOk result (λ s. string_bytes s ≡ traced_line path.now.items number before.now.found.registers before.now.found.instruction (memory_in before.now.memory) after.now) }
 {
-    let outcome = outcome_text(alloc, before, instruction, after)?;
-    format!(in alloc; "{place}{outcome}\n")
+    let event = event_text(
+        alloc,
+        path,
+        number,
+        &before.found,
+        after.status,
+        &after.registers,
+    )?;
+    let pages = pages_text(alloc, &before.memory, &after.memory)?;
+    format!(in alloc; "{event}{pages}\n")
 }

@@ -1,13 +1,14 @@
-ghost use Rattle.std.specs.Prelude.{◌≡◌, ℕ, List, IfOk, OnOk};
+ghost use Rattle.std.specs.Prelude.{◌≡◌, ◌==◌, Some, IfOk, OnOk, if◌then◌else◌, option_map};
 ghost use Rattle.explain_core.specs.Instructions.{instruction_at_pc};
-ghost use Rattle.explain_core.specs.Trace.{event_line};
-ghost use Rattle.explain_core.specs.Watch.{kept_of, nothing_kept, noted_of, noticed, value_before, watched_in, with_last};
+ghost use Rattle.space_mem.specs.Held.{memory_in};
+ghost use Rattle.explain_core.specs.Trace.{calling_memory};
+ghost use Rattle.explain_core.specs.Watch.{found_by, kept_of, memory_before, moment_of, nothing_kept, noted_of, noticed, told, value_before, watched_in, with_last};
 ghost use Rattle.explain_core.specs.declared.watching.Noticing.TheVariants as kinds;
 
-use crate::instructions::instruction_at_pc;
-use crate::tracing::{event_line, place_text};
+use crate::instructions::{instruction_at_pc, is_call};
+use crate::tracing::{event_line, traced_line};
 use rv_decode::Instr;
-use space_tree::{Path, Regs, Top};
+use space_tree::{Mem, Path, Regs, Status, Top};
 use std::alloc::{AllocError, Global};
 
 /// What is watched of a space: the byte at an address of its memory, or a register, 0 to 31.
@@ -32,6 +33,32 @@ pub struct Change {
     pub line: Vec<u8>,
 }
 
+/// What an event finds.
+#[derive(Clone, Copy, Debug, PartialEq, Eq)]
+pub(crate) struct Found {
+    /// The registers.
+    pub(crate) registers: Regs,
+    /// The instruction at pc, where one can be fetched.
+    pub(crate) instruction: Option<Instr>,
+    /// What is watched; 0 where nothing is.
+    pub(crate) value: u32,
+}
+
+/// An own event that changed what is watched.
+#[derive(Clone, Copy, Debug, PartialEq, Eq)]
+pub(crate) struct Moment {
+    /// Its number among the own events at its path, from 1 on.
+    pub(crate) number: u64,
+    /// What it found.
+    pub(crate) found: Found,
+    /// The registers after it.
+    pub(crate) after: Regs,
+    /// The status after it.
+    pub(crate) status: Status,
+    /// What is watched, after it.
+    pub(crate) value: u32,
+}
+
 /// What is noticed of own events.
 #[derive(Clone, Copy, Debug, PartialEq, Eq)]
 pub(crate) enum Noticing {
@@ -39,8 +66,6 @@ pub(crate) enum Noticing {
     Lines,
     /// What the last was that changed what is watched.
     Change(Watched),
-    /// Its number alone, for which less is to do at each.
-    Number(Watched),
 }
 
 /// Of which space the own events are asked for, by its path; which of them, by the numbers of the first and the last; and what is noticed of these.
@@ -52,12 +77,11 @@ pub(crate) struct Asked {
     pub(crate) noticing: Noticing,
 }
 
-/// What is kept of the events that are asked for: their lines, or the last that changed what is watched, or its number.
+/// What is kept of the events that are asked for: their lines, or the last that changed what is watched.
 #[derive(Drop)]
 pub(crate) struct Kept {
     pub(crate) lines: Vec<u8>,
-    pub(crate) last: Option<Change>,
-    pub(crate) number: Option<u64>,
+    pub(crate) last: Option<Moment>,
 }
 
 impl Kept {
@@ -68,17 +92,15 @@ impl Kept {
         Kept {
             lines: Vec::new(alloc),
             last: None,
-            number: None,
         }
     }
 }
 
-/// A space before an event: its registers, the instruction at pc, and what is watched.
+/// A space before an event: what the event finds, and the memory, where the line of the event needs it.
 #[derive(Drop)]
 pub(crate) struct Before {
-    pub(crate) registers: Regs,
-    pub(crate) instruction: Option<Instr>,
-    pub(crate) value: u32,
+    pub(crate) found: Found,
+    pub(crate) memory: Option<Mem>,
 }
 
 fn registers_of(top: &Top) -> Regs
@@ -106,60 +128,57 @@ fn value_before(noticing: Noticing, top: &Top) -> u32
 {
     match noticing {
         Noticing::Lines => 0,
-        Noticing::Change(watched) | Noticing::Number(watched) => watched_in(watched, top),
+        Noticing::Change(watched) => watched_in(watched, top),
     }
 }
 
-/// A space before its next event.
-pub(crate) fn before_event(noticing: Noticing, top: &Top) -> Before
-    ensures registers { result.registers ≡ top.now.registers }
-    ensures instruction { result.instruction ≡ instruction_at_pc top.now }
-    ensures value { result.value ≡ value_before noticing top.now }
+// The memory of a space before a call, which the line of the event needs.
+#[tactic(auto, using(space_mem::proofs::Dirty::covers_in_same))]
+fn calling_memory(top: &mut Top) -> Result<Option<Mem>, AllocError>
+    ensures memory { IfOk result (λ o. memory_in o ≡ calling_memory top.old) }
+    ensures same { top.new ≡ top.old }
 {
-    Before {
+    if is_call(instruction_at_pc(top)) {
+        Ok(Some(top.memory.frozen()?))
+    } else {
+        Ok(None)
+    }
+}
+
+// The memory of a space before an event, where the line of the event is wanted and needs it.
+fn memory_before(noticing: Noticing, top: &mut Top) -> Result<Option<Mem>, AllocError>
+    ensures memory { IfOk result (λ o. memory_in o ≡ memory_before noticing top.old) }
+    ensures same { top.new ≡ top.old }
+{
+    match noticing {
+        Noticing::Lines => calling_memory(top),
+        Noticing::Change(_) => Ok(None),
+    }
+}
+
+// What the next event of a space finds.
+fn found_by(noticing: Noticing, top: &Top) -> Found
+    ensures { result ≡ found_by noticing top.now }
+{
+    Found {
         registers: registers_of(top),
         instruction: instruction_at_pc(top),
         value: value_before(noticing, top),
     }
 }
 
-// The line of an event that has just happened.
-fn line_of(
-    alloc: Global,
-    path: &Path,
-    number: u64,
-    before: &Before,
-    after: &Top,
-) -> Result<Vec<u8>, AllocError>
-    ensures { IfOk result (λ v. v.items ≡ event_line path.now.items number before.now.registers before.now.instruction after.now) }
+/// A space before its next event. The one error is want of memory.
+pub(crate) fn before_event(noticing: Noticing, top: &mut Top) -> Result<Before, AllocError>
+    ensures found { IfOk result (λ b. b.found ≡ found_by noticing top.old) }
+    ensures memory { IfOk result (λ b. memory_in b.memory ≡ memory_before noticing top.old) }
+    ensures same { top.new ≡ top.old }
 {
-    let place = place_text(alloc, path, number, &before.registers, before.instruction)?;
-    let line = event_line(alloc, &place, &before.registers, before.instruction, after)?;
-    Ok(line.into_bytes())
+    let memory = memory_before(noticing, top)?;
+    let found = found_by(noticing, top);
+    Ok(Before { found, memory })
 }
 
-// What is kept of an event that changed what is watched.
-fn note(
-    alloc: Global,
-    path: &Path,
-    number: u64,
-    before: &Before,
-    after: &Top,
-    value: u32,
-) -> Result<Change, AllocError>
-    ensures { IfOk result (λ c. noted_of c ≡ record { number = number; registers = before.now.registers; instruction = before.now.instruction; value = value; line = event_line path.now.items number before.now.registers before.now.instruction after.now }) }
-{
-    let line = line_of(alloc, path, number, before, after)?;
-    Ok(Change {
-        number,
-        registers: before.registers,
-        instruction: before.instruction,
-        value,
-        line,
-    })
-}
-
-// Keeps the line of an event.
+// Keeps the line of an event that has just happened.
 fn notice_line(
     alloc: Global,
     kept: &mut Kept,
@@ -168,37 +187,25 @@ fn notice_line(
     before: &Before,
     after: &Top,
 ) -> Result<(), AllocError>
-    ensures { OnOk result (kept_of kept.new ≡ noticed path.now.items kinds.Lines number before.now.registers before.now.instruction before.now.value after.now (kept_of kept.old)) }
+    ensures { OnOk result (kept_of kept.new ≡ noticed path.now.items kinds.Lines number before.now.found (memory_in before.now.memory) after.now (kept_of kept.old)) }
 {
-    let line = line_of(alloc, path, number, before, after)?;
-    kept.lines.extend_from_slice(&line)
+    let line = traced_line(alloc, path, number, before, after)?;
+    kept.lines.extend_from_slice(line.as_bytes())
 }
 
-// Keeps what an event was, where it changed what is watched.
-fn notice_change(
-    alloc: Global,
-    kept: &mut Kept,
-    path: &Path,
-    watched: Watched,
-    number: u64,
-    before: &Before,
-    after: &Top,
-) -> Result<(), AllocError>
-    ensures { OnOk result (kept_of kept.new ≡ noticed path.now.items (kinds.Change watched) number before.now.registers before.now.instruction before.now.value after.now (kept_of kept.old)) }
+// Keeps what an event found and left, where it changed what is watched.
+fn notice_change(kept: &mut Kept, watched: Watched, number: u64, found: Found, after: &Top)
+    ensures { kept_of kept.new ≡ (if watched_in watched after.now == found.value then kept_of kept.old else with_last (Some (moment_of watched number found after.now)) (kept_of kept.old)) }
 {
     let value = watched_in(watched, after);
-    if value != before.value {
-        kept.last = Some(note(alloc, path, number, before, after, value)?);
-    }
-    Ok(())
-}
-
-// Keeps the number of an event, where it changed what is watched.
-fn notice_number(kept: &mut Kept, watched: Watched, number: u64, before: &Before, after: &Top)
-    ensures { (p : List ℕ) → kept_of kept.new ≡ noticed p (kinds.Number watched) number before.now.registers before.now.instruction before.now.value after.now (kept_of kept.old) }
-{
-    if watched_in(watched, after) != before.value {
-        kept.number = Some(number);
+    if value != found.value {
+        kept.last = Some(Moment {
+            number,
+            found,
+            after: registers_of(after),
+            status: after.status,
+            value,
+        });
     }
 }
 
@@ -211,25 +218,50 @@ pub(crate) fn notice(
     before: &Before,
     after: &Top,
 ) -> Result<(), AllocError>
-    ensures { OnOk result (kept_of kept.new ≡ noticed asked.now.path.items asked.now.noticing number before.now.registers before.now.instruction before.now.value after.now (kept_of kept.old)) }
+    ensures { OnOk result (kept_of kept.new ≡ noticed asked.now.path.items asked.now.noticing number before.now.found (memory_in before.now.memory) after.now (kept_of kept.old)) }
 {
     match asked.noticing {
         Noticing::Lines => notice_line(alloc, kept, &asked.path, number, before, after),
         Noticing::Change(watched) => {
-            notice_change(alloc, kept, &asked.path, watched, number, before, after)
-        }
-        Noticing::Number(watched) => {
-            notice_number(kept, watched, number, before, after);
+            notice_change(kept, watched, number, before.found, after);
             Ok(())
         }
     }
 }
 
-/// Keeps the number of the last event that changed what is watched, where one did.
-pub(crate) fn keep_number(kept: &mut Kept, last: Option<u64>)
+/// Keeps what was found of the last event that changed what is watched, where one did.
+pub(crate) fn keep_last(kept: &mut Kept, last: Option<Moment>)
     ensures { kept_of kept.new ≡ with_last last (kept_of kept.old) }
 {
-    if let Some(number) = last {
-        kept.number = Some(number);
+    if last.is_some() {
+        kept.last = last;
+    }
+}
+
+// What is told of an event at a path that changed what is watched.
+fn told(alloc: Global, path: &Path, moment: &Moment) -> Result<Change, AllocError>
+    ensures { IfOk result (λ c. noted_of c ≡ told path.now.items moment.now) }
+{
+    let line = event_line(alloc, path, moment)?;
+    Ok(Change {
+        number: moment.number,
+        registers: moment.found.registers,
+        instruction: moment.found.instruction,
+        value: moment.value,
+        line: line.into_bytes(),
+    })
+}
+
+/// What is told of the last event at a path that changed what is watched, where one is kept.
+pub(crate) fn told_last(
+    alloc: Global,
+    path: &Path,
+    kept: &Kept,
+) -> Result<Option<Change>, AllocError>
+    ensures { IfOk result (λ o. option_map noted_of o ≡ option_map (told path.now.items) kept.now.last) }
+{
+    match &kept.last {
+        Some(moment) => Ok(Some(told(alloc, path, moment)?)),
+        None => Ok(None),
     }
 }

@@ -1,8 +1,10 @@
 -- Which child a space in conflict has joined.
-use Rattle.std.proofs.Common.{◌≡◌, ℕ, List, ◌++◌, codes, Some, sym, ap, ◌∙◌, subst, inl}
-use Rattle.std.specs.Prelude.{slice_index}
+use Rattle.std.proofs.Common.{◌≡◌, ℕ, ◌^◌, Bool, true, false, List, ◌++◌, length, codes, Some, None, refl, sym, ap, ◌∙◌, subst, inl}
+use Rattle.std.specs.Prelude.{nat_lt, slice_index}
+use Rattle.call_model.specs.Limits.{greatest_depth}
 use Rattle.memory_model.specs.Memory.{Memory, byte_at}
 use Rattle.space_model.specs.Space.{Space, Top}
+use Rattle.explain_core.specs.Beside.{child_of}
 use Rattle.explain_core.specs.declared.watching.Watched.TheVariants.{Byte}
 use Rattle.explain_why.specs.Origin.{TellsOrigin, child_path}
 use Rattle.explain_why.specs.Texts.{bytes_text, conflict_text}
@@ -29,3 +31,15 @@ conflict_told root p q parent child snapshot call address head bytes child_side 
       four_parts first second third text (conflict_text p (slice_index parent.registers.x 17) q address) (bytes_text (byte_at snapshot address) (byte_at child.memory address) (byte_at parent.memory address)) child_side parent_side
       (a ∙ line ∙ ap (λ n. conflict_text p n q address) number) (b ∙ ap (λ v. first ++ v) row) c d;
 }
+
+-- its path by the number
+pub child_named : (p q : List ℕ) (n : ℕ) → Some q ≡ child_path p n → q ≡ child_of p n
+child_named p q n named = by_tests (nat_lt n (2 ^ 16)) (nat_lt (length p) greatest_depth) refl refl
+  where
+    one : (x y : List ℕ) → Some x ≡ Some y → x ≡ y
+    one x y e = cc
+
+    by_tests : (b c : Bool) → nat_lt n (2 ^ 16) ≡ b → nat_lt (length p) greatest_depth ≡ c → q ≡ child_of p n
+    by_tests true true small deep = one q (child_of p n) (named ∙ rw (small, deep) refl)
+    by_tests true false small deep = let none : Some q ≡ None = named ∙ rw (small, deep) refl in cc
+    by_tests false c large deep = let none : Some q ≡ None = named ∙ rw large refl in cc

@@ -1,24 +1,35 @@
 -- Who left a value: the constructors in the words of the code.
-use Rattle.std.proofs.Common.{◌≡◌, ◌≤◌, ◌-◌, ℕ, zero, suc, take, List, [], ◌∷◌, ◌++◌, Some, None, sym, ap, ◌∙◌, subst, arith, codes, inr}
+use Rattle.std.proofs.Common.{◌≡◌, ◌≤◌, ◌-◌, ℕ, zero, suc, take, List, [], ◌∷◌, ◌++◌, Option, Some, None, Bool, true, false, ◌==◌, if◌then◌else◌, refl, sym, ap, ◌∙◌, subst, arith, codes, inl, inr}
+use Rattle.std.proofs.lemmas.Bool.Decides.{nat_tests}
 use Rattle.std.specs.List.{slice_get}
 use Rattle.std.proofs.lemmas.List.{append-nil}
 use Rattle.space_model.specs.Space.{Space}
 use Rattle.space_model.specs.Sound.{IsSound}
 use Rattle.event_laws.specs.OwnEvents.{OwnEvent, own_events}
 use Rattle.explain_core.specs.declared.watching.Watched.{Watched}
-use Rattle.explain_core.specs.Reached.{TellsLastChange}
+use Rattle.explain_core.specs.Reached.{NeverChanges, TellsLast, TellsLastChange}
 use Rattle.explain_core.specs.Watch.{Noted}
 use Rattle.explain_why.specs.declared.origin.Sought.{Sought}
-use Rattle.explain_why.specs.Origin.{Happens, IsLeftBy, IsLeftByNone, TellsOrigin, by_join, by_none, by_own, joined_path}
+use Rattle.explain_why.specs.Origin.{Happens, IsLeft, IsLeftBy, IsLeftByNone, TellsOrigin, by_join, by_none, by_own, joined_path, where_left}
 use Rattle.explain_why.specs.Sought.{IsSoughtBelow}
+use Rattle.explain_why.specs.Why.{all_events}
 use Rattle.explain_why.proofs.Counts.{ended}
 
--- a copy of the tree tells who left the value, or that none did
-pub left : (root tree : Space) (p : List ℕ) (to : ℕ) (w : Watched) (value : ℕ) (c : Noted) → tree ≡ root → TellsLastChange tree p to w c → c.value ≡ value → IsLeftBy root p to w value c
-left root tree p to w value c is told same = record { last = subst (λ s. TellsLastChange s p to w c) is told; same = same }
+not_same : (x y : ℕ) → (x == y) ≡ false → x ≡ y → ⊥
+not_same x y other e = grind (arith, nat_tests)
 
-pub left_other : (root tree : Space) (p : List ℕ) (to : ℕ) (w : Watched) (value : ℕ) (c : Noted) → tree ≡ root → TellsLastChange tree p to w c → (c.value ≡ value → ⊥) → IsLeftByNone root p to w value
-left_other root tree p to w value c is told other = inr (c, subst (λ s. TellsLastChange s p to w c) is told, other)
+-- the last event that changed what is watched tells who left the value, or that none did
+pub left : (root : Space) (p : List ℕ) (to : ℕ) (w : Watched) (value : ℕ) (o : Option Noted) → TellsLast root p to w o → IsLeft root p to w value (where_left value o)
+left root p to w value None never = inl never
+left root p to w value (Some c) told = by_test (c.value == value) refl
+  where
+    by_test : (b : Bool) → (c.value == value) ≡ b → IsLeft root p to w value (if c.value == value then Some c else None)
+    by_test true same = rw same (record { last = told; same = grind (arith, nat_tests) })
+    by_test false other = rw other (inr (c, told, λ e. not_same (c.value) value other e))
+
+-- in the words of a copy of the tree
+pub left_in_copy : (root tree : Space) (p : List ℕ) (to : ℕ) (w : Watched) (value : ℕ) (o found : Option Noted) → tree ≡ root → TellsLast tree p to w o → found ≡ where_left value o → IsLeft root p to w value found
+left_in_copy root tree p to w value o found is told kept = subst (IsLeft root p to w value) (sym kept) (left root p to w value o (subst (λ t. TellsLast t p to w o) is told))
 
 in_front : (xs : List OwnEvent) (n k : ℕ) (e : OwnEvent) → slice_get (take n xs) k ≡ Some e → slice_get xs k ≡ Some e
 in_front xs zero k e is = cc
@@ -46,3 +57,17 @@ pub told_join : (root : Space) (s below : Sought) (word text rest : List ℕ) (c
 told_join root s below word text rest c by is through lines =
     let same = subst (λ v. TellsOrigin root s.watched below.path.items below.to v (codes "through") rest) is.value (subst (λ w. TellsOrigin root w below.path.items below.to below.value (codes "through") rest) is.watched through) in
     subst (TellsOrigin root s.watched s.path.items s.to s.value word) (sym lines) (by_join s.path.items s.to s.value word c below.path.items below.to rest by is.path is.before same)
+
+-- ---- the byte at an address, of all own events
+
+-- in the words of what is sought
+pub sought_left : (root : Space) (p : List ℕ) (w : Watched) (s : Sought) (o found : Option Noted) → s.path.items ≡ p → s.to ≡ all_events → s.watched ≡ w → TellsLast root p all_events w o → found ≡ where_left s.value o → IsLeft root s.path.items s.to s.watched s.value found
+sought_left root p w s o found path to watched tells is =
+    subst (λ q. IsLeft root q s.to s.watched s.value found) (sym path)
+    (subst (λ n. IsLeft root p n s.watched s.value found) (sym to) (subst (λ v. IsLeft root p all_events v s.value found) (sym watched) (subst (IsLeft root p all_events w s.value) (sym is) (left root p all_events w s.value o tells))))
+
+pub sought_told : (root : Space) (p : List ℕ) (w : Watched) (value : ℕ) (word text : List ℕ) (s : Sought) → s.path.items ≡ p → (s.to ≡ all_events) × (s.watched ≡ w) × (s.value ≡ value) → TellsOrigin root s.watched s.path.items s.to s.value word text
+    → TellsOrigin root w p all_events value word text
+sought_told root p w value word text s path rest tells =
+    subst (λ q. TellsOrigin root w q all_events value word text) path
+    (subst (λ n. TellsOrigin root w s.path.items n value word text) rest.0 (subst (λ v. TellsOrigin root v s.path.items s.to value word text) rest.1 (subst (λ v. TellsOrigin root s.watched s.path.items s.to v word text) rest.2 tells)))

@@ -1,8 +1,6 @@
 -- Who changed what is watched of a space: the last own event that did, and where that is a join, on through it to the one who stored.
 -- Our choice: that a join is followed into the child that it names, and a call on files is not.
-use Rattle.std.specs.Prelude.{◌≡◌, ◌⊎◌, ℕ, ◌-◌, ◌^◌, ◌==◌, ◌&&◌, ◌||◌, nat_lt, Bool, true, false, List, [], ◌∷◌, ◌++◌, length, Option, Some, None, codes, slice_index, if◌then◌else◌}
-use Rattle.instruction_model.specs.declared.Instruction.{Instruction}
-use Rattle.instruction_model.specs.declared.Instruction.TheVariants.{Ecall}
+use Rattle.std.specs.Prelude.{◌≡◌, ◌⊎◌, ℕ, ◌-◌, ◌^◌, ◌==◌, ◌&&◌, ◌||◌, nat_lt, Bool, false, List, [], ◌∷◌, ◌++◌, length, Option, Some, None, codes, slice_index, if◌then◌else◌}
 use Rattle.instruction_model.specs.Outcome.{Registers}
 use Rattle.call_model.specs.declared.TheConstants.{GET, TJOIN}
 use Rattle.call_model.specs.Limits.{greatest_depth}
@@ -11,6 +9,7 @@ use Rattle.space_model.specs.Space.{Space}
 use Rattle.event_laws.specs.OwnEvents.{IsOwnEvent, OwnEvent, own_events}
 use Rattle.explain_core.specs.declared.watching.Watched.{Watched}
 use Rattle.explain_core.specs.declared.watching.Watched.TheVariants.{Byte, Register}
+use Rattle.explain_core.specs.Instructions.{is_call}
 use Rattle.explain_core.specs.Watch.{Noted}
 use Rattle.explain_core.specs.Reached.{HasSoMany, NeverChanges, TellsLastChange}
 
@@ -23,17 +22,23 @@ pub record IsLeftBy (root : Space) (p : List ℕ) (to : ℕ) (w : Watched) (valu
 abbrev pub IsLeftByNone : Space → List ℕ → ℕ → Watched → ℕ → Type 0
 IsLeftByNone root p to w value = NeverChanges root p to w ⊎ ((c : Noted) × TellsLastChange root p to w c × (c.value ≡ value → ⊥))
 
+-- the event that left this value, or that none did
+abbrev pub IsLeft : Space → List ℕ → ℕ → Watched → ℕ → Option Noted → Type 0
+IsLeft root p to w value None = IsLeftByNone root p to w value
+IsLeft root p to w value (Some c) = IsLeftBy root p to w value c
+
+-- an event, where it left this value
+abbrev pub where_left : ℕ → Option Noted → Option Noted
+where_left value None = None
+where_left value (Some c) = if c.value == value then Some c else None
+
 -- a call that merges a child's memory, each byte at its own address: TJOIN, and Get with Merge
 abbrev pub merges : Registers → Bool
 merges r = (slice_index r.x 17 == TJOIN) || ((slice_index r.x 17 == GET) && has merging (slice_index r.x 10))
 
-abbrev pub is_ecall : Option Instruction → Bool
-is_ecall (Some Ecall) = true
-is_ecall other = false
-
 -- an event joins a child, where bytes are watched
 abbrev pub is_join : Watched → Noted → Bool
-is_join (Byte a) c = is_ecall c.instruction && merges c.registers
+is_join (Byte a) c = is_call c.instruction && merges c.registers
 is_join (Register r) c = false
 
 -- the path of a child by its number, where a space can stand there

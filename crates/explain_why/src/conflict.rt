@@ -1,14 +1,18 @@
-ghost use Rattle.std.specs.Prelude.{◌≡◌, IfOk, IfSome, IsNone};
-ghost use Rattle.memory_model.specs.Memory.{Memory};
+ghost use Rattle.std.specs.Prelude.{◌≡◌, IfOk, IfSome, IsNone, codes};
+ghost use Rattle.memory_model.specs.Memory.{Memory, byte_at};
 ghost use Rattle.space_model.specs.Sound.{IsSound};
 ghost use Rattle.space_model.specs.Space.{Top};
+ghost use Rattle.explain_core.specs.Beside.{child_of};
+ghost use Rattle.explain_core.specs.declared.watching.Watched.TheVariants.{Byte};
+ghost use Rattle.explain_why.specs.Origin.{TellsOrigin};
 ghost use Rattle.explain_why.specs.Texts.{lone_conflict_text};
-ghost use Rattle.explain_why.specs.Why.{ExplainsConflict, StandsAt, TellsConflict};
+ghost use Rattle.explain_why.specs.Why.{ExplainsConflict, StandsAt, TellsConflict, all_events};
 
-use crate::origin::byte_origin;
+use crate::origin::{byte_origin, changed_origin};
 use crate::paths::child_path;
 use crate::texts::{bytes_text, conflict_text, lone_conflict_text};
-use space_tree::{Mem, Path, Space, Top, at};
+use explain_core::{Watched, last_changes};
+use space_tree::{Mem, Path, Space, Top, at, copy_tree};
 use std::alloc::{AllocError, Global};
 
 // The tops of a space and of the child that it joined, and the child's snapshot.
@@ -19,16 +23,63 @@ struct Sides<'a> {
     snapshot: &'a Mem,
 }
 
+// Who changed the byte at an address, on the side of a child and on that of the space at a path that joined it: one run tells of both, unless one of them has more
+// events than it counts.
+fn both_origins(
+    alloc: Global,
+    root: &mut Space,
+    path: &Path,
+    below: &Path,
+    number: u16,
+    child: &Mem,
+    parent: &Mem,
+    address: u32,
+) -> Result<(Vec<u8>, Vec<u8>), AllocError>
+    requires sound { IsSound root.old }
+    requires child { below.now.items ≡ child_of path.now.items number }
+    ensures child { IfOk result (λ v. TellsOrigin root.old (Byte address) below.now.items all_events (byte_at child.now.memory address) (codes "child changed by") v.0.items) }
+    ensures parent { IfOk result (λ v. TellsOrigin root.old (Byte address) path.now.items all_events (byte_at parent.now.memory address) (codes "parent changed by") v.1.items) }
+    ensures same { root.new ≡ root.old }
+{
+    let child_word = "child changed by";
+    let parent_word = "parent changed by";
+    let tree = copy_tree(alloc, root)?;
+    match last_changes(alloc, tree, path, below, number, Watched::Byte(address))? {
+        Some((by_child, by_parent)) => {
+            let of_child = changed_origin(
+                alloc, root, below, address, child, by_child, child_word,
+            )?;
+            let of_parent = changed_origin(
+                alloc,
+                root,
+                path,
+                address,
+                parent,
+                by_parent,
+                parent_word,
+            )?;
+            Ok((of_child, of_parent))
+        }
+        None => {
+            let of_child = byte_origin(alloc, root, below, address, child, child_word)?;
+            let of_parent = byte_origin(alloc, root, path, address, parent, parent_word)?;
+            Ok((of_child, of_parent))
+        }
+    }
+}
+
 // Of a space and the child that it joined, with the child's snapshot: the bytes at the address, and who changed the child's and the parent's.
 fn told_conflict(
     alloc: Global,
     root: &mut Space,
     path: &Path,
     below: &Path,
+    number: u16,
     sides: &Sides<'_>,
     address: u32,
 ) -> Result<Vec<u8>, AllocError>
-    requires { IsSound root.old }
+    requires sound { IsSound root.old }
+    requires child { below.now.items ≡ child_of path.now.items number }
     ensures told { IfOk result (λ v. TellsConflict root.old path.now.items below.now.items sides.now.parent.now sides.now.child.now sides.now.snapshot.now.memory address v.items) }
     ensures same { root.new ≡ root.old }
 {
@@ -44,8 +95,9 @@ fn told_conflict(
         child.byte(address),
         parent.byte(address),
     )?;
-    let by_child = byte_origin(alloc, root, below, address, child, "child changed by")?;
-    let by_parent = byte_origin(alloc, root, path, address, parent, "parent changed by")?;
+    let (by_child, by_parent) = both_origins(
+        alloc, root, path, below, number, child, parent, address,
+    )?;
     let mut text = head.into_bytes();
     text.extend_from_slice(bytes.as_bytes())?;
     text.extend_from_slice(&by_child)?;
@@ -93,11 +145,12 @@ pub(crate) fn explain_conflict(
     ensures told { IfOk result (λ v. ExplainsConflict root.old end.now path.now.items parent.now address v.items) }
     ensures same { root.new ≡ root.old }
 {
-    let Some(below) = child_path(path, parent.registers.register(11))? else {
+    let number = parent.registers.register(11);
+    let Some(below) = child_path(path, number)? else {
         return lone_conflict(alloc, path, address);
     };
     let Some(sides) = sides_of(end, &below, parent) else {
         return lone_conflict(alloc, path, address);
     };
-    told_conflict(alloc, root, path, &below, &sides, address)
+    told_conflict(alloc, root, path, &below, number as u16, &sides, address)
 }

@@ -3,15 +3,15 @@ ghost use Rattle.memory_model.specs.Memory.{byte_at};
 ghost use Rattle.space_model.specs.Sound.{IsSound};
 ghost use Rattle.explain_core.specs.declared.watching.Watched.TheVariants.{Byte};
 ghost use Rattle.explain_core.specs.Watch.{noted_of};
-ghost use Rattle.explain_why.specs.Origin.{IsLeftBy, IsLeftByNone, TellsOrigin, is_ecall, is_join, joined_path, merges};
+ghost use Rattle.explain_core.specs.Reached.{TellsLast};
+ghost use Rattle.explain_why.specs.Origin.{IsLeft, IsLeftBy, TellsOrigin, is_join, joined_path, merges, where_left};
 ghost use Rattle.explain_why.specs.Sought.{IsSoughtBelow};
 ghost use Rattle.explain_why.specs.Why.{all_events};
 
 use crate::counting::events_before;
 use crate::paths::{child_path, copy_path};
 use call_model::{GET, TJOIN};
-use explain_core::{Change, Watched, last_change};
-use rv_decode::{Instr, Instruction};
+use explain_core::{Change, Watched, is_call, last_change};
 use space_tree::{Mem, Path, Regs, Space, copy_tree};
 use std::alloc::{AllocError, Global};
 use trap_ret::options::{MERGE, has};
@@ -26,32 +26,30 @@ struct Sought {
 }
 
 // The last event that changed what is watched, where it left the value that is sought.
-fn left_by(alloc: Global, root: &mut Space, sought: &Sought) -> Result<Option<Change>, AllocError>
-    requires { IsSound root.old }
-    ensures some { IfOk result (λ o. IfSome o (λ c. IsLeftBy root.old sought.now.path.items sought.now.to sought.now.watched sought.now.value (noted_of c))) }
-    ensures none { IfOk result (λ o. IsNone o → IsLeftByNone root.old sought.now.path.items sought.now.to sought.now.watched sought.now.value) }
-    ensures same { root.new ≡ root.old }
+fn where_left(sought: &Sought, change: Option<Change>) -> Option<Change>
+    ensures { option_map noted_of result ≡ where_left sought.now.value (option_map noted_of change) }
 {
-    let tree = copy_tree(alloc, root)?;
-    match last_change(alloc, tree, &sought.path, sought.to, sought.watched)? {
-        None => Ok(None),
+    match change {
+        None => None,
         Some(change) => {
             if change.value == sought.value {
-                Ok(Some(change))
+                Some(change)
             } else {
-                Ok(None)
+                None
             }
         }
     }
 }
 
-fn is_ecall(instruction: Option<Instr>) -> bool
-    ensures { result ≡ is_ecall instruction }
+// The last event that left the value that is sought.
+fn left_by(alloc: Global, root: &mut Space, sought: &Sought) -> Result<Option<Change>, AllocError>
+    requires { IsSound root.old }
+    ensures left { IfOk result (λ o. IsLeft root.old sought.now.path.items sought.now.to sought.now.watched sought.now.value (option_map noted_of o)) }
+    ensures same { root.new ≡ root.old }
 {
-    match instruction {
-        Some(instr) => matches!(instr.instruction(), Instruction::Ecall),
-        None => false,
-    }
+    let tree = copy_tree(alloc, root)?;
+    let change = last_change(alloc, tree, &sought.path, sought.to, sought.watched)?;
+    Ok(where_left(sought, change))
 }
 
 // Whether these are the registers of a call that merges a child's memory.
@@ -67,7 +65,7 @@ fn is_join(watched: Watched, change: &Change) -> bool
     ensures { result ≡ is_join watched (noted_of change.now) }
 {
     match watched {
-        Watched::Byte(_) => is_ecall(change.instruction) && merges(&change.registers),
+        Watched::Byte(_) => is_call(change.instruction) && merges(&change.registers),
         Watched::Register(_) => false,
     }
 }
@@ -134,7 +132,32 @@ fn joined(
     }
 }
 
-// A line for the event that left a value, behind a word; and behind one that joined a child, on through it to the one who stored.
+// A line for the event that left a value, where one did, behind a word; and behind one that joined a child, on through it to the one who stored.
+#[cycle(origin)]
+fn origin_of(
+    alloc: Global,
+    root: &mut Space,
+    sought: &Sought,
+    change: Option<Change>,
+    word: &str,
+) -> Result<Vec<u8>, AllocError>
+    requires sound { IsSound root.old }
+    requires left { IsLeft root.old sought.now.path.items sought.now.to sought.now.watched sought.now.value (option_map noted_of change) }
+    ensures told { IfOk result (λ v. TellsOrigin root.old sought.now.watched sought.now.path.items sought.now.to sought.now.value word.now v.items) }
+    ensures same { root.new ≡ root.old }
+{
+    let Some(change) = change else {
+        return line_of_none(alloc, word);
+    };
+    let Some(below) = joined(alloc, root, sought, &change)? else {
+        return line_of_change(alloc, word, &change.line, b"");
+    };
+    let rest = origin(alloc, root, &below, "through")?;
+    line_of_change(alloc, word, &change.line, &rest)
+}
+
+// The same of what is sought.
+#[cycle(origin)]
 fn origin(
     alloc: Global,
     root: &mut Space,
@@ -145,17 +168,44 @@ fn origin(
     ensures told { IfOk result (λ v. TellsOrigin root.old sought.now.watched sought.now.path.items sought.now.to sought.now.value word.now v.items) }
     ensures same { root.new ≡ root.old }
 {
-    let Some(change) = left_by(alloc, root, sought)? else {
-        return line_of_none(alloc, word);
-    };
-    let Some(below) = joined(alloc, root, sought, &change)? else {
-        return line_of_change(alloc, word, &change.line, b"");
-    };
-    let rest = origin(alloc, root, &below, "through")?;
-    line_of_change(alloc, word, &change.line, &rest)
+    let change = left_by(alloc, root, sought)?;
+    origin_of(alloc, root, sought, change, word)
 }
 
-/// The same of all own events of a path.
+// What is sought of the byte at an address of a memory, among all own events of a path.
+fn byte_sought(path: &Path, address: u32, memory: &Mem) -> Result<Sought, AllocError>
+    ensures path { IfOk result (λ s. s.path.items ≡ path.now.items) }
+    ensures rest { IfOk result (λ s. (s.to ≡ all_events) × (s.watched ≡ Byte address) × (s.value ≡ byte_at memory.now.memory address)) }
+{
+    Ok(Sought {
+        path: copy_path(path)?,
+        to: u64::MAX,
+        watched: Watched::Byte(address),
+        value: u32::from(memory.byte(address)),
+    })
+}
+
+/// A line for the event that left the byte at an address of a memory, where the last event that changed it is known.
+pub(crate) fn changed_origin(
+    alloc: Global,
+    root: &mut Space,
+    path: &Path,
+    address: u32,
+    memory: &Mem,
+    change: Option<Change>,
+    word: &str,
+) -> Result<Vec<u8>, AllocError>
+    requires sound { IsSound root.old }
+    requires change { TellsLast root.old path.now.items all_events (Byte address) (option_map noted_of change) }
+    ensures told { IfOk result (λ v. TellsOrigin root.old (Byte address) path.now.items all_events (byte_at memory.now.memory address) word.now v.items) }
+    ensures same { root.new ≡ root.old }
+{
+    let sought = byte_sought(path, address, memory)?;
+    let left = where_left(&sought, change);
+    origin_of(alloc, root, &sought, left, word)
+}
+
+/// A line for the event that left a value of what is watched, among all own events of a path.
 pub(crate) fn last_origin(
     alloc: Global,
     root: &mut Space,
@@ -177,7 +227,7 @@ pub(crate) fn last_origin(
     origin(alloc, root, &sought, word)
 }
 
-/// The same of the byte at an address of a memory.
+/// A line for the event that left the byte at an address of a memory, among all own events of a path.
 pub(crate) fn byte_origin(
     alloc: Global,
     root: &mut Space,
@@ -190,7 +240,6 @@ pub(crate) fn byte_origin(
     ensures told { IfOk result (λ v. TellsOrigin root.old (Byte address) path.now.items all_events (byte_at memory.now.memory address) word.now v.items) }
     ensures same { root.new ≡ root.old }
 {
-    let watched = Watched::Byte(address);
-    let value = u32::from(memory.byte(address));
-    last_origin(alloc, root, path, watched, value, word)
+    let sought = byte_sought(path, address, memory)?;
+    origin(alloc, root, &sought, word)
 }

@@ -20,12 +20,11 @@ returns-clause-told c =
     let parents = c.byte-3.ensures ∙ ap (λ (t : Top). byte_at t.memory a) c.space.view_is in
     let snapshots = c.byte.ensures in
     let row = c.in_ok-bytes.ensures ∙ (λ i. bytes_text (snapshots i) (childs i) (parents i)) in
-    let by_child = subst (λ (t : Top). TellsOrigin root (Byte a) q all_events (byte_at t.memory a) (codes "child changed by") c.in_ok-by_child.by_child.items) c.joined.view_is c.in_ok-by_child.ensures.told in
-    let by_parent = subst (λ s. TellsOrigin s (Byte a) p all_events (byte_at c.space.inside.memory.memory a) (codes "parent changed by") c.in_ok-by_parent.by_parent.items) c.byte_origin.ensures.same c.in_ok-by_parent.ensures.told in
-    let by_parent' = subst (λ (t : Top). TellsOrigin root (Byte a) p all_events (byte_at t.memory a) (codes "parent changed by") c.in_ok-by_parent.by_parent.items) c.space.view_is by_parent in
-    conflict_told root p q c.args.sides.now.parent.now c.args.sides.now.child.now c.args.sides.now.snapshot.now.memory c.register-call.result a (string_bytes c.in_ok-head.head) (string_bytes c.in_ok-bytes.bytes) c.in_ok-by_child.by_child.items c.in_ok-by_parent.by_parent.items
+    let by_child = subst (λ (t : Top). TellsOrigin root (Byte a) q all_events (byte_at t.memory a) (codes "child changed by") c.in_ok-by_child.by_child.items) c.joined.view_is c.in_ok-by_child.ensures.child in
+    let by_parent = subst (λ (t : Top). TellsOrigin root (Byte a) p all_events (byte_at t.memory a) (codes "parent changed by") c.in_ok-by_child.by_parent.items) c.space.view_is c.in_ok-by_child.ensures.parent in
+    conflict_told root p q c.args.sides.now.parent.now c.args.sides.now.child.now c.args.sides.now.snapshot.now.memory c.register-call.result a (string_bytes c.in_ok-head.head) (string_bytes c.in_ok-bytes.bytes) c.in_ok-by_child.by_child.items c.in_ok-by_child.by_parent.items
     c.into_bytes-text.result.items c.extend_from_slice.new.self.items c.extend_from_slice-2.new.self.items c.extend_from_slice-3.new.self.items
-    number c.in_ok-head.ensures row by_child by_parent' (ap (λ v. v.items) c.into_bytes-text.ensures.value)
+    number c.in_ok-head.ensures row by_child by_parent (ap (λ v. v.items) c.into_bytes-text.ensures.value)
     (c.in_ok-extend_from_slice.ensures.items ∙ ap (λ v. c.into_bytes-text.result.items ++ v) c.as_bytes.ensures.value)
     (c.in_ok-extend_from_slice-2.ensures.items ∙ ap (λ v. c.extend_from_slice.new.self.items ++ v) c.deref.ensures.value)
     (c.in_ok-extend_from_slice-3.ensures.items ∙ ap (λ v. c.extend_from_slice-2.new.self.items ++ v) c.deref-2.ensures.value)
