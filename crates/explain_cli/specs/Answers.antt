@@ -68,9 +68,14 @@ abbrev pub first_of : List (List ℕ) → Option (List ℕ)
 first_of [] = None
 first_of (source ∷ rest) = Some source
 
+-- the file that gives names: the one that is given, or else the image, where it is an executable file
+abbrev pub naming_file : List ℕ → Option (List ℕ) → Option (List ℕ)
+naming_file image None = if is_elf image then Some image else None
+naming_file image (Some source) = Some source
+
 -- what all files of a command make
 abbrev pub whole_of : List (List ℕ) → Decision
-whole_of (image ∷ script ∷ rest) = run_of (image_of_file image) (devices_of_file script) (first_of rest)
+whole_of (image ∷ script ∷ rest) = run_of (image_of_file image) (devices_of_file script) (naming_file image (first_of rest))
 whole_of files = undecided
 
 abbrev pub decision_of : Command → List (List ℕ) → Decision

@@ -1,20 +1,30 @@
 -- What the reading of a command's files promises.
 -- Our choice: a restatement for proofs.
-use Rattle.std.specs.Prelude.{◌≡◌, ◌⊎◌, ℕ, List, Option, option_map, Result, Ok, Err}
+use Rattle.std.specs.Prelude.{◌≡◌, ◌⊎◌, ℕ, List, Option, None, option_map, Result, Ok, Err}
 use Rattle.det_host.specs.Outside.{Rose}
 use Rattle.det_cli.specs.declared.end.End.{End}
 use Rattle.det_cli.specs.declared.end.End.TheVariants.{ReadFault, NoMemory}
 use Rattle.det_cli.specs.Status.{IsBad}
+use Rattle.det_cli.specs.Commands.{image_of_file}
 use Rattle.det_cli.specs.Files.{Input, ReadFiles, Step}
 use Rattle.symbols.specs.Symbols.{Symbol}
 use Rattle.explain_words.specs.Line.{Command}
+use Rattle.explain_cli.specs.declared.names.NamedImage.{NamedImage}
 use Rattle.explain_cli.specs.declared.names.Names.{Names}
 use Rattle.explain_cli.specs.declared.reading.Loaded.{Loaded}
-use Rattle.explain_cli.specs.Answers.{AreNames, Decision, all_read, decide, undecided, refused, run, steps_of, whole_of}
+use Rattle.explain_cli.specs.Answers.{AreNames, Decision, all_read, decide, naming_file, undecided, refused, run, steps_of, whole_of}
 
 -- the symbols of what gives names
 abbrev pub symbols_of : Option Names → Option (List Symbol)
 symbols_of names = option_map (λ n. n.symbols) names
+
+-- these are an image's own names
+abbrev pub AreOwn : List ℕ → Option Names → Type 0
+AreOwn image names = AreNames (naming_file image None) (symbols_of names)
+
+-- a file is read as an image and its own names
+abbrev pub ReadsNamed : List ℕ → NamedImage → Type 0
+ReadsNamed bytes n = (image_of_file bytes ≡ Ok n.image) × AreOwn bytes n.names
 
 -- what is answered to that which files decide
 abbrev pub Decides : Decision → Input → Result Loaded End → Type 0

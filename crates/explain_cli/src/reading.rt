@@ -3,7 +3,7 @@ ghost use Rattle.det_cli.specs.Files.{input_of};
 ghost use Rattle.explain_words.specs.Line.{line_of};
 ghost use Rattle.explain_cli.specs.Stages.{ReadsRun};
 
-use crate::names::Names;
+use crate::names::{NamedImage, Names};
 use det_cli::{End as Failure, load_as};
 use det_host::Loader;
 use dev_script::Devices;
@@ -16,7 +16,7 @@ use std::alloc::Global;
 pub(crate) struct Loaded {
     pub(crate) image: Image,
     pub(crate) devices: Devices,
-    /// What gives names to addresses, where a source is given.
+    /// What gives names to addresses: what is given, or else the image, where it is an executable file.
     pub(crate) names: Option<Names>,
 }
 
@@ -30,7 +30,7 @@ pub(crate) fn read_run<L: Loader>(
     ensures reads { ReadsRun (line_of command.now) (input_of L.told L.asked L.faults files.old files.new) result }
     ensures later { L.faults files.old ≤ L.faults files.new }
 {
-    let image = load_as::<L, Image>(alloc, files, command.image)?;
+    let NamedImage { image, names } = load_as::<L, NamedImage>(alloc, files, command.image)?;
     let devices = load_as::<L, Devices>(alloc, files, command.script)?;
     match command.source {
         Some(source) => {
@@ -44,7 +44,7 @@ pub(crate) fn read_run<L: Loader>(
         None => Ok(Loaded {
             image,
             devices,
-            names: None,
+            names,
         }),
     }
 }
