@@ -268,8 +268,8 @@ fn last_sides(
     if both { Ok(Some(sides)) } else { Ok(None) }
 }
 
-/// The last own events that changed what is watched, of the child of a number of the space at a path and of this space, each as of `last_change`, in one run; none only where
-/// one of them has more own events than a number of 64 bits can count. The one error is want of memory.
+/// The last own events that changed what is watched, of the child of a number of the space at a path and of this space, each as of `last_change`, in one run. None comes
+/// where one of them has more own events than a number of 64 bits can count; no clause says that it comes nowhere else, so a caller has to ask for each alone then. The one error is want of memory.
 pub fn last_changes(
     alloc: Global,
     tree: Space,

@@ -259,7 +259,7 @@ fn watch_in<S: Source>(
     }
 }
 
-// The same over a memory that is not watched else.
+// The same over a memory, which is a watched one for as long as that takes.
 fn watch<S: Source>(
     source: &mut S,
     registers: &mut Regs,
