@@ -1,7 +1,7 @@
--- Instructions that leave what is watched as it is.
-use Rattle.std.proofs.Common.{◌≡◌, ℕ, ◌+◌, ◌/◌, ◌%◌, ◌<◌, ◌==◌, Bool, true, false, if◌then◌else◌, List, slice_set, refl, sym, ap, ◌∙◌, arith}
+-- Instructions that leave what is watched as it is, and that no other register than their result's changes.
+use Rattle.std.proofs.Common.{◌≡◌, ℕ, ◌/◌, ◌%◌, ◌==◌, Bool, true, false, if◌then◌else◌, List, slice_set, refl, sym, ap, ◌∙◌, subst, arith}
 use Rattle.std.proofs.lemmas.Bool.Decides.{nat_tests}
-use Rattle.std.proofs.lemmas.List.{get_or-set_other}
+use Rattle.std.proofs.lemmas.List.{get_or-set_other, set-get_or, set-set}
 use Rattle.std.specs.Prelude.{slice_index}
 use Rattle.memory_model.specs.Memory.{Memory, byte_at, number_from, width_bytes, with_number}
 use Rattle.memory_model.specs.declared.Width.{Width}
@@ -14,7 +14,7 @@ use Rattle.rv_exec.specs.Steps.{registers_at}
 use Rattle.space_step.specs.Stretch.{IsDone}
 use Rattle.space_step.proofs.Caching.{byte_stays}
 use Rattle.explain_core.specs.declared.watching.Watched.TheVariants.{Byte, Register}
-use Rattle.explain_core.specs.Stretch.{Leaves, result_register, stores_into}
+use Rattle.explain_core.specs.Stretch.{GivesBack, Leaves, given_back, result_register, stores_into}
 
 -- ---- a register
 
@@ -138,3 +138,84 @@ done_keeps_byte a (traps number value) m s k keeps done = absurd done
 
 pub leaves_byte : (a : ℕ) (i : Instruction) (x : List ℕ) → stores_into i x a ≡ false → Leaves (Byte a) i x
 leaves_byte a i x other pc m s k done = done_keeps_byte a (perform i (view_of m) (registers_at pc x)) m s k (perform_keeps_byte a m i (registers_at pc x) other) done
+
+-- ---- the registers before
+
+-- an outcome leaves a register file from which that before it is found, by one register
+abbrev Back : ℕ → List ℕ → Outcome → Type 0
+Back r x (goes t) = given_back (Register r) t.x (slice_index x r) ≡ x
+Back r x (stores t at width v) = given_back (Register r) t.x (slice_index x r) ≡ x
+Back r x calls = Unit {0}
+Back r x (traps number value) = Unit {0}
+
+either_back : (r : ℕ) (x : List ℕ) (c : Bool) (o p : Outcome) → Back r x o → Back r x p → Back r x (if c then o else p)
+either_back r x true o p h k = h
+either_back r x false o p h k = k
+
+set_back : (r : ℕ) (x : List ℕ) (v : ℕ) (zero : Bool) → (let y = if zero then x else slice_set x r v in if zero then y else slice_set y r (slice_index x r)) ≡ x
+set_back r x v true = refl
+set_back r x v false = set-set x r v (slice_index x r) ∙ set-get_or x r 0
+
+-- a result
+result_back : (s : Registers) (r v : ℕ) → (let t = with_register s r v in given_back (Register r) t.x (slice_index s.x r)) ≡ s.x
+result_back s r v = set_back r s.x v (r == 0)
+
+jump_back : (r : ℕ) (x : List ℕ) (s : Registers) (target : ℕ) → given_back (Register r) s.x (slice_index x r) ≡ x → Back r x (jumps s target)
+jump_back r x s target same = either_back r x (target % 4 == 0) (goes (record s { pc = target })) (traps 0 target) same tt
+
+branch_back : (taken : Bool) (s : Registers) (target : ℕ) → Back 0 s.x (branches taken s target)
+branch_back true s target = jump_back 0 s.x s target refl
+branch_back false s target = refl
+
+load_back : (l : LoadKind) (m : View) (s : Registers) (r a : ℕ) → Back r s.x (loads l m s r a)
+load_back l m s r a =
+    let v = extension_of l (number_from m.byte (loaded_width l) a) in
+    either_back r s.x (a % width_bytes (loaded_width l) == 0) (if m.may_read a then goes (results s r v) else traps 5 a) (traps 4 a)
+    (either_back r s.x (m.may_read a) (goes (results s r v)) (traps 5 a) (result_back (onward s) r v) tt) tt
+
+store_back : (width : Width) (m : View) (s : Registers) (a v : ℕ) → Back 0 s.x (writes width m s a v)
+store_back width m s a v =
+    either_back 0 s.x (a % width_bytes width == 0) (if m.may_write a then stores (onward s) a width v else traps 7 a) (traps 6 a)
+    (either_back 0 s.x (m.may_write a) (stores (onward s) a width v) (traps 7 a) refl tt) tt
+
+perform_back : (i : Instruction) (m : View) (s : Registers) → Back (result_register i) s.x (perform i m s)
+perform_back (Lui r v) m s = result_back (onward s) r v
+perform_back (Auipc r v) m s = result_back (onward s) r (offset s.pc v)
+perform_back (Jal r v) m s = jump_back r s.x (with_link s r) (offset s.pc v) (result_back s r (next_pc s))
+perform_back (Jalr r a v) m s = jump_back r s.x (with_link s r) (even (offset (register s a) v)) (result_back s r (next_pc s))
+perform_back (Branch c a b v) m s = branch_back (compares c (register s a) (register s b)) s (offset s.pc v)
+perform_back (Load l r a v) m s = load_back l m s r (offset (register s a) v)
+perform_back (Store width a b v) m s = store_back width m s (offset (register s a) v) (register s b)
+perform_back (OperateImmediate o r a v) m s = result_back (onward s) r (operation_result o (register s a) v)
+perform_back (Operate o r a b) m s = result_back (onward s) r (operation_result o (register s a) (register s b))
+perform_back Fence m s = refl
+perform_back Ecall m s = tt
+perform_back Ebreak m s = tt
+
+done_back : (r : ℕ) (x : List ℕ) (o : Outcome) (m : Memory) (s : Registers) (k : Memory) → Back r x o → IsDone o m s k → given_back (Register r) s.x (slice_index x r) ≡ x
+done_back r x (goes t) m s k back done = ap (λ (q : Registers). given_back (Register r) q.x (slice_index x r)) done.0 ∙ back
+done_back r x (stores t at width v) m s k back done = ap (λ (q : Registers). given_back (Register r) q.x (slice_index x r)) done.0 ∙ back
+done_back r x calls m s k back done = absurd done
+done_back r x (traps number value) m s k back done = absurd done
+
+pub gives_back_register : (n : ℕ) (i : Instruction) (x : List ℕ) → result_register i ≡ n → GivesBack (Register n) i x
+gives_back_register n i x is pc m s k done =
+    subst (λ r. given_back (Register r) s.x (slice_index x r) ≡ x) is (done_back (result_register i) x (perform i (view_of m) (registers_at pc x)) m s k (perform_back i (view_of m) (registers_at pc x)) done)
+
+-- a store has none
+stores_none : (a : ℕ) (i : Instruction) (x : List ℕ) → stores_into i x a ≡ true → result_register i ≡ 0
+stores_none a (Store width b d v) x into = refl
+stores_none a (Lui r v) x into = cc
+stores_none a (Auipc r v) x into = cc
+stores_none a (Jal r v) x into = cc
+stores_none a (Jalr r b v) x into = cc
+stores_none a (Branch c b d v) x into = cc
+stores_none a (Load l r b v) x into = cc
+stores_none a (OperateImmediate o r b v) x into = cc
+stores_none a (Operate o r b d) x into = cc
+stores_none a Fence x into = cc
+stores_none a Ecall x into = cc
+stores_none a Ebreak x into = cc
+
+pub gives_back_byte : (a : ℕ) (i : Instruction) (x : List ℕ) → stores_into i x a ≡ true → GivesBack (Byte a) i x
+gives_back_byte a i x into = gives_back_register 0 i x (stores_none a i x into)

@@ -5,7 +5,7 @@ use Rattle.std.specs.Prelude.{◌==◌, nat_le}
 use Rattle.memory_model.specs.Memory.{Memory, with_number}
 use Rattle.instruction_model.specs.Outcome.{Registers, Outcome, goes, stores, calls, traps, view_of, outcome}
 use Rattle.rv_exec.specs.declared.stepping.Stepped.TheVariants.{Next}
-use Rattle.rv_exec.specs.Steps.{Steps}
+use Rattle.rv_exec.specs.Steps.{Steps, registers_at}
 use Rattle.space_model.specs.declared.Status.{Status}
 use Rattle.space_model.specs.declared.Status.TheVariants.{Running}
 use Rattle.space_model.specs.Space.{Top, Space, space, Children, top_of}
@@ -19,13 +19,14 @@ use Rattle.demand_eval.specs.Turns.{IsSoundBelow}
 use Rattle.demand_eval.proofs.Turns.{advanced}
 use Rattle.event_laws.specs.OwnEvents.{OwnEvent}
 use Rattle.explain_core.specs.declared.stretch.Stretch.{Stretch}
+use Rattle.explain_core.specs.declared.stretch.Trail.{Trail}
 use Rattle.explain_core.specs.declared.watching.Asked.{Asked}
-use Rattle.explain_core.specs.declared.watching.Found.{Found}
 use Rattle.explain_core.specs.declared.watching.Moment.{Moment}
 use Rattle.explain_core.specs.declared.watching.Noticing.TheVariants as notice
 use Rattle.explain_core.specs.declared.watching.Watched.{Watched}
 use Rattle.explain_core.specs.Going.{GoesBy, StartsWith, EndsWith, TellsTurn}
-use Rattle.explain_core.specs.Stretch.{Watches, WatchesFrom, found_in, last_of, moment_between, with_parts}
+use Rattle.explain_core.specs.Instructions.{instruction_in, word_in}
+use Rattle.explain_core.specs.Stretch.{KeepsUp, Watches, WatchesFrom, found_in, given_back, last_in, last_of, moment_between, noted, with_parts}
 use Rattle.explain_core.specs.Watch.{Kept, found_by, keep, keep_all, moment_of, value_in, watched_in, with_last}
 use Rattle.explain_core.proofs.Schedules.{goes_then, stays}
 use Rattle.explain_core.proofs.Traces.{keep_append}
@@ -38,17 +39,36 @@ step_is_done takes o (stores t at width value) r s m n is h = subst (λ q. IsDon
 step_is_done takes o calls r s m n is h = absurd h
 step_is_done takes o (traps number value) r s m n is h = absurd h
 
--- what is kept of it, where it may change what is watched
-pub noted : (w : Watched) (number : ℕ) (r s : Registers) (m n : Memory) (found : Found) (old new : Option Moment) → found ≡ found_in w r m
-    → new ≡ (if value_in w s.x n == found.value then old else Some (moment_between w number found s n)) → new ≡ last_of w number r m s n old
-noted w number r s m n found old new is told = told ∙ ap (λ (f : Found). if value_in w s.x n == f.value then old else Some (moment_between w number f s n)) is
+equal_numbers : (x y : ℕ) → (x == y) ≡ true → x ≡ y
+equal_numbers x y e = grind (arith, nat_tests)
+
+-- a trail that has noted an instruction which may change what is watched
+pub keeps_up : (w : Watched) (number p q : ℕ) (x y : List ℕ) (m n : Memory) (old new : Trail) → old.value ≡ value_in w x m → given_back w y (value_in w x m) ≡ x
+    → new ≡ noted old (value_in w y n) number p (word_in m p) q y → KeepsUp w number (registers_at p x) m (registers_at q y) n old new
+keeps_up w number p q x y m n old new now back is = subst (KeepsUp w number (registers_at p x) m (registers_at q y) n old) (sym is) (by_test (value_in w y n == old.value) refl)
+  where
+    after : Trail
+    after = record { value = value_in w y n; changed = true; number = number; at = p; word = word_in m p; found = old.value; pc = q; x = y }
+
+    seen : List ℕ → ℕ → Option Moment
+    seen z v = Some (moment_between w number (record { registers = registers_at p z; instruction = instruction_in m p; value = v }) (registers_at q y) n)
+
+    same : (b : Bool) → (value_in w y n == old.value) ≡ b → (if b then last_in w old else seen x (value_in w x m)) ≡ last_of w number (registers_at p x) m (registers_at q y) n (last_in w old)
+    same b e = sym (ap (λ c. if c then last_in w old else seen x (value_in w x m)) (ap (λ v. value_in w y n == v) (sym now) ∙ e))
+
+    by_test : (b : Bool) → (value_in w y n == old.value) ≡ b → KeepsUp w number (registers_at p x) m (registers_at q y) n old (if b then old else after)
+    by_test true e = record { value = sym (equal_numbers (value_in w y n) old.value e); last = same true e }
+    by_test false e = record { value = refl; last = ap (λ v. seen (given_back w y v) v) now ∙ ap (λ z. seen z (value_in w x m)) back ∙ same false e }
 
 same_number : (x y : ℕ) → x ≡ y → (x == y) ≡ true
 same_number x y e = grind (arith, nat_tests)
 
--- and where it leaves that as it is
-pub left_alone : (w : Watched) (number : ℕ) (r s : Registers) (m n : Memory) (old new : Option Moment) → value_in w s.x n ≡ value_in w r.x m → new ≡ old → new ≡ last_of w number r m s n old
-left_alone w number r s m n old new same is = is ∙ sym (ap (λ b. if b then old else Some (moment_between w number (found_in w r m) s n)) (same_number (value_in w s.x n) (value_in w r.x m) same))
+-- and one that stays as it was, where an instruction leaves what is watched as it is
+pub stays_up : (w : Watched) (number : ℕ) (r s : Registers) (m n : Memory) (t : Trail) → t.value ≡ value_in w r.x m → value_in w s.x n ≡ value_in w r.x m → KeepsUp w number r m s n t t
+stays_up w number r s m n t now same = record {
+  value = now ∙ sym same;
+  last = sym (ap (λ b. if b then last_in w t else Some (moment_between w number (found_in w r m) s n)) (same_number (value_in w s.x n) (value_in w r.x m) same));
+}
 
 -- one instruction more
 pub watches_more : (w : Watched) (first count : ℕ) (r q s : Registers) (m k n : Memory) (before last : Option Moment) → Watches w first count r m q k before

@@ -105,9 +105,18 @@ instruction_text pc Fence = codes "fence"
 instruction_text pc Ecall = codes "ecall"
 instruction_text pc Ebreak = codes "ebreak"
 
+-- the word at an address of a memory, where it can be fetched
+abbrev pub word_in : Memory → ℕ → Option ℕ
+word_in m pc = if pc % 4 == 0 then (if may_fetch m pc then Some (number_from (byte_at m) Four pc) else None) else None
+
+-- the instruction that a word spells, where there is a word and it spells one
+abbrev pub spelled : Option ℕ → Option Instruction
+spelled None = None
+spelled (Some word) = instruction_of word
+
 -- what stands at an address of a memory, where an instruction can be fetched there
 abbrev pub instruction_in : Memory → ℕ → Option Instruction
-instruction_in m pc = if pc % 4 == 0 then (if may_fetch m pc then instruction_of (number_from (byte_at m) Four pc) else None) else None
+instruction_in m pc = spelled (word_in m pc)
 
 -- and at pc
 abbrev pub instruction_at_pc : Top → Option Instruction

@@ -1,6 +1,6 @@
 -- A stretch of instructions of a space that is watched, over its registers and its memory alone.
 -- Our choice: a restatement for proofs.
-use Rattle.std.specs.Prelude.{◌≡◌, ℕ, zero, suc, ◌+◌, ◌/◌, ◌<◌, ◌≤◌, ◌==◌, Bool, true, false, Option, Some, None, List, slice_index, if◌then◌else◌}
+use Rattle.std.specs.Prelude.{◌≡◌, ℕ, zero, suc, ◌+◌, ◌/◌, ◌<◌, ◌≤◌, ◌==◌, Bool, true, false, Option, Some, None, List, slice_index, slice_set, if◌then◌else◌}
 use Rattle.memory_model.specs.Memory.{Memory}
 use Rattle.instruction_model.specs.declared.Instruction.{Instruction}
 use Rattle.instruction_model.specs.declared.Instruction.TheVariants.{Lui, Auipc, Jal, Jalr, Branch, Load, Store, OperateImmediate, Operate, Fence, Ecall, Ebreak}
@@ -11,11 +11,12 @@ use Rattle.space_model.specs.Change.{after_spending}
 use Rattle.space_model.specs.declared.Status.TheVariants.{Running}
 use Rattle.space_step.specs.Stretch.{IsDone, Pays}
 use Rattle.explain_core.specs.declared.stretch.Stretch.{Stretch}
+use Rattle.explain_core.specs.declared.stretch.Trail.{Trail}
 use Rattle.explain_core.specs.declared.watching.Found.{Found}
 use Rattle.explain_core.specs.declared.watching.Moment.{Moment}
 use Rattle.explain_core.specs.declared.watching.Watched.{Watched}
 use Rattle.explain_core.specs.declared.watching.Watched.TheVariants.{Byte, Register}
-use Rattle.explain_core.specs.Instructions.{instruction_in}
+use Rattle.explain_core.specs.Instructions.{instruction_in, spelled}
 use Rattle.explain_core.specs.Watch.{value_in}
 
 -- a byte, or one of the 32 registers
@@ -59,6 +60,16 @@ stores_into Ebreak x a = false
 abbrev pub Leaves : Watched → Instruction → List ℕ → Type 0
 Leaves w i x = (pc : ℕ) (m : Memory) (s : Registers) (n : Memory) → IsDone (perform i (view_of m) (registers_at pc x)) m s n → value_in w s.x n ≡ value_in w x m
 
+-- the registers before an instruction that may change what is watched, by those behind it and by what was watched before it: the register that is watched
+-- alone has changed, if any
+abbrev pub given_back : Watched → List ℕ → ℕ → List ℕ
+given_back (Byte a) x v = x
+given_back (Register r) x v = if r == 0 then x else slice_set x r v
+
+-- so it is of an instruction, whatever memory holds
+abbrev pub GivesBack : Watched → Instruction → List ℕ → Type 0
+GivesBack w i x = (pc : ℕ) (m : Memory) (s : Registers) (n : Memory) → IsDone (perform i (view_of m) (registers_at pc x)) m s n → given_back w s.x (value_in w x m) ≡ x
+
 -- ---- what is found of them
 
 -- what an instruction finds
@@ -72,6 +83,21 @@ moment_between w number found s n = record { number = number; found = found; aft
 -- that of an instruction that changed what is watched, else that of the last before it that did
 abbrev pub last_of : Watched → ℕ → Registers → Memory → Registers → Memory → Option Moment → Option Moment
 last_of w number r m s n before = if value_in w s.x n == value_in w r.x m then before else Some (moment_between w number (found_in w r m) s n)
+
+-- a trail behind an instruction of a number, at this pc and of this word, that has left this value of what is watched, and these registers
+abbrev pub noted : Trail → ℕ → ℕ → ℕ → Option ℕ → ℕ → List ℕ → Trail
+noted t value number at word pc x = if value == t.value then t else record { value = value; changed = true; number = number; at = at; word = word; found = t.value; pc = pc; x = x }
+
+-- what it keeps of the last instruction that changed what is watched
+abbrev pub last_in : Watched → Trail → Option Moment
+last_in w t =
+    let found : Found = record { registers = registers_at t.at (given_back w t.x t.found); instruction = spelled t.word; value = t.found } in
+    if t.changed then Some (record { number = t.number; found = found; after = registers_at t.pc t.x; status = Running; value = t.value }) else None
+
+-- a trail keeps up with an instruction of a number: it knows what is watched, and what is found of the last that changed it
+pub record KeepsUp (w : Watched) (number : ℕ) (r : Registers) (m : Memory) (s : Registers) (n : Memory) (old new : Trail) : Type 0 where
+  pub value : new.value ≡ value_in w s.x n
+  pub last : last_in w new ≡ last_of w number r m s n (last_in w old)
 
 -- registers and memory before and after so many instructions, of which the first has a number, and what is found of the last that changed what is watched
 abbrev pub Watches : Watched → ℕ → ℕ → Registers → Memory → Registers → Memory → Option Moment → Type 0

@@ -1,7 +1,7 @@
 ghost use Rattle.std.specs.Prelude.{◌≡◌, ◌<◌, [], IfOk, get_or, string_bytes};
 ghost use Rattle.instruction_model.specs.Form.{HasFields};
 ghost use Rattle.source_model.specs.RegisterNames.{register_names};
-ghost use Rattle.explain_core.specs.Instructions.{address_text, branch_name, hex_text, immediate_name, instruction_at_pc, instruction_in, instruction_part, instruction_text, is_call, load_name, operation_name, register_name, signed_text, store_name, target_text, three_operands, two_operands};
+ghost use Rattle.explain_core.specs.Instructions.{address_text, branch_name, hex_text, immediate_name, instruction_at_pc, instruction_in, instruction_part, instruction_text, is_call, load_name, operation_name, register_name, signed_text, spelled, store_name, target_text, three_operands, two_operands, word_in};
 
 use rv_decode::{Comparison, Instr, Instruction, LoadKind, Operation, Width, decode};
 use space_tree::{Mem, Top};
@@ -255,17 +255,32 @@ pub(crate) fn instruction_text(
     }
 }
 
-/// The instruction at an address of a memory, where it can be fetched.
-pub(crate) fn instruction_in(memory: &Mem, pc: u32) -> Option<Instr>
-    ensures { result ≡ instruction_in memory.now.memory pc }
+/// The word at an address of a memory, where it can be fetched.
+#[inline(always)]
+pub(crate) fn word_in(memory: &Mem, pc: u32) -> Option<u32>
+    ensures { result ≡ word_in memory.now.memory pc }
 {
     if pc % 4 != 0 {
         return None;
     }
-    match memory.fetch(pc) {
+    memory.fetch(pc)
+}
+
+/// The instruction that a word spells, where there is a word and it spells one.
+pub(crate) fn spelled(word: Option<u32>) -> Option<Instr>
+    ensures { result ≡ spelled word }
+{
+    match word {
         Some(word) => decode(word),
         None => None,
     }
+}
+
+/// The instruction at an address of a memory, where it can be fetched.
+fn instruction_in(memory: &Mem, pc: u32) -> Option<Instr>
+    ensures { result ≡ instruction_in memory.now.memory pc }
+{
+    spelled(word_in(memory, pc))
 }
 
 /// The instruction at pc, where it can be fetched.

@@ -13,6 +13,7 @@ mod paths;
 mod showing;
 mod stretch;
 mod tracing;
+mod watch;
 mod watched_memory;
 mod watching;
 

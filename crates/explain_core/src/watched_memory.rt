@@ -3,17 +3,17 @@ ghost use Rattle.space_mem.specs.Held.{nothing_held};
 
 use rv_exec::{Bus, Fault, StoreFault, Width};
 use space_tree::Mem;
-use std::marker::Model;
+use std::marker::{Model, PhantomData};
 use std::mem;
 
-/// A memory while the space that it belongs to is watched. Contracts see it as that memory. It is a type of its own so that the instructions over it are compiled
-/// apart from all others: a body as large as that of `rv_exec::perform` is put in the place of a call only where there is one call.
-#[derive(Drop)]
-pub(crate) struct WatchedMemory {
-    pub(crate) memory: Mem,
+/// A memory while the space that it belongs to is watched by a `W`. Contracts see it as that memory. It is a type of its own for each kind of watch, so that the instructions
+/// over it are compiled apart from all others: a body as large as that of `rv_exec::perform` is put in the place of a call only where there is one call.
+pub(crate) struct WatchedMemory<W> {
+    memory: Mem,
+    watch: PhantomData<W>,
 }
 
-impl Model for WatchedMemory {
+impl<W> Model for WatchedMemory<W> {
     ghost use Rattle.space_mem.specs.Held.{Held, coded_held};
 
     ghost Value = { Held };
@@ -22,18 +22,19 @@ impl Model for WatchedMemory {
 
     ghost view = { λ w. w.memory };
 
-    ghost inverse = { λ h. record { memory = h } };
+    ghost inverse = { λ h. record { memory = h; watch = record {} } };
 }
 
-impl WatchedMemory {
+impl<W> WatchedMemory<W> {
     /// Takes a memory, and leaves an empty one in its place.
-    pub(crate) fn take(memory: &mut Mem) -> WatchedMemory
+    pub(crate) fn take(memory: &mut Mem) -> WatchedMemory<W>
         ensures taken { result ≡ memory.old }
         ensures left { memory.new ≡ nothing_held }
     {
         let none = Mem::new(memory.allocator());
         WatchedMemory {
             memory: mem::replace(memory, none),
+            watch: PhantomData,
         }
     }
 
@@ -49,11 +50,12 @@ impl WatchedMemory {
     pub(crate) fn into_memory(self) -> Mem
         ensures { result ≡ self }
     {
-        self.memory
+        let WatchedMemory { memory, watch: _ } = self;
+        memory
     }
 }
 
-impl Bus for WatchedMemory {
+impl<W> Bus for WatchedMemory<W> {
     ghost use Rattle.std.specs.Prelude.{true};
     ghost use Rattle.space_mem.specs.Held.{with_stored};
     ghost use Rattle.space_mem.specs.Stored as laws;
