@@ -1,8 +1,8 @@
 -- Pages that have changed since a memory, one after the other, of those of which either memory keeps bytes.
-use Rattle.std.proofs.Common.{◌≡◌, ℕ, suc, ◌+◌, ◌-◌, ◌*◌, ◌<◌, ◌≤◌, List, ◌++◌, append_assoc, refl, sym, ap, ◌∙◌, arith}
+use Rattle.std.proofs.Common.{◌≡◌, ℕ, suc, ◌+◌, ◌-◌, ◌<◌, ◌≤◌, List, ◌++◌, append_assoc, sym, ap, ◌∙◌, arith}
 use Rattle.std.proofs.lemmas.List.{append-nil}
-use Rattle.memory_model.specs.Memory.{Memory, byte_at}
-use Rattle.memory_model.specs.Sizes.{page_size, pages}
+use Rattle.memory_model.specs.Memory.{Memory}
+use Rattle.memory_model.specs.Sizes.{pages}
 use Rattle.space_mem.specs.Held.{AllZero, SamePage}
 use Rattle.explain_core.specs.Pages.{IsNextKeptIn, each_page, is_changed, page_address, changed_pages, change_at}
 use Rattle.explain_core.proofs.Changes.{ChangesSoFar, at_page, unchanged}

@@ -1,5 +1,8 @@
 -- A child and the space above it go on together: what that says of the own events of both.
-use Rattle.std.proofs.Common.{◌≡◌, ℕ, ◌+◌, ◌-◌, ◌≤◌, ◌<◌, List, [], ◌∷◌, ◌++◌, Some, None, true, refl, sym, ◌∙◌, subst, arith}
+use Rattle.std.proofs.Common.{◌≡◌, ℕ, ◌+◌, ◌-◌, ◌≤◌, ◌<◌, Bool, List, [], ◌∷◌, ◌++◌, length, min, Some, None, false, true, refl, sym, ◌∙◌, subst, arith, inl, inr, ◌⊎◌}
+use Rattle.std.proofs.lemmas.Bool.Decides.{nat_tests}
+use Rattle.std.specs.Prelude.{nat_le}
+use Rattle.event_laws.specs.OwnEvents.{own_events}
 use Rattle.space_model.specs.Space.{Space, space, Top, Children, find, over}
 use Rattle.space_model.specs.Sound.{IsSound}
 use Rattle.explain_core.specs.declared.beside.BothAsked.{BothAsked}
@@ -8,11 +11,11 @@ use Rattle.explain_core.specs.declared.beside.Sides.{Sides}
 use Rattle.explain_core.specs.declared.going.Turn.{Turn}
 use Rattle.explain_core.specs.declared.watching.Asked.{Asked}
 use Rattle.explain_core.specs.declared.watching.Watched.{Watched}
-use Rattle.explain_core.specs.Beside.{AreAtFirst, ComeBoth, ComeBothBelow, ComesSo, ComesSoBelow, IsAll, IsAskedFor, IsAtFirst, IsLeft, all, child_of}
+use Rattle.explain_core.specs.Beside.{AreAtFirst, ComeBoth, ComeBothBelow, ComesSo, ComesSoBelow, IsAll, IsAskedFor, IsAtFirst, IsLeft, IsUsedUp, OneIsUsedUp, OneIsUsedUpBelow, all, child_of}
 use Rattle.explain_core.specs.Going.{HasCome, TakesTurn, TellsTurn}
-use Rattle.explain_core.specs.Reached.{TellsMoment}
-use Rattle.explain_core.specs.Watch.{kept_of, nothing_kept}
-use Rattle.explain_core.proofs.Coming.{SoFar, at_first, come_child, come_itself, come_stopped, more, none_child, one_turn, turn_above}
+use Rattle.explain_core.specs.Reached.{HasAtLeast, HasFewerThan, HasSoMany, TellsMoment}
+use Rattle.explain_core.specs.Watch.{Kept, kept_of, nothing_kept}
+use Rattle.explain_core.proofs.Coming.{SoFar, at_first, come_child, come_itself, come_stopped, come_through, more, none_child, one_turn, so_many, turn_above}
 use Rattle.explain_core.proofs.LastChange.{moment_kept}
 
 -- so many own events of both so far, and what is kept of them, and some of both are left
@@ -61,7 +64,36 @@ beside_stopped levels n a old mid new turn s t u v asked far come some tells res
   left = record { below = left_below levels (n ∷ []) a.below mid.below new.below t u far.left.below come some; above = left_above a.above mid.above new.above turn.events far.left.above rest more_above };
 }
 
+-- none of the child's are left
+pub child_out : (levels n : ℕ) (a : BothAsked) (old mid : Sides) (new : Side) (s t u : Space) → IsAskedFor a old → BothSoFar levels [] n a old mid s t → ComesSoBelow levels (n ∷ []) a.below mid.below new t u → new.left ≡ 0 → OneIsUsedUp levels [] n a old s
+child_out levels n a old mid new s t u asked far come none =
+    inl (kept_of new.kept, u, come_through levels a.below old.below.left mid.below.left new.left (n ∷ []) (kept_of old.below.kept) (kept_of mid.below.kept) (kept_of new.kept) s t u asked.below.within far.below far.left.below.some none come)
+
+-- none of the space's own
+pub itself_out : (levels n : ℕ) (a : BothAsked) (old mid new : Sides) (turn : Turn) (s t u v : Space) → IsAskedFor a old → BothSoFar levels [] n a old mid s t → ComesSoBelow levels (n ∷ []) a.below mid.below new.below t u
+    → TellsTurn levels mid.above.left a.above turn (kept_of mid.above.kept) (kept_of new.above.kept) u v → new.above.left + turn.events ≡ mid.above.left → new.above.left ≡ 0 → OneIsUsedUp levels [] n a old s
+itself_out levels n a old mid new turn s t u v asked far come tells rest none =
+    inr (
+      kept_of new.above.kept,
+      v,
+      come_itself levels a.above old.above.left mid.above.left 0 turn (kept_of old.above.kept) (kept_of mid.above.kept) (kept_of new.above.kept) s u v asked.above.within (above_waits levels n a old mid new.below s t u asked far come) tells
+          (omega (arith, rest, none)) far.left.above.some (λ more. absurd (omega (arith, more))),
+    )
+
 -- ---- further down
+
+pub through_out : (levels number : ℕ) (p : List ℕ) (a : BothAsked) (old mid : Sides) (s t : Space) → IsAskedFor a old → BothSoFar levels p number a old mid s t → OneIsUsedUpBelow levels p number a mid t → OneIsUsedUp levels p number a old s
+through_out levels number p a old mid s t asked far (inl (kept, u, come)) =
+    inl (kept, u, come_through levels a.below old.below.left mid.below.left 0 (child_of p number) (kept_of old.below.kept) (kept_of mid.below.kept) kept s t u asked.below.within far.below far.left.below.some refl come)
+through_out levels number p a old mid s t asked far (inr (kept, u, come)) =
+    inr (kept, u, come_through levels a.above old.above.left mid.above.left 0 p (kept_of old.above.kept) (kept_of mid.above.kept) kept s t u asked.above.within far.above far.left.above.some refl come)
+
+pub child_below_out : (depth first number : ℕ) (rest : List ℕ) (a : BothAsked) (old : Sides) (t : Top) (s c : Space) (cs : Children) → space t cs ≡ s → Some c ≡ find first cs → OneIsUsedUp (8 - (depth + 1)) rest number a old c
+    → OneIsUsedUpBelow (8 - depth) (first ∷ rest) number a old s
+child_below_out depth first number rest a old t s c cs is found (inl (kept, d, come)) =
+    inl (kept, space t (over first (λ x. d) cs), come_child depth first a.below old.below.left 0 (rest ++ number ∷ []) (kept_of old.below.kept) kept t s c d cs is found come)
+child_below_out depth first number rest a old t s c cs is found (inr (kept, d, come)) =
+    inr (kept, space t (over first (λ x. d) cs), come_child depth first a.above old.above.left 0 rest (kept_of old.above.kept) kept t s c d cs is found come)
 
 pub through_more : (levels most first number : ℕ) (rest : List ℕ) (a : BothAsked) (old mid new : Sides) (turn : Turn) (s t u v : Space) → IsAskedFor a old → BothSoFar levels (first ∷ rest) number a old mid s t
     → ComeBothBelow levels (first ∷ rest) number a mid new t u → TakesTurn levels most turn u v → BothSoFar levels (first ∷ rest) number a old new s v
@@ -109,6 +141,38 @@ side_told start now p q a w old new is sound first come =
     let whole : HasCome 8 p a a.to new.left nothing_kept (kept_of new.kept) start now =
     subst (λ n. HasCome 8 p a n new.left nothing_kept (kept_of new.kept) start now) (first.left ∙ sym is.to) (subst (λ k. HasCome 8 p a old.left new.left k (kept_of new.kept) start now) first.kept come) in
     subst (λ n. TellsMoment start p n w new.kept.last) is.to (moment_kept start now p a w new.left new.kept is.noticing (omega (arith, from)) sound whole)
+
+fewer_of : (left n : ℕ) → 1 ≤ left → left ≤ all → all - left ≡ min all n → n < all
+fewer_of left n some within is = by_order (nat_le all n) refl
+  where
+    by_order : (b : Bool) → nat_le all n ≡ b → n < all
+    by_order true e = let capped : min all n ≡ all = grind (arith, nat_tests, e) in absurd (omega (arith, some, within, is, capped))
+    by_order false e = grind (arith, nat_tests, e)
+
+-- what is counted of a side
+side_counted : (start now : Space) (p q : List ℕ) (a : Asked) (w : Watched) (old : Side) (kept : Kept) (left : ℕ) → IsAll q w a → IsSound start → IsAtFirst old → HasCome 8 p a old.left left (kept_of old.kept) kept start now → HasSoMany start p (all - left)
+side_counted start now p q a w old kept left is sound first come =
+    so_many start now p a left kept is.to sound (subst (λ n. HasCome 8 p a n left nothing_kept kept start now) (first.left ∙ sym is.to) (subst (λ k. HasCome 8 p a old.left left k kept start now) first.kept come))
+
+side_fewer : (start now : Space) (p q : List ℕ) (a : Asked) (w : Watched) (old new : Side) → IsAll q w a → IsSound start → IsAtFirst old → IsLeft a new → ComesSo 8 p a old new start now → HasFewerThan start p all
+side_fewer start now p q a w old new is sound first left come ps ended =
+    let to = is.to in
+    let within = left.within in fewer_of new.left (length (own_events p ps start)) left.some (omega (arith, within, to)) (side_counted start now p q a w old (kept_of new.kept) new.left is sound first come ps ended)
+
+side_out : (start : Space) (p q : List ℕ) (a : Asked) (w : Watched) (old : Side) → IsAll q w a → IsSound start → IsAtFirst old → IsUsedUp 8 p a old start → HasAtLeast start p all
+side_out start p q a w old is sound first (kept, now, come) ps ended = let counted = side_counted start now p q a w old kept 0 is sound first come ps ended in grind (arith, counted)
+
+pub both_fewer : (start now : Space) (p q : List ℕ) (number : ℕ) (a : BothAsked) (w : Watched) (old new : Sides) → q ≡ child_of p number → IsAll q w a.below × IsAll p w a.above → IsSound start → AreAtFirst old
+    → ComeBoth 8 p number a old new start now → HasFewerThan start q all × HasFewerThan start p all
+both_fewer start now p q number a w old new child is sound first come = (
+  subst (λ r. HasFewerThan start r all) (sym child) (side_fewer start now (child_of p number) q a.below w old.below new.below is.0 sound first.0 come.left.below come.below),
+  side_fewer start now p p a.above w old.above new.above is.1 sound first.1 come.left.above come.above,
+)
+
+pub one_out : (start : Space) (p q : List ℕ) (number : ℕ) (a : BothAsked) (w : Watched) (old : Sides) → q ≡ child_of p number → IsAll q w a.below × IsAll p w a.above → IsSound start → AreAtFirst old
+    → OneIsUsedUp 8 p number a old start → HasAtLeast start q all ⊎ HasAtLeast start p all
+one_out start p q number a w old child is sound first (inl out) = inl (subst (λ r. HasAtLeast start r all) (sym child) (side_out start (child_of p number) q a.below w old.below is.0 sound first.0 out))
+one_out start p q number a w old child is sound first (inr out) = inr (side_out start p p a.above w old.above is.1 sound first.1 out)
 
 pub both_told : (start now : Space) (p q : List ℕ) (number : ℕ) (a : BothAsked) (w : Watched) (old new : Sides) → q ≡ child_of p number → IsAll q w a.below × IsAll p w a.above → IsSound start → AreAtFirst old
     → ComeBoth 8 p number a old new start now → TellsMoment start q all w new.below.kept.last × TellsMoment start p all w new.above.kept.last

@@ -1,5 +1,5 @@
 -- The last own event that changed what is watched.
-use Rattle.std.proofs.Common.{◌≡◌, ℕ, suc, ◌+◌, ◌-◌, ◌≤◌, List, take, Option, Some, None, refl, sym, ap, ◌∙◌, subst, arith, inl, inr, ◌⊎◌}
+use Rattle.std.proofs.Common.{◌≡◌, ℕ, suc, ◌+◌, ◌-◌, ◌≤◌, List, take, Option, Some, None, sym, ap, ◌∙◌, subst, arith, inl, inr, ◌⊎◌}
 use Rattle.std.specs.List.{slice_get}
 use Rattle.std.specs.Prelude.{option_map}
 use Rattle.space_model.specs.Space.{Space}
@@ -12,7 +12,7 @@ use Rattle.explain_core.specs.declared.watching.Moment.{Moment}
 use Rattle.explain_core.specs.declared.watching.Noticing.TheVariants as notice
 use Rattle.explain_core.specs.declared.watching.Watched.{Watched}
 use Rattle.explain_core.specs.Going.{HasCome}
-use Rattle.explain_core.specs.Reached.{NeverChanges, TellsLast, TellsLastChange, TellsMoment}
+use Rattle.explain_core.specs.Reached.{NeverChanges, TellsLast, TellsMoment}
 use Rattle.explain_core.specs.Watch.{IsLastChange, Kept, NoneChanges, Noted, keep_all, kept_of, moment_at, note, nothing_kept, told}
 use Rattle.explain_core.proofs.Coming.{firsts}
 use Rattle.explain_core.proofs.Traces.{KeepsLast, keep_last}

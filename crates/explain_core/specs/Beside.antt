@@ -1,6 +1,6 @@
 -- A child and the space above it go on together, and their own events are counted.
 -- Our choice: a restatement for proofs.
-use Rattle.std.specs.Prelude.{◌≡◌, ℕ, ◌-◌, ◌≤◌, ◌^◌, List, [], ◌∷◌, ◌++◌}
+use Rattle.std.specs.Prelude.{◌≡◌, ℕ, ◌-◌, ◌≤◌, ◌^◌, List, [], ◌∷◌, ◌++◌, ◌⊎◌}
 use Rattle.space_model.specs.Space.{Space}
 use Rattle.explain_core.specs.declared.beside.BothAsked.{BothAsked}
 use Rattle.explain_core.specs.declared.beside.Side.{Side}
@@ -9,7 +9,7 @@ use Rattle.explain_core.specs.declared.watching.Asked.{Asked}
 use Rattle.explain_core.specs.declared.watching.Noticing.TheVariants.{Change}
 use Rattle.explain_core.specs.declared.watching.Watched.{Watched}
 use Rattle.explain_core.specs.Going.{HasCome, HasComeBelow}
-use Rattle.explain_core.specs.Watch.{kept_of, nothing_kept}
+use Rattle.explain_core.specs.Watch.{Kept, kept_of, nothing_kept}
 
 -- so many are left, of those that are asked for
 pub record IsLeft (a : Asked) (s : Side) : Type 0 where
@@ -42,6 +42,21 @@ pub record ComeBothBelow (levels : ℕ) (p : List ℕ) (number : ℕ) (a : BothA
   pub below : ComesSoBelow levels (child_of p number) a.below old.below new.below s now
   pub above : ComesSoBelow levels p a.above old.above new.above s now
   pub left : IsAskedFor a new
+
+-- a schedule of a space has all own events of a path that were left
+abbrev pub IsUsedUp : ℕ → List ℕ → Asked → Side → Space → Type 0
+IsUsedUp levels p a old s = (kept : Kept) × (now : Space) × HasCome levels p a old.left 0 (kept_of old.kept) kept s now
+
+-- the same of a path below a space that has not gone on itself
+abbrev pub IsUsedUpBelow : ℕ → List ℕ → Asked → Side → Space → Type 0
+IsUsedUpBelow levels p a old s = (kept : Kept) × (now : Space) × HasComeBelow levels p a old.left 0 (kept_of old.kept) kept s now
+
+-- of the space at a path or of its child none are left
+abbrev pub OneIsUsedUp : ℕ → List ℕ → ℕ → BothAsked → Sides → Space → Type 0
+OneIsUsedUp levels p number a old s = IsUsedUp levels (child_of p number) a.below old.below s ⊎ IsUsedUp levels p a.above old.above s
+
+abbrev pub OneIsUsedUpBelow : ℕ → List ℕ → ℕ → BothAsked → Sides → Space → Type 0
+OneIsUsedUpBelow levels p number a old s = IsUsedUpBelow levels (child_of p number) a.below old.below s ⊎ IsUsedUpBelow levels p a.above old.above s
 
 -- all own events of a path, as far as a number of 64 bits can count them
 abbrev pub all : ℕ

@@ -1,6 +1,6 @@
 -- What is shown of an event, which is named by the path of its space and by its number among the own events there.
 -- Our choice: that a space is shown just behind the event that is asked for.
-use Rattle.std.specs.Prelude.{◌≡◌, ℕ, suc, ◌+◌, ◌-◌, ◌^◌, List, length, Option, Some, None, min, take}
+use Rattle.std.specs.Prelude.{◌≡◌, ℕ, suc, ◌+◌, ◌-◌, ◌<◌, ◌≤◌, ◌^◌, List, length, Option, Some, None, min, take}
 use Rattle.space_model.specs.Space.{Space}
 use Rattle.space_model.specs.Path.{at}
 use Rattle.det_laws.specs.Tops.{top_at}
@@ -59,6 +59,14 @@ TellsMoment start p to w (Some m) = (ps : List (List ℕ)) → NoneMayHappen (af
 abbrev pub TellsLast : Space → List ℕ → ℕ → Watched → Option Noted → Type 0
 TellsLast start p to w None = NeverChanges start p to w
 TellsLast start p to w (Some c) = TellsLastChange start p to w c
+
+-- every schedule that has ended has fewer own events of a path than so many
+abbrev pub HasFewerThan : Space → List ℕ → ℕ → Type 0
+HasFewerThan start p n = (ps : List (List ℕ)) → NoneMayHappen (after_all ps start) → length (own_events p ps start) < n
+
+-- or at least so many
+abbrev pub HasAtLeast : Space → List ℕ → ℕ → Type 0
+HasAtLeast start p n = (ps : List (List ℕ)) → NoneMayHappen (after_all ps start) → n ≤ length (own_events p ps start)
 
 -- every schedule that has ended has so many own events of a path, or all that a number of 64 bits can count
 abbrev pub HasSoMany : Space → List ℕ → ℕ → Type 0

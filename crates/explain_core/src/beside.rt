@@ -1,10 +1,10 @@
-ghost use Rattle.std.specs.Prelude.{◌≡◌, ◌+◌, ◌≤◌, ◌∷◌, [], true, IfOk, IfSome, OnOk, option_map};
+ghost use Rattle.std.specs.Prelude.{◌≡◌, ◌+◌, ◌≤◌, ◌∷◌, [], ◌⊎◌, false, true, IfOk, IfSome, IsNone, OnOk, option_map};
 ghost use Rattle.call_model.specs.Limits.{greatest_depth, levels_below};
 ghost use Rattle.space_model.specs.Sound.{IsSound};
 ghost use Rattle.demand_eval.specs.Turns.{IsSoundBelow};
-ghost use Rattle.explain_core.specs.Beside.{AreAtFirst, ComeBoth, ComeBothBelow, ComesSoBelow, IsAll, IsAskedFor, IsAtFirst, IsLeft, all, child_of};
+ghost use Rattle.explain_core.specs.Beside.{AreAtFirst, ComeBoth, ComeBothBelow, ComesSoBelow, IsAll, IsAskedFor, IsAtFirst, IsLeft, OneIsUsedUp, OneIsUsedUpBelow, all, child_of};
 ghost use Rattle.explain_core.specs.Going.{TellsTurn};
-ghost use Rattle.explain_core.specs.Reached.{TellsLast, TellsMoment};
+ghost use Rattle.explain_core.specs.Reached.{HasAtLeast, HasFewerThan, TellsLast, TellsMoment};
 ghost use Rattle.explain_core.specs.Watch.{kept_of, noted_of};
 
 use crate::going::{Turn, copied, go_below, take_told_turn, take_turn};
@@ -93,7 +93,8 @@ fn go_beside(
     requires depth { depth ≤ greatest_depth }
     requires asked { IsAskedFor asked.now sides.old }
     requires sound { IsSoundBelow (levels_below depth) space.old }
-    ensures { IfOk result (λ both. both ≡ true → ComeBoth (levels_below depth) [] number asked.now sides.old sides.new space.old space.new) }
+    ensures both { IfOk result (λ both. both ≡ true → ComeBoth (levels_below depth) [] number asked.now sides.old sides.new space.old space.new) }
+    ensures out { IfOk result (λ both. both ≡ false → OneIsUsedUp (levels_below depth) [] number asked.now sides.old space.old) }
 {
     'turns: loop {
         child_goes(runner, space, &mut sides.below, &asked.below, number, depth)?;
@@ -125,7 +126,8 @@ fn both_below(
     requires depth { depth ≤ greatest_depth }
     requires asked { IsAskedFor asked.now sides.old }
     requires sound { IsSoundBelow (levels_below depth) space.old }
-    ensures { IfOk result (λ both. both ≡ true → ComeBothBelow (levels_below depth) (first ∷ rest.now) number asked.now sides.old sides.new space.old space.new) }
+    ensures both { IfOk result (λ both. both ≡ true → ComeBothBelow (levels_below depth) (first ∷ rest.now) number asked.now sides.old sides.new space.old space.new) }
+    ensures out { IfOk result (λ both. both ≡ false → OneIsUsedUpBelow (levels_below depth) (first ∷ rest.now) number asked.now sides.old space.old) }
 {
     match space.children.get_mut(first) {
         Some(child) => go_both(runner, child, sides, asked, rest, number, depth + 1),
@@ -148,7 +150,8 @@ fn both_through(
     requires depth { depth ≤ greatest_depth }
     requires asked { IsAskedFor asked.now sides.old }
     requires sound { IsSoundBelow (levels_below depth) space.old }
-    ensures { IfOk result (λ both. both ≡ true → ComeBoth (levels_below depth) (first ∷ rest.now) number asked.now sides.old sides.new space.old space.new) }
+    ensures both { IfOk result (λ both. both ≡ true → ComeBoth (levels_below depth) (first ∷ rest.now) number asked.now sides.old sides.new space.old space.new) }
+    ensures out { IfOk result (λ both. both ≡ false → OneIsUsedUp (levels_below depth) (first ∷ rest.now) number asked.now sides.old space.old) }
 {
     'turns: loop {
         let both = both_below(runner, space, sides, asked, first, rest, number, depth)?;
@@ -177,7 +180,8 @@ fn go_both(
     requires depth { depth ≤ greatest_depth }
     requires asked { IsAskedFor asked.now sides.old }
     requires sound { IsSoundBelow (levels_below depth) space.old }
-    ensures { IfOk result (λ both. both ≡ true → ComeBoth (levels_below depth) path.now number asked.now sides.old sides.new space.old space.new) }
+    ensures both { IfOk result (λ both. both ≡ true → ComeBoth (levels_below depth) path.now number asked.now sides.old sides.new space.old space.new) }
+    ensures out { IfOk result (λ both. both ≡ false → OneIsUsedUp (levels_below depth) path.now number asked.now sides.old space.old) }
 {
     match path {
         [] => go_beside(runner, space, sides, asked, number, depth),
@@ -230,7 +234,7 @@ fn both_at_first(alloc: Global) -> Sides
     Sides { below, above }
 }
 
-// A tree goes on until a child of the space at a path and this space have stopped; `false` where one of them has more own events than a number of 64 bits can count.
+// A tree goes on until a child of the space at a path and this space have stopped; `false` where one of them has as many own events as are left.
 fn run_both(
     alloc: Global,
     tree: &mut Space,
@@ -241,7 +245,8 @@ fn run_both(
 ) -> Result<bool, AllocError>
     requires sound { IsSound tree.old }
     requires asked { IsAskedFor asked.now sides.old }
-    ensures { IfOk result (λ both. both ≡ true → ComeBoth greatest_depth path.now.items number asked.now sides.old sides.new tree.old tree.new) }
+    ensures both { IfOk result (λ both. both ≡ true → ComeBoth greatest_depth path.now.items number asked.now sides.old sides.new tree.old tree.new) }
+    ensures out { IfOk result (λ both. both ≡ false → OneIsUsedUp greatest_depth path.now.items number asked.now sides.old tree.old) }
 {
     let cache = DecodeCache::new(alloc)?;
     let mut runner = Runner { alloc, cache };
@@ -259,7 +264,9 @@ fn last_sides(
 ) -> Result<Option<Sides>, AllocError>
     requires sound { IsSound tree }
     requires child { below.now.items ≡ child_of path.now.items number }
-    ensures { IfOk result (λ o. IfSome o (λ s. TellsMoment tree below.now.items all watched s.below.kept.last × TellsMoment tree path.now.items all watched s.above.kept.last)) }
+    ensures tells { IfOk result (λ o. IfSome o (λ s. TellsMoment tree below.now.items all watched s.below.kept.last × TellsMoment tree path.now.items all watched s.above.kept.last)) }
+    ensures fewer { IfOk result (λ o. IfSome o (λ _. HasFewerThan tree below.now.items all × HasFewerThan tree path.now.items all)) }
+    ensures none { IfOk result (λ o. IsNone o → HasAtLeast tree below.now.items all ⊎ HasAtLeast tree path.now.items all) }
 {
     let mut tree = tree;
     let asked = both_asked(path, below, watched)?;
@@ -268,8 +275,8 @@ fn last_sides(
     if both { Ok(Some(sides)) } else { Ok(None) }
 }
 
-/// The last own events that changed what is watched, of the child of a number of the space at a path and of this space, each as of `last_change`, in one run. None comes
-/// where one of them has more own events than a number of 64 bits can count; no clause says that it comes nowhere else, so a caller has to ask for each alone then. The one error is want of memory.
+/// The last own events that changed what is watched, of the child of a number of the space at a path and of this space, each as of `last_change`, in one run. None comes exactly
+/// where one of them has at least 2^64 - 1 own events, since the run ends there: each is to be asked for alone then. The one error is want of memory.
 pub fn last_changes(
     alloc: Global,
     tree: Space,
@@ -280,7 +287,10 @@ pub fn last_changes(
 ) -> Result<Option<(Option<Change>, Option<Change>)>, AllocError>
     requires sound { IsSound tree }
     requires child { below.now.items ≡ child_of path.now.items number }
-    ensures { IfOk result (λ o. IfSome o (λ c. TellsLast tree below.now.items all watched (option_map noted_of c.0) × TellsLast tree path.now.items all watched (option_map noted_of c.1))) }
+    ensures tells { IfOk result (λ o. IfSome o (λ c. TellsLast tree below.now.items all watched (option_map noted_of c.0) × TellsLast tree path.now.items all watched (option_map noted_of c.1))) }
+    // None comes exactly where one of them has as many own events as a number of 64 bits can count.
+    ensures fewer { IfOk result (λ o. IfSome o (λ _. HasFewerThan tree below.now.items all × HasFewerThan tree path.now.items all)) }
+    ensures none { IfOk result (λ o. IsNone o → HasAtLeast tree below.now.items all ⊎ HasAtLeast tree path.now.items all) }
 {
     match last_sides(alloc, tree, path, below, number, watched)? {
         None => Ok(None),
