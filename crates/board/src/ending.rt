@@ -29,7 +29,7 @@ impl Board {
     }
 
     /// What is known of the tree and of the jobs that are out: it is sound, the space of each has local events, and none is out twice.
-    pub(crate) fn jobs_go_on(&self)
+    pub fn jobs_go_on(&self)
         ensures sound { IsSound self.now.tree }
         ensures run { OutsRun self.now.tree self.now.out }
         ensures apart { OutsApart self.now.out }

@@ -13,8 +13,9 @@ use det_core::Entry;
 use space_tree::swap_top;
 
 impl Board {
-    // The result of the job that is out in its slot: its last top stands in the tree, and its events in the history.
-    fn accept(&mut self, done: Done)
+    /// Takes a result that is known to be of the job that is out in its slot: its last top stands in the tree, and its events are the last entry of the history.
+    /// Nothing is compared, and it takes no memory.
+    pub fn accept(&mut self, done: Done)
         requires { (o : Out) × IsOfJob self.old done o }
         ensures { IsTaken self.old done self.new }
     {
@@ -35,8 +36,8 @@ impl Board {
         self.counts.taken += 1;
     }
 
-    // The job of a slot is out no longer; its space stands in the tree as it did.
-    fn forget(&mut self, slot: usize)
+    /// The job of a slot is out no longer; its space stands in the tree as it did. It takes no memory.
+    pub fn forget(&mut self, slot: usize)
         requires { IsSome (out_at self.old.out slot) }
         ensures out { Sets slot None self.old.out self.new.out }
         ensures others { self.new ≡ record self.old { out = self.new.out } }

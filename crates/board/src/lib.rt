@@ -42,4 +42,4 @@ pub use named::{NamedDone, NamedJob};
 pub use named_board::NamedBoard;
 pub use result::Commit;
 pub use together::run_together;
-pub use working::{QUANTUM, work};
+pub use working::{QUANTUM, begin, go_on, work};

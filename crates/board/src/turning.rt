@@ -117,7 +117,7 @@ impl Board {
 
     /// Whether another worker's turn may now be a job: a hint. What is listed before the next space that may be taken is dropped on the way, so a list that is not
     /// empty has one. True, too, where there is no memory to tell.
-    pub(crate) fn has_more(&mut self) -> bool
+    pub fn has_more(&mut self) -> bool
         ensures { self.new ≡ self.old }
     {
         let nodes = self.nodes();

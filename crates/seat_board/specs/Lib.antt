@@ -1,0 +1,6 @@
+pub mod Held
+pub mod Desk
+pub mod Seats
+pub mod Beginnings
+pub mod Passes
+pub mod Workers

@@ -1,0 +1,62 @@
+-- Workers in seats.
+-- Our choice: what a worker leaves of what its seat knew, and what it needs to begin.
+use Rattle.std.specs.Prelude.{◌≡◌, ◌+◌, ◌≤◌, ◌<◌, ℕ, true, List, length, Option, Some, None, option_map, Result, IfOk, slice_index_or}
+use Rattle.std.specs.List.{All}
+use Rattle.std.specs.declared.alloc.AllocError.{AllocError}
+use Rattle.space_model.specs.Space.{Space}
+use Rattle.atomic_table.specs.Seated.{TableId}
+use Rattle.worker_pool.specs.declared.shop.Turn.{Turn}
+use Rattle.board.specs.declared.job.Job.{Job}
+use Rattle.board.specs.declared.done.Done.{Done}
+use Rattle.board.specs.Turns.{is_over}
+use Rattle.seat_board.specs.declared.worker.Worn.{Worn}
+use Rattle.seat_board.specs.Desk.{job_of}
+use Rattle.seat_board.specs.declared.known.Known.{Known}
+use Rattle.seat_board.specs.declared.pass.Pass.{Pass}
+use Rattle.seat_board.specs.Passes.{known}
+use Rattle.seat_board.specs.Seats.{IsDoneOf}
+
+-- a seat of this table, without a job
+pub record IsReady (table : TableId) (p : Pass) : Type 0 where
+  pub here : p.pass.seat.table_id ≡ table
+  pub idle : (known p).job ≡ None
+
+-- what turns leave as it is
+pub record IsSame (old new : Known) : Type 0 where
+  pub number : new.number ≡ old.number
+  pub boot : new.boot ≡ old.boot
+  pub nodes : new.nodes ≡ old.nodes
+  pub given : new.given ≡ old.given
+  pub ended : new.ended ≡ old.ended
+
+-- a worker has ended: it was told that the board is over, and has no job
+pub record HasServed (table : TableId) (old : Known) (p : Pass) : Type 0 where
+  pub ready : IsReady table p
+  pub same : IsSame old (known p)
+  pub over : (known p).over ≡ true
+
+-- what a seat knows behind a turn: its job is the one that the turn handed out, and that the board is over where the turn said so
+abbrev pub Follows : Turn Job → Known → Type 0
+Follows t c = (c.job ≡ job_of t) × (is_over t ≡ true → c.over ≡ true)
+
+-- what a worker hands in next, or that the board is over
+abbrev pub Goes : Option (Option Worn) → Known → Type 0
+Goes (Some worn) c = IsDoneOf c.job (option_map (λ (w : Worn). w.done) worn)
+Goes None c = (c.job ≡ None) × (c.over ≡ true)
+
+-- Seat 0, while so many of the numbers that it has given have not ended beside its own
+pub record IsFirst (table : TableId) (others : ℕ) (p : Pass) : Type 0 where
+  pub ready : IsReady table p
+  pub number : (known p).number ≡ 0
+  pub given : (known p).given ≡ 1 + (length (known p).ended + others)
+
+abbrev pub AreReady : TableId → List Pass → Type 0
+AreReady table ps = All (IsReady table) ps
+
+-- each worker that ended did so as its seat did
+abbrev pub AreServed : TableId → List Pass → List (Result Pass AllocError) → Type 0
+AreServed table ps rs = (i : ℕ) (d : Pass) (e : Result Pass AllocError) → i < length ps → IfOk (slice_index_or rs i e) (λ p. HasServed table (known (slice_index_or ps i d)) p)
+
+-- the board began with the tree of which both know, on as many nodes
+abbrev pub IsOfOneBoard : Pass → Pass → Type 0
+IsOfOneBoard p q = ((known p).boot ≡ (known q).boot) × ((known p).nodes ≡ (known q).nodes)

@@ -1,0 +1,116 @@
+ghost use Rattle.std.specs.Prelude.{◌≡◌, ◌+◌, ◌≤◌, ◌<◌, [], IfOk, Some, true, vec_len, length};
+ghost use Rattle.std.specs.List.{All};
+ghost use Rattle.space_model.specs.Space.{is_settled};
+ghost use Rattle.space_model.specs.Sound.{IsSound};
+ghost use Rattle.run_model.specs.Demand.{settle_tree};
+ghost use Rattle.det_core.specs.Legal.{Legal};
+ghost use Rattle.seat_board.specs.Desk.{cut, history_of};
+ghost use Rattle.seat_board.specs.Passes.{known};
+ghost use Rattle.seat_board.specs.Workers.{AreReady, AreServed, HasServed, IsFirst, IsOfOneBoard, IsReady};
+
+use crate::bell::Bell;
+use crate::closed::SeatClosed;
+use crate::pass::Pass;
+use crate::seat_board::SeatBoard;
+use crate::sharing::{
+    bells_may_be_shared, boards_may_be_shared, ends_may_be_sent, seats_may_be_sent,
+};
+use crate::worker::serve;
+use det_host::Gate;
+use space_tree::Space;
+use std::alloc::{AllocError, Global};
+use std::sync::Wait;
+use std::thread::{Threads, map_vec};
+
+// So many seats beside the first.
+fn seated(
+    alloc: Global,
+    board: &SeatBoard,
+    first: &mut Pass,
+    others: usize,
+) -> Result<Vec<Pass>, AllocError>
+    requires first { IsFirst board.now.lock.table.shared.table_id 0 first.old × ((known first.old).given ≡ 1) }
+    requires few { others < 64 }
+    ensures first { IfOk result (λ v. IsFirst board.now.lock.table.shared.table_id (vec_len v) first.new × IsOfOneBoard first.new first.old) }
+    ensures others { IfOk result (λ v. AreReady board.now.lock.table.shared.table_id v.items) }
+{
+    let mut passes = Vec::with_capacity(alloc, others)?;
+    for _ in 0..others {
+        passes.push(board.split(first))?;
+    }
+    Ok(passes)
+}
+
+// All workers side by side, in threads of their own as far as these can be made.
+fn serve_all<G: Gate, R: Threads + Wait + Sync>(
+    rt: &R,
+    board: &SeatBoard,
+    bell: &Bell,
+    gate: &G,
+    seats: Vec<Pass>,
+) -> Result<Vec<Result<Pass, AllocError>>, AllocError>
+    requires { AreReady board.now.lock.table.shared.table_id seats.items }
+    ensures len { IfOk result (λ v. vec_len v ≡ vec_len seats) }
+    ensures each { IfOk result (λ v. AreServed board.now.lock.table.shared.table_id seats.items v.items) }
+{
+    seats_may_be_sent();
+    ends_may_be_sent();
+    boards_may_be_shared();
+    bells_may_be_shared();
+    let work = |pass: Pass| -> Result<Pass, AllocError>
+        requires { IsReady board.now.lock.table.shared.table_id pass }
+        ensures { IfOk result (λ p. HasServed board.entry.now.lock.table.shared.table_id (known pass) p) }
+    { serve(rt, board, bell, gate, pass) };
+    map_vec(rt, seats, &work)
+}
+
+// Seat 0 takes in all others.
+fn gather(
+    board: &SeatBoard,
+    first: Pass,
+    others: Vec<Result<Pass, AllocError>>,
+) -> Result<Pass, AllocError>
+    requires first { IsFirst board.now.lock.table.shared.table_id (vec_len others) first × ((known first).over ≡ true) }
+    requires others { All (λ r. IfOk r (IsReady board.now.lock.table.shared.table_id)) others.items }
+    ensures { IfOk result (λ p. IsFirst board.now.lock.table.shared.table_id 0 p × ((known p).over ≡ true) × IsOfOneBoard p first) }
+{
+    let mut others = others;
+    let mut first = first;
+    while let Some(one) = others.pop() {
+        board.join(&mut first, one?);
+    }
+    Ok(first)
+}
+
+/// Runs a sound tree to its end by so many workers, 1 to 64, each in a thread of its own but the first, which this thread is, on so many nodes, 1 to 64. `gate` is told of their events, outside of their turns. The
+/// board began with this tree, and its last tree is what this one settles to: the workers know it by their seats, so nothing is compared and nothing is run again. The one error is want of memory. It may wait for
+/// ever, since no clause says that workers come to an end.
+pub fn run_seats<R: Threads + Wait + Sync, G: Gate>(
+    rt: &R,
+    alloc: Global,
+    space: Space,
+    nodes: u32,
+    link: Option<u32>,
+    workers: usize,
+    gate: &G,
+) -> Result<SeatClosed, AllocError>
+    requires sound { IsSound space }
+    requires nodes { (1 ≤ nodes) × (nodes ≤ 64) }
+    requires some { (0 < workers) × (workers < 65) }
+    ensures boot { IfOk result (λ c. (c.closed.boot ≡ space) × (c.closed.nodes ≡ nodes)) }
+    ensures legal { IfOk result (λ c. Legal c.closed.nodes c.closed.boot c.closed.history.items c.closed.tree) }
+    ensures log { IfOk result (λ c. history_of (cut c.closed.history.items c.turns.items) ≡ c.closed.history.items) }
+    ensures settled { IfOk result (λ c. is_settled c.closed.tree ≡ true) }
+    ensures end { IfOk result (λ c. c.closed.tree ≡ settle_tree space) }
+{
+    let (board, mut first) = SeatBoard::begin(alloc, space, nodes, link)?;
+    let mut seats = seated(alloc, &board, &mut first, workers - 1)?;
+    seats.push(first)?;
+    let bell = Bell::new();
+    let mut served = serve_all(rt, &board, &bell, gate, seats)?;
+    let Some(first) = served.pop() else {
+        unreachable!()
+    };
+    let last = gather(&board, first?, served)?;
+    Ok(board.close(last))
+}

@@ -1,0 +1,179 @@
+// What one worker does, from its first turn to its last.
+//
+// No worker sleeps for ever beside a job. A worker sleeps where two turns of its own were `Rest`, one behind the other, and the bell was not rung since it was read between them; or beside another that is awake:
+// - What there is to do comes from turns alone, and who has such a turn is awake. Where it meets, the worker takes the next turn itself, or sleeps beside another that is awake and has no job in its hands: that
+//   one takes its turn, too. So turns that meet, one after another, are one worker's.
+// - Where a turn hands out a job, and there may be more, the worker rings for one that sleeps; where the last jobs were short, as soon as this one is known to last. If it does not, the worker is back soon. Where
+//   the last jobs were short it hands in what came of its own and then sleeps, but only beside another that is awake and has none that is known to last: that one is back soon, or rings when its job lasts.
+// - A turn that is `Rest` changes nothing, and comes only while a job is out: whoever has that job comes back.
+// - `Over`, and want of memory, ring for all.
+
+ghost use Rattle.std.specs.Prelude.{◌≡◌, IfOk, None, Some, option_map};
+ghost use Rattle.board.specs.Turns.{IsOf};
+ghost use Rattle.seat_board.specs.declared.worker.Worn.{Worn as WornValue};
+ghost use Rattle.seat_board.specs.Passes.{known};
+ghost use Rattle.seat_board.specs.Seats.{IsDoneOf};
+ghost use Rattle.seat_board.specs.Workers.{Follows, Goes, HasServed, IsReady, IsSame};
+
+use crate::bell::Bell;
+use crate::pass::Pass;
+use crate::seat_board::SeatBoard;
+use board::{Done, Job, begin, go_on};
+use det_host::{Gate, GateEvent};
+use space_step::DecodeCache;
+use std::alloc::AllocError;
+use std::sync::Wait;
+use worker_pool::{Turn, Worked};
+
+/// What came of a job, and whether it lasted.
+#[derive(Drop)]
+pub(crate) struct Worn {
+    pub(crate) done: Done,
+    pub(crate) lasted: bool,
+}
+
+// Does a job.
+fn work<R: Wait>(
+    rt: &R,
+    bell: &Bell,
+    cache: &mut DecodeCache,
+    job: Job,
+    more: bool,
+) -> Result<Worn, AllocError>
+    ensures { IfOk result (λ w. IsOf job w.done) }
+{
+    match begin(cache, job)? {
+        Worked::Ended(done) => Ok(Worn {
+            done,
+            lasted: false,
+        }),
+        Worked::Lasts(done) => {
+            bell.lasts(rt, more);
+            let done = go_on(cache, done)?;
+            Ok(Worn { done, lasted: true })
+        }
+    }
+}
+
+// Nothing to do: at the first such turn the bell is read, and if the next turn finds nothing either, the worker waits until it is rung. None where memory was wanting at another worker.
+fn rest<R: Wait>(rt: &R, bell: &Bell, heard: Option<u64>) -> Option<Option<u64>> {
+    let count = bell.heard(rt)?;
+    match heard {
+        Some(before) => {
+            bell.wait(rt, before);
+            Some(None)
+        }
+        None => Some(Some(count)),
+    }
+}
+
+// A turn, in which what came of a job is handed in, if there is one. Answers, too, whether the next turn is left to another worker.
+fn turn<G: Gate, R: Wait>(
+    rt: &R,
+    board: &SeatBoard,
+    bell: &Bell,
+    gate: &G,
+    pass: &mut Pass,
+    worn: Option<Worn>,
+) -> Result<(Turn<Job>, bool), AllocError>
+    requires pass { pass.old.pass.seat.table_id ≡ board.now.lock.table.shared.table_id }
+    requires done { IsDoneOf (known pass.old).job (option_map (λ (w : WornValue). w.done) worn) }
+    ensures pass { pass.new.pass.seat.table_id ≡ pass.old.pass.seat.table_id }
+    ensures same { IsSame (known pass.old) (known pass.new) }
+    ensures turn { IfOk result (λ a. Follows a.0 (known pass.new)) }
+{
+    let number = pass.number as usize;
+    let Some(Worn { done, lasted }) = worn else {
+        return Ok((board.turn(rt, pass, None, false)?, false));
+    };
+    let aside = bell.ends(rt, lasted);
+    let turn = board.turn(rt, pass, Some(done), aside)?;
+    gate.pass(number, GateEvent::Committed);
+    Ok((turn, aside))
+}
+
+// One turn of a worker, and its job, if the turn hands out one. None where the board is over.
+fn step<G: Gate, R: Wait>(
+    rt: &R,
+    board: &SeatBoard,
+    bell: &Bell,
+    gate: &G,
+    cache: &mut DecodeCache,
+    pass: &mut Pass,
+    worn: Option<Worn>,
+    heard: &mut Option<u64>,
+) -> Result<Option<Option<Worn>>, AllocError>
+    requires pass { pass.old.pass.seat.table_id ≡ board.now.lock.table.shared.table_id }
+    requires done { IsDoneOf (known pass.old).job (option_map (λ (w : WornValue). w.done) worn) }
+    ensures pass { pass.new.pass.seat.table_id ≡ pass.old.pass.seat.table_id }
+    ensures same { IsSame (known pass.old) (known pass.new) }
+    ensures goes { IfOk result (λ o. Goes o (known pass.new)) }
+{
+    let (turn, aside) = turn(rt, board, bell, gate, pass, worn)?;
+    let number = pass.number as usize;
+    match turn {
+        Turn::Job(job) => {
+            bell.takes(rt, pass.more);
+            gate.pass(number, GateEvent::Took);
+            *heard = None;
+            let worn = work(rt, bell, cache, job, pass.more)?;
+            Ok(Some(Some(worn)))
+        }
+        Turn::Met => {
+            gate.pass(number, GateEvent::Met);
+            *heard = None;
+            bell.sleep_beside(rt, aside);
+            Ok(Some(None))
+        }
+        Turn::Rest => {
+            gate.pass(number, GateEvent::Resting);
+            *heard = rest(rt, bell, *heard).ok_or(AllocError)?;
+            Ok(Some(None))
+        }
+        Turn::Over => Ok(None),
+    }
+}
+
+// Takes turns until the board is over.
+fn take_turns<G: Gate, R: Wait>(
+    rt: &R,
+    board: &SeatBoard,
+    bell: &Bell,
+    gate: &G,
+    pass: Pass,
+) -> Result<Pass, AllocError>
+    requires { IsReady board.now.lock.table.shared.table_id pass }
+    ensures { IfOk result (λ p. HasServed board.now.lock.table.shared.table_id (known pass) p) }
+{
+    let mut cache = DecodeCache::new(board.alloc)?;
+    let mut pass = pass;
+    let mut worn = None;
+    let mut heard = None;
+    for _ in rt.forever() {
+        let next = step(
+            rt, board, bell, gate, &mut cache, &mut pass, worn, &mut heard,
+        )?;
+        match next {
+            Some(next) => worn = next,
+            None => return Ok(pass),
+        }
+    }
+    unreachable!()
+}
+
+/// A worker takes turns until the board is over. The one error is want of memory, here or at another worker, which ends all.
+pub(crate) fn serve<G: Gate, R: Wait>(
+    rt: &R,
+    board: &SeatBoard,
+    bell: &Bell,
+    gate: &G,
+    pass: Pass,
+) -> Result<Pass, AllocError>
+    requires { IsReady board.now.lock.table.shared.table_id pass }
+    ensures { IfOk result (λ p. HasServed board.now.lock.table.shared.table_id (known pass) p) }
+{
+    bell.come(rt);
+    let served = take_turns(rt, board, bell, gate, pass);
+    bell.ring_at_the_end(rt, served.is_err());
+    served
+}
