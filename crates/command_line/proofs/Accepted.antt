@@ -16,7 +16,7 @@ use Rattle.clap.specs.Takes.{is_given}
 use Rattle.clap.specs.Faults.{built_fault, check_fault, entered_fault, fault_of, level_fault, settle_fault, defaults_fault, walk_fault}
 use Rattle.clap.specs.declared.builder.value_parser.ValueParser.TheVariants as vp
 use Rattle.command_line.specs.declared.command.Command.{Command}
-use Rattle.command_line.specs.Line.{Engine, IsRefused, IsUnknown, Line, asm, asm_app, asm_line, bench_app, bench_line, bench_with, command_line, demand, engine_in, engine_name_of, engine_named, engine_rule, engine_with, flag, fuel_of, fuel_rule, greatest_number, has_flag, line, line_of, link_of, link_rule, most_nodes, most_workers, nodes_of, nodes_rule, number_in, number_of, pool, program_app, required_rule, rounds, run_app, run_by, run_line, run_with, schedule, seed_of, seed_rule, walk_app, walk_line, workers_of, workers_rule}
+use Rattle.command_line.specs.Line.{Engine, IsRefused, IsUnknown, Line, asm, asm_app, asm_line, bench_app, bench_line, bench_with, command_line, demand, engine_in, engine_name_of, engine_named, engine_rule, engine_with, flag, fuel_of, fuel_rule, greatest_number, has_flag, line, line_of, link_of, link_rule, most_nodes, most_workers, nodes_of, nodes_rule, number_in, number_of, pool, seats, program_app, required_rule, rounds, run_app, run_by, run_line, run_with, schedule, seed_of, seed_rule, walk_app, walk_line, workers_of, workers_rule}
 use Rattle.command_line.proofs.Complete.{HasValue, level_complete}
 use Rattle.command_line.proofs.Kept.{AreOurs, IsHelp, IsSet, found_is, or_else_none}
 
@@ -157,12 +157,13 @@ abbrev IsAccepted : Shape → Type 0
 IsAccepted s = (words : List Text) → level_fault s [] nothing_held words false [] ≡ [] → IsDecided (Some (rows_at s words))
 
 -- a name that is no engine's with one number of workers and nodes and one seed is none with any
-none_named : (a b c : Bool) (m i n j : ℕ) (k l : Option ℕ) → cond a (Some demand) (cond b (Some rounds) (cond c (Some (pool m i k)) None)) ≡ None
-    → cond a (Some demand) (cond b (Some rounds) (cond c (Some (pool n j l)) None)) ≡ None
-none_named true b c m i n j k l e = absurd cc
-none_named false true c m i n j k l e = absurd cc
-none_named false false true m i n j k l e = absurd cc
-none_named false false false m i n j k l e = refl
+none_named : (a b c d : Bool) (m i n j : ℕ) (k l : Option ℕ) → cond a (Some demand) (cond b (Some rounds) (cond c (Some (pool m i k)) (cond d (Some (seats m i k)) None))) ≡ None
+    → cond a (Some demand) (cond b (Some rounds) (cond c (Some (pool n j l)) (cond d (Some (seats n j l)) None))) ≡ None
+none_named true b c d m i n j k l e = absurd cc
+none_named false true c d m i n j k l e = absurd cc
+none_named false false true d m i n j k l e = absurd cc
+none_named false false false true m i n j k l e = absurd cc
+none_named false false false false m i n j k l e = refl
 
 -- a line with an engine is there, or the name of the engine is none
 by_engine : (rows : List Row) (made : Option Engine → Option Line) → HasValue rows engine_filled → IsSome (workers_of rows) → IsSome (nodes_of rows) → ((e : Engine) → IsSome (made (Some e)))
@@ -170,7 +171,7 @@ by_engine : (rows : List Row) (made : Option Engine → Option Line) → HasValu
 by_engine rows made v staffed placed there = subst (λ o. IsSome (made (engine_with (workers_of rows) (nodes_of rows) (link_of rows) o)) ⊎ IsUnknown o) (sym v.1.first) (of_numbers (workers_of rows) (nodes_of rows) staffed placed)
   where
     go : (n j : ℕ) (o : Option Engine) → engine_named n j (link_of rows) v.0 ≡ o → IsSome (made (engine_named n j (link_of rows) v.0)) ⊎ IsUnknown (Some v.0)
-    go n j None is = inr (λ m i l. none_named (bytes_eq v.0 (codes "demand")) (bytes_eq v.0 (codes "rounds")) (bytes_eq v.0 (codes "pool")) n j m i (link_of rows) l is)
+    go n j None is = inr (λ m i l. none_named (bytes_eq v.0 (codes "demand")) (bytes_eq v.0 (codes "rounds")) (bytes_eq v.0 (codes "pool")) (bytes_eq v.0 (codes "seats")) n j m i (link_of rows) l is)
     go n j (Some e) is = inl (subst (λ (o : Option Engine). IsSome (made o)) (sym is) (there e))
 
     of_numbers : (w k : Option ℕ) → IsSome w → IsSome k → IsSome (made (engine_with w k (link_of rows) (Some v.0))) ⊎ IsUnknown (Some v.0)

@@ -8,7 +8,7 @@ use Rattle.clap.specs.ValueTests.{accepts}
 use Rattle.clap.specs.declared.builder.value_parser.ValueParser.TheVariants as vp
 use Rattle.clap.proofs.ValueTestLemmas.{accepts-Accepts}
 use Rattle.command_line.specs.declared.command.Command.{Command}
-use Rattle.command_line.specs.Line.{Engine, IsInRange, IsStaffed, asm, asm_line, bench_line, bench_with, Line, command_line, demand, engine_in, engine_named, engine_with, fuel_of, greatest_number, line_of, link_of, most_nodes, most_workers, nodes_of, number_in, pool, rounds, run_by, run_line, run_with, schedule, seed_of, walk_line, workers_of}
+use Rattle.command_line.specs.Line.{Engine, IsInRange, IsStaffed, asm, asm_line, bench_line, bench_with, Line, command_line, demand, engine_in, engine_named, engine_with, fuel_of, greatest_number, line_of, link_of, most_nodes, most_workers, nodes_of, number_in, pool, seats, rounds, run_by, run_line, run_with, schedule, seed_of, walk_line, workers_of}
 
 pub number_bounds : (low high : ℕ) (t : List ℕ) (n : ℕ) → number_in low high t ≡ Some n → (low ≤ n) × (n ≤ high)
 unfolding number_in
@@ -55,7 +55,7 @@ staffed_if false e o h k = k
 
 named_staffed : (n j : ℕ) (l : Option ℕ) (t : Text) → (1 ≤ n) × (n ≤ most_workers) × (1 ≤ j) × (j ≤ most_nodes) → IfSome (engine_named n j l t) IsStaffed
 named_staffed n j l t h =
-    staffed_if (bytes_eq t (codes "demand")) demand _ tt (staffed_if (bytes_eq t (codes "rounds")) rounds _ tt (staffed_if (bytes_eq t (codes "pool")) (pool n j l) None h tt))
+    staffed_if (bytes_eq t (codes "demand")) demand _ tt (staffed_if (bytes_eq t (codes "rounds")) rounds _ tt (staffed_if (bytes_eq t (codes "pool")) (pool n j l) _ h (staffed_if (bytes_eq t (codes "seats")) (seats n j l) None h tt)))
 
 with_staffed : (workers nodes link : Option ℕ) (name : Option Text) → ((n : ℕ) → workers ≡ Some n → (1 ≤ n) × (n ≤ most_workers)) → ((n : ℕ) → nodes ≡ Some n → (1 ≤ n) × (n ≤ most_nodes))
     → IfSome (engine_with workers nodes link name) IsStaffed

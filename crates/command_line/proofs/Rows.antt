@@ -2,7 +2,7 @@
 use Rattle.std.proofs.Common.{◌≡◌, refl, ℕ, Bool, true, false, List, [], ◌∷◌, Some, None, codes}
 use Rattle.clap.specs.Words.{Text}
 use Rattle.clap.proofs.OnLiterals.{clap_on_literals}
-use Rattle.command_line.specs.Line.{Engine, Line, asm, asm_app, bench, bench_app, demand, files_of, line, number_in, pool, program_app, run, run_app, run_by, rounds, run_line, schedule, walk_app, walk_line}
+use Rattle.command_line.specs.Line.{Engine, Line, asm, asm_app, bench, bench_app, demand, files_of, line, number_in, pool, seats, program_app, run, run_app, run_by, rounds, run_line, schedule, walk_app, walk_line}
 
 -- a run, by its parts
 abbrev runs : ℕ → Bool → Engine → Text → Text → Line
@@ -92,7 +92,7 @@ pub engine_of_no_word : line (run_words (codes "--engine" ∷ codes "demand" ∷
 unfolding clap_on_literals line program_app run_app walk_app asm_app bench_app run_line walk_line run_by number_in
 engine_of_no_word = refl
 
-pub unknown_engine : line (run_words (codes "--engine" ∷ codes "seats" ∷ codes "I" ∷ codes "S" ∷ [])) ≡ None
+pub unknown_engine : line (run_words (codes "--engine" ∷ codes "threads" ∷ codes "I" ∷ codes "S" ∷ [])) ≡ None
 unfolding clap_on_literals line program_app run_app walk_app asm_app bench_app run_line walk_line run_by number_in
 unknown_engine = refl
 
@@ -119,6 +119,10 @@ engine_cut_short = refl
 pub four_workers : line (run_words (codes "--engine" ∷ codes "pool" ∷ codes "I" ∷ codes "S" ∷ [])) ≡ Some (runs 1000000 false (pool 4 1 None) (codes "I") (codes "S"))
 unfolding clap_on_literals line program_app run_app walk_app asm_app bench_app run_line walk_line run_by number_in
 four_workers = refl
+
+pub seats_by_name : line (run_words (codes "--engine" ∷ codes "seats" ∷ codes "--workers" ∷ codes "8" ∷ codes "--nodes=3" ∷ codes "I" ∷ codes "S" ∷ [])) ≡ Some (runs 1000000 false (seats 8 3 None) (codes "I") (codes "S"))
+unfolding clap_on_literals line program_app run_app walk_app asm_app bench_app run_line walk_line run_by number_in
+seats_by_name = refl
 
 pub most_workers_taken : line (run_words (codes "--workers" ∷ codes "64" ∷ codes "--engine" ∷ codes "pool" ∷ codes "I" ∷ codes "S" ∷ [])) ≡ Some (runs 1000000 false (pool 64 1 None) (codes "I") (codes "S"))
 unfolding clap_on_literals line program_app run_app walk_app asm_app bench_app run_line walk_line run_by number_in
@@ -300,7 +304,7 @@ pub bench_on_nodes : line (bench_words (codes "--nodes" ∷ codes "3" ∷ codes 
 unfolding clap_on_literals line program_app run_app walk_app asm_app bench_app run_line walk_line run_by number_in
 bench_on_nodes = refl
 
-pub bench_on_no_engine : line (bench_words (codes "1" ∷ codes "--engine=seats" ∷ [])) ≡ None
+pub bench_on_no_engine : line (bench_words (codes "1" ∷ codes "--engine=threads" ∷ [])) ≡ None
 unfolding clap_on_literals line program_app run_app walk_app asm_app bench_app run_line walk_line run_by number_in
 bench_on_no_engine = refl
 

@@ -19,7 +19,7 @@ use Rattle.command_line.specs.declared.command.Command.{Command}
 use Rattle.command_line.specs.declared.command.Command.TheVariants as command
 use Rattle.command_line.specs.declared.command.Run as command_run
 use Rattle.command_line.specs.declared.command.Engine as engine
-use Rattle.command_line.specs.declared.command.Engine.TheVariants.{Demand, Rounds, Pool, Schedule}
+use Rattle.command_line.specs.declared.command.Engine.TheVariants.{Demand, Rounds, Pool, Seats, Schedule}
 
 -- ---- the commands
 
@@ -63,15 +63,15 @@ fuel_rule = number (codes "limit") 1 greatest_number (codes "1000000")
 abbrev pub engine_rule : Rule
 engine_rule = record (new_rule (codes "engine")) { long = Some (codes "engine"); defaults = codes "demand" ∷ [] }
 
--- `--workers`, which only the pool's engine uses
+-- `--workers`, which only the engines of the pool and of seats use
 abbrev pub workers_rule : Rule
 workers_rule = number (codes "workers") 1 most_workers (codes "4")
 
--- `--nodes`, which only the pool's engine uses
+-- `--nodes`, which only the engines of the pool and of seats use
 abbrev pub nodes_rule : Rule
 nodes_rule = number (codes "nodes") 1 most_nodes (codes "1")
 
--- `--link`, a seed, which only the pool's engine uses, and which may be left out
+-- `--link`, a seed, which only the engines of the pool and of seats use, and which may be left out
 abbrev pub link_rule : Rule
 link_rule = record (new_rule (codes "link")) { long = Some (codes "link"); parser = Some (vp.Unsigned 0 greatest_number) }
 
@@ -108,11 +108,12 @@ IsApp c a = (app_of c ≡ a) × ((out-Command c).has_globals ≡ false)
 -- ---- the line
 
 -- In which order events happen: each space runs when its parent waits for it; or all spaces that can go on run side by side, round by round; or
--- so many workers take whichever space can go on, as they come, over so many nodes, between which links lose, repeat and reorder, as a seed decides, or do not; or first the events of a schedule happen, by its file name.
+-- so many workers take whichever space can go on, as they come, over so many nodes, between which links lose, repeat and reorder, as a seed decides, or do not, in a pool or by turns in the order of tickets; or first the events of a schedule happen, by its file name.
 pub data Engine : Type 0 where
   demand : Engine
   rounds : Engine
   pool : ℕ → ℕ → Option ℕ → Engine
+  seats : ℕ → ℕ → Option ℕ → Engine
   schedule : Text → Engine
 
 -- a run: its fuel, whether digests are asked for, its engine, and the file names of an image and a script
@@ -134,6 +135,7 @@ abbrev pub files_of_engine : Engine → List Text
 files_of_engine demand = []
 files_of_engine rounds = []
 files_of_engine (pool workers nodes link) = []
+files_of_engine (seats workers nodes link) = []
 files_of_engine (schedule name) = name ∷ []
 
 abbrev pub files_of : Line → List Text
@@ -141,11 +143,12 @@ files_of (run r) = r.image ∷ r.script ∷ files_of_engine r.engine
 files_of (asm source) = source ∷ []
 files_of (bench engine seed) = files_of_engine engine
 
--- a pool has from 1 to 64 workers, and from 1 to 64 nodes
+-- a pool, and a board of seats, has from 1 to 64 workers, and from 1 to 64 nodes
 abbrev pub IsStaffed : Engine → Type 0
 IsStaffed demand = Unit {0}
 IsStaffed rounds = Unit {0}
 IsStaffed (pool workers nodes link) = (1 ≤ workers) × (workers ≤ most_workers) × (1 ≤ nodes) × (nodes ≤ most_nodes)
+IsStaffed (seats workers nodes link) = (1 ≤ workers) × (workers ≤ most_workers) × (1 ≤ nodes) × (nodes ≤ most_nodes)
 IsStaffed (schedule name) = Unit {0}
 
 -- numbers are in their ranges
@@ -187,6 +190,7 @@ abbrev pub engine_named : ℕ → ℕ → Option ℕ → Text → Option Engine
 engine_named workers nodes link name = if bytes_eq name (codes "demand") then Some demand
     else if bytes_eq name (codes "rounds") then Some rounds
     else if bytes_eq name (codes "pool") then Some (pool workers nodes link)
+    else if bytes_eq name (codes "seats") then Some (seats workers nodes link)
     else None
 
 -- the engine of a name and two numbers, where all are there, and of a seed, which may be left out
@@ -253,6 +257,7 @@ abbrev pub engine_of : engine.Engine → Engine
 engine_of Demand = demand
 engine_of Rounds = rounds
 engine_of (Pool workers nodes link) = pool workers nodes link
+engine_of (Seats workers nodes link) = seats workers nodes link
 engine_of (Schedule name) = schedule name.now
 
 abbrev pub run_of : command_run.Run → Run

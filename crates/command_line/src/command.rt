@@ -48,6 +48,15 @@ pub enum Engine<'a> {
         /// With which number the rows begin that decide what becomes of what goes between nodes: `--link`, from 0 to 4,294,967,295, or none, where all arrives.
         link: Option<u32>,
     },
+    /// Workers in threads of their own take turns in the order of the tickets that they draw: `--engine seats`.
+    Seats {
+        /// How many workers there are: from 1 to 64, or 4 where `--workers` is not given.
+        workers: u32,
+        /// How many nodes the workers serve: from 1 to 64, or 1 where `--nodes` is not given.
+        nodes: u32,
+        /// With which number the rows begin that decide what becomes of what goes between nodes: `--link`, from 0 to 4,294,967,295, or none, where all arrives.
+        link: Option<u32>,
+    },
     /// First the events of a schedule, by the schedule's file name, and then whatever is left to run: the word `walk`.
     Schedule(&'a str),
 }

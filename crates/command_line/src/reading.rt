@@ -83,6 +83,12 @@ fn engine_named<'a>(workers: u32, nodes: u32, link: Option<u32>, name: &str) -> 
             nodes,
             link,
         })
+    } else if name == "seats" {
+        Some(Engine::Seats {
+            workers,
+            nodes,
+            link,
+        })
     } else {
         None
     }

@@ -31,6 +31,8 @@ pub(crate) enum Plan {
     Rounds,
     /// Workers take whichever space can go on, as they come.
     Pool(Staff),
+    /// Workers take turns, in the order of their tickets.
+    Seats(Staff),
     /// First the events at these paths, and then whatever is left to run.
     Schedule(Vec<Path>),
 }
@@ -55,6 +57,11 @@ pub(crate) fn read_plan<L: Loader>(
             nodes,
             link,
         } => Ok(Plan::Pool(staff_of(workers, nodes, link))),
+        Engine::Seats {
+            workers,
+            nodes,
+            link,
+        } => Ok(Plan::Seats(staff_of(workers, nodes, link))),
         Engine::Schedule(name) => {
             let paths = load_as::<L, Vec<Path>>(alloc, files, name)?;
             Ok(Plan::Schedule(paths))
@@ -92,7 +99,7 @@ pub(crate) fn settle_still(
 {
     let Booted { root, plan } = booted;
     match plan {
-        Plan::Demand | Plan::Pool(_) => settle(alloc, root),
+        Plan::Demand | Plan::Pool(_) | Plan::Seats(_) => settle(alloc, root),
         Plan::Rounds => rounds(rt, alloc, root, QUANTUM),
         Plan::Schedule(paths) => walk_and_settle(alloc, &paths, root),
     }

@@ -82,17 +82,17 @@ pub fn det_still<R: AllocGlobal + Threads + Sync, L: Loader, O: Sink, E: Sink>(
     }
 }
 
-// Whether a pool of workers is to do what a command asks for.
-fn is_on_pool(command: &Command<'_>) -> bool {
+// Whether workers in threads of their own are to do what a command asks for.
+fn is_by_workers(command: &Command<'_>) -> bool {
     match command {
         Command::Run(Run { engine, .. }) | Command::Bench { engine, .. } => {
-            matches!(engine, Engine::Pool { .. })
+            matches!(engine, Engine::Pool { .. } | Engine::Seats { .. })
         }
         Command::Asm { .. } => false,
     }
 }
 
-// As `carry_out`, by a pool of workers where the command names one. `gate` is told of their events.
+// As `carry_out`, by workers where the command names a pool or seats. `gate` is told of their events.
 fn carry_out_pooled<R: Threads + Wait + Sync, L: Loader, O: Sink, E: Sink, G: Gate>(
     rt: &R,
     alloc: Global,
@@ -111,7 +111,7 @@ fn carry_out_pooled<R: Threads + Wait + Sync, L: Loader, O: Sink, E: Sink, G: Ga
     ensures out_later { O.faults out.old ≤ O.faults out.new }
     ensures err_later { E.faults err.old ≤ E.faults err.new }
 {
-    if is_on_pool(&command) {
+    if is_by_workers(&command) {
         let settle = |booted: Booted| -> Result<Space, AllocError>
             requires { IsSync R.row × IsSync G.row × IsSound booted.root }
             ensures { Ends booted.root result }

@@ -8,6 +8,7 @@ use crate::evaluating::{Booted, Plan, settle_still};
 use crate::staff::Staff;
 use board::{Board, Closed, run_alone, run_together};
 use det_host::Gate;
+use seat_board::run_seats;
 use space_tree::{Space, copy_tree, is_settled, same};
 use std::alloc::{AllocError, Global};
 use std::sync::Wait;
@@ -64,6 +65,30 @@ fn settle_by_workers<R: Threads + Wait + Sync, G: Gate>(
     }
 }
 
+// What a root settles to, by so many workers in seats on so many nodes. They know that the board began with the root, and that it came to its end: so nothing is compared.
+fn settle_by_seats<R: Threads + Wait + Sync, G: Gate>(
+    rt: &R,
+    alloc: Global,
+    root: Space,
+    staff: Staff,
+    gate: &G,
+) -> Result<Space, AllocError>
+    requires { IsSound root }
+    ensures meaning { IfOk result (λ s. s ≡ settle_tree root) }
+    ensures settled { IfOk result (λ s. is_settled s ≡ true) }
+{
+    let closed = run_seats(
+        rt,
+        alloc,
+        root,
+        staff.nodes,
+        staff.link,
+        staff.workers,
+        gate,
+    )?;
+    Ok(closed.closed.tree)
+}
+
 /// Brings a root to its end as `settle_still` does, but for a plan of workers, which is done by them. `gate` is told of their events.
 pub(crate) fn settle_pooled<R: Threads + Wait + Sync, G: Gate>(
     rt: &R,
@@ -76,6 +101,7 @@ pub(crate) fn settle_pooled<R: Threads + Wait + Sync, G: Gate>(
 {
     match booted.plan {
         Plan::Pool(staff) => settle_by_workers(rt, alloc, booted.root, staff, gate),
+        Plan::Seats(staff) => settle_by_seats(rt, alloc, booted.root, staff, gate),
         _ => settle_still(rt, alloc, booted),
     }
 }

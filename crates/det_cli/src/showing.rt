@@ -59,7 +59,7 @@ fn stream_still<O: Sink>(
 {
     let Booted { root, plan } = booted;
     match plan {
-        Plan::Demand | Plan::Pool(_) => settle_to(alloc, root, out),
+        Plan::Demand | Plan::Pool(_) | Plan::Seats(_) => settle_to(alloc, root, out),
         Plan::Rounds => rounds_to(rt, alloc, root, QUANTUM, out),
         Plan::Schedule(paths) => walk_and_stream(alloc, &paths, root, out),
     }
@@ -118,7 +118,7 @@ pub(crate) fn show_console<F: Fn(Booted) -> Result<Space, AllocError>, O: Sink>(
     ensures later { O.faults out.old ≤ O.faults out.new }
 {
     match booted.plan {
-        Plan::Pool(_) => settle_then_write(settle, alloc, booted, out),
+        Plan::Pool(_) | Plan::Seats(_) => settle_then_write(settle, alloc, booted, out),
         _ => write_as_it_grows(rt, alloc, booted, out),
     }
 }

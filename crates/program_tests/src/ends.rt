@@ -22,6 +22,8 @@ const ROUNDS: &str = "det run --engine rounds image script";
 
 const POOL: &str = "det run --engine pool image script";
 
+const SEATS: &str = "det run --engine seats --workers 3 image script";
+
 const WALK: &str = "det walk image script schedule";
 
 const ASM: &str = "det asm image";
@@ -39,8 +41,9 @@ fn words_that_are_refused_load_nothing(rt: HostRuntime) -> Result<(), Fail> {
     one_of_words(&rt, "det walk image script");
     one_of_words(&rt, "det asm image script");
     one_of_words(&rt, "det bench x");
-    one_of_words(&rt, "det run --engine seats image script");
+    one_of_words(&rt, "det run --engine threads image script");
     one_of_words(&rt, "det run --engine pool --workers 65 image script");
+    one_of_words(&rt, "det run --engine seats --workers 65 image script");
     Ok(())
 }
 
@@ -52,6 +55,7 @@ fn commands_load_their_files(rt: HostRuntime) -> Result<(), Fail> {
     check_loads(&rt, &plain("det bench 0", b"", End::Ret, SUMMARY, ""), 1);
     check_loads(&rt, &plain(ROUNDS, &WRITE_TWO, End::Ret, b"AB", REPORT), 3);
     check_loads(&rt, &plain(POOL, &WRITE_TWO, End::Ret, b"AB", REPORT), 3);
+    check_loads(&rt, &plain(SEATS, &WRITE_TWO, End::Ret, b"AB", REPORT), 3);
     let words = "det bench --engine rounds 0";
     check_loads(&rt, &plain(words, b"", End::Ret, SUMMARY, ""), 1);
     Ok(())

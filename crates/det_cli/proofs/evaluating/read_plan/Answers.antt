@@ -20,3 +20,6 @@ returns-in_ok-paths-in-Schedule-clause-reads g c whole e made done =
 
 pub returns-in-Pool-clause-reads : goal.returns-in-Pool-clause-reads
 returns-in-Pool-clause-reads g c whole e made done = by_engine _ _ _ _ _ _ (ap engine_of c.in-Pool.is) (none_to_read (λ plan. e) whole _ _ (made []) done refl)
+
+pub returns-in-Seats-clause-reads : goal.returns-in-Seats-clause-reads
+returns-in-Seats-clause-reads g c whole e made done = by_engine _ _ _ _ _ _ (ap engine_of c.in-Seats.is) (none_to_read (λ plan. e) whole _ _ (made []) done refl)
