@@ -47,7 +47,7 @@ fn carry_out<F: Fn(Booted) -> Result<Space, AllocError>, L: Loader, O: Sink, E: 
     }
 }
 
-/// Does what `det_main` does, and returns, whatever the words: a line that names the engine `pool` is run on demand.
+/// Does what `det_main` does, and returns, whatever the words: a line that names the engine `pool` or `seats` is run on demand.
 ///
 /// The runtime gives memory, and for rounds the threads of the host. It waits for no other thread but those that it has started and that have all
 /// they need to end.
@@ -127,12 +127,12 @@ fn carry_out_pooled<R: Threads + Wait + Sync, L: Loader, O: Sink, E: Sink, G: Ga
 }
 
 /// Does all that the program does but for the fault line: reads the words, loads the files that they name, and
-/// runs an image, on demand, in rounds, by a pool of workers or by a schedule, and writes its console to `out` and then the report to `err`; or writes
-/// the image of a source, or the summary of an image that is made from a number, to `out`.
+/// runs an image, on demand, in rounds, by a pool of workers, by workers in seats or by a schedule, and writes its console to `out` and then the report
+/// to `err`; or writes the image of a source, or the summary of an image that is made from a number, to `out`.
 ///
-/// The runtime gives memory, for rounds and for a pool the threads of the host, and for a pool the leave to wait. `gate` is told of the events of the pool's
-/// workers. No clause says that a pool comes to its end: so a line that names the engine `pool` may wait for ever. Each other line takes no leave to wait, and
-/// returns.
+/// The runtime gives memory, for rounds and for workers the threads of the host, and for workers the leave to wait. `gate` is told of the events of the
+/// workers. No clause says that they come to their end: so a line that names the engine `pool` or `seats` may wait for ever. Each other line takes no leave to
+/// wait, and returns.
 ///
 /// Where the loader does not tell a file, there are bytes of which all of this is true. Of sinks that do not tell what they took the
 /// counts are promised all the same.

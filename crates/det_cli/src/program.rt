@@ -31,7 +31,7 @@ fn say<E: Sink>(alloc: Global, ended: End, err: &mut E) -> End
     }
 }
 
-/// Does all that the program does: what `det_main` does, and then the line that names a fault's cause. As that it returns on each line but those of a pool.
+/// Does all that the program does: what `det_main` does, and then the line that names a fault's cause. As that it returns on each line but those of a pool or of seats.
 pub fn det_program<R: AllocGlobal + Threads + Wait + Sync, L: Loader, O: Sink, E: Sink, G: Gate>(
     rt: &R,
     words: &[String],

@@ -1,6 +1,6 @@
 ghost use Rattle.std.specs.Prelude.{◌≤◌, ◌<◌};
 
-/// The workers of a pool, 1 to 64, the nodes that they serve, 1 to 64, and the seed of the links between these, where there are links.
+/// The workers of a pool or in seats, 1 to 64, the nodes that they serve, 1 to 64, and the seed of the links between these, where there are links.
 #[derive(Clone, Copy)]
 pub(crate) struct Staff {
     pub(crate) workers: usize,
