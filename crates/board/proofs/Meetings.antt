@@ -289,14 +289,14 @@ callers_led : (went : Bool) (s : Space) (ps qs : Places) (path : ArrayVec ℕ) (
 callers_led true s ps qs path node below gone = (s, qs, record { now = refl; there = below; gone = gone.1 }, (refl, refl))
 callers_led false s ps qs path node below gone = (refl, sym gone.1)
 
-short_cases : (n : ℕ) → (n ≤ 8) ⊎ (8 < n)
+pub short_cases : (n : ℕ) → (n ≤ 8) ⊎ (8 < n)
 short_cases n = go (nat_lt 8 n) refl
   where
     go : (b : Bool) → nat_lt 8 n ≡ b → (n ≤ 8) ⊎ (8 < n)
     go true is = let more : 8 < n = grind (arith, nat_tests) in inr more
     go false is = let less : n ≤ 8 = grind (arith, nat_tests) in inl less
 
-copied_nodes : (b : Bool) (p : List ℕ) (o : Option (List ℕ)) (ps qs : Places) → AreCopied b p o ps qs → qs.nodes ≡ ps.nodes
+pub copied_nodes : (b : Bool) (p : List ℕ) (o : Option (List ℕ)) (ps qs : Places) → AreCopied b p o ps qs → qs.nodes ≡ ps.nodes
 copied_nodes true p o ps qs same = ap (λ (x : Places). x.nodes) same
 copied_nodes false p None ps qs same = ap (λ (x : Places). x.nodes) same
 copied_nodes false p (Some r) ps qs copied = go (short_cases (length (p ++ r)))

@@ -3,37 +3,19 @@
 ghost use Rattle.std.specs.Prelude.{◌≡◌, ◌+◌, ◌^◌, ◌<◌, cond, IfOk, OnErr};
 ghost use Rattle.worker_pool.specs.Turns.{is_job};
 
+use crate::attendance::Attendance;
 use crate::shop::{Shop, Turn};
 use std::alloc::AllocError;
 use std::sync::Condvar;
 use std::sync::ledger::{Book, Ledger, Share};
 
-/// How many jobs that did not last come one after another before workers are woken with less haste.
-const FEW_SHORT: u32 = 8;
-
-/// How many short jobs are done from one ring to the next then.
-const BETWEEN_RINGS: u32 = 64;
-
-/// Lies under the lock: the shop, beside the books of the jobs that are out and of what was accepted.
+/// Lies under the lock: the shop, beside the books of the jobs that are out and of what was accepted, and which workers are here.
 #[derive(Drop)]
 pub(crate) struct Desk<S: Shop, L: Ledger, M: Ledger> {
     pub(crate) shop: S,
     pub(crate) out: Book<L>,
     pub(crate) done: Book<M>,
-    /// How many workers have come, and have not gone home.
-    pub(crate) here: usize,
-    /// How many of them wait for the bell.
-    pub(crate) asleep: usize,
-    /// Whether one of them was rung for and has not come under the lock yet.
-    pub(crate) rung: bool,
-    /// How many of them have jobs in their hands, which they have taken and not handed in.
-    pub(crate) busy: usize,
-    /// How many of these jobs are known to last.
-    pub(crate) lasting: usize,
-    /// How many results were handed in, since a job lasted, of jobs that did not.
-    pub(crate) short: u32,
-    /// Whether memory was wanting somewhere, which ends all.
-    pub(crate) failed: bool,
+    pub(crate) attendance: Attendance,
     pub(crate) ghost owed_is: { S.owed shop ≡ out.total },
     pub(crate) ghost accepted_is: { S.accepted shop ≡ done.total },
 }
@@ -69,14 +51,14 @@ impl<S: Shop, L: Ledger, M: Ledger> Desk<S, L, M> {
         ensures amount { IfOk result (λ t. mine.new.amount ≡ cond (is_job t) (mine.old.amount + 1) mine.old.amount) }
         ensures err { OnErr result (mine.new.amount ≡ mine.old.amount) }
     {
-        if self.failed {
+        if self.attendance.has_failed() {
             return Err(AllocError);
         }
         let turn = self.noted(worker, mine);
         match &turn {
-            Ok(Turn::Job(_)) => self.busy = self.busy.saturating_add(1),
+            Ok(Turn::Job(_)) => self.attendance.take_job(),
             Ok(_) => {}
-            Err(_) => self.failed = true,
+            Err(_) => self.attendance.fail(),
         }
         turn
     }
@@ -130,50 +112,16 @@ impl<S: Shop, L: Ledger, M: Ledger> Desk<S, L, M> {
 
     /// A worker's job lasts: another is rung for.
     pub(crate) fn ring_as_it_lasts(&mut self) -> Ring {
-        self.lasting = self.lasting.saturating_add(1);
-        self.short = 0;
+        self.attendance.job_lasts();
         self.ring_beside()
-    }
-
-    /// A result is handed in, of a job that lasted or did not.
-    pub(crate) fn note(&mut self, lasted: bool) {
-        self.busy = self.busy.saturating_sub(1);
-        if lasted {
-            self.lasting = self.lasting.saturating_sub(1);
-        } else {
-            self.short = self.short.wrapping_add(1);
-        }
-    }
-
-    // Whether it pays to wake another worker for a job right when one is taken: while few were short, and then at times, since what waits beside the short
-    // jobs may last.
-    fn is_eager(&self) -> bool {
-        self.short < FEW_SHORT || self.short % BETWEEN_RINGS == 0
-    }
-
-    // Whether another worker is awake beside so many that need not come back soon.
-    fn is_awake_beside(&self, others: usize) -> bool {
-        let awake = self.here.saturating_sub(self.asleep).saturating_sub(others);
-        !self.failed && awake > 1
-    }
-
-    /// Whether a worker is to sleep though there may be jobs: where the last ones were short, workers that come one after another to the lock for such do no
-    /// more than one. Another is awake then, and has no job that is known to last: it comes back to the lock at once, or rings when it finds that its job lasts.
-    pub(crate) fn is_crowded(&self) -> bool {
-        self.short >= FEW_SHORT && self.is_awake_beside(self.lasting)
-    }
-
-    /// Whether another worker is awake, and has no job in its hands: it is about to take its turn.
-    pub(crate) fn is_beside_another(&self) -> bool {
-        self.is_awake_beside(self.busy)
     }
 
     /// Whom a worker with a job rings for: for one other where there may be more, and where nobody is on the way already.
     pub(crate) fn ring_beside(&mut self) -> Ring {
-        if self.asleep == 0 || self.rung || !self.shop.has_more() {
+        if !self.attendance.may_ring() || !self.shop.has_more() {
             return Ring::Nobody;
         }
-        self.rung = true;
+        self.attendance.ring();
         Ring::One
     }
 
@@ -181,7 +129,7 @@ impl<S: Shop, L: Ledger, M: Ledger> Desk<S, L, M> {
     /// again itself; at the end, and where memory is wanting, all are to see it.
     pub(crate) fn ring_after(&mut self, turn: &Result<Turn<S::Job>, AllocError>) -> Ring {
         match turn {
-            Ok(Turn::Job(_)) if self.is_eager() => self.ring_beside(),
+            Ok(Turn::Job(_)) if self.attendance.is_eager() => self.ring_beside(),
             Ok(Turn::Job(_) | Turn::Met | Turn::Rest) => Ring::Nobody,
             Ok(Turn::Over) | Err(_) => self.ring_at_the_end(),
         }
@@ -189,8 +137,7 @@ impl<S: Shop, L: Ledger, M: Ledger> Desk<S, L, M> {
 
     /// A worker goes home, and all that sleep are to see why.
     pub(crate) fn ring_at_the_end(&mut self) -> Ring {
-        self.here = self.here.saturating_sub(1);
-        if self.asleep > 0 {
+        if self.attendance.leave() {
             return Ring::All;
         }
         Ring::Nobody

@@ -2,6 +2,7 @@
 
 ghost use Rattle.std.specs.Prelude.{◌≡◌, ◌+◌, ◌^◌, ◌<◌, IfOk, OnOk, sum, length, vec_len};
 
+use crate::attendance::Attendance;
 use crate::desk::Desk;
 use crate::shop::{Shop, Turn, Worked};
 use crate::side_by_side::side_by_side;
@@ -91,13 +92,7 @@ fn opened<S: Shop, L: Ledger, M: Ledger>(shop: S, out: Book<L>, done: Book<M>) -
         shop,
         out,
         done,
-        here: 0,
-        asleep: 0,
-        rung: false,
-        busy: 0,
-        lasting: 0,
-        short: 0,
-        failed: false,
+        attendance: Attendance::new(),
     }
 }
 

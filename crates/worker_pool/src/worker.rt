@@ -111,7 +111,7 @@ fn ended_with<L: Ledger, M: Ledger>(count: u64, out: Share<L>, done: Share<M>) -
 // One more worker is here.
 fn come<S: Shop, L: Ledger, M: Ledger, R: Wait>(rt: &R, desk: &Mutex<Desk<S, L, M>>) {
     let mut guard = desk.lock(rt);
-    guard.here = guard.here.saturating_add(1);
+    guard.attendance.come();
 }
 
 // One turn under the lock.
@@ -147,11 +147,10 @@ fn take_again<S: Shop, L: Ledger, M: Ledger, R: Wait>(
     ensures amount { IfOk result (λ t. out.new.amount ≡ cond (is_job t) (out.old.amount + 1) out.old.amount) }
 {
     let mut guard = desk.lock(rt);
-    if guard.is_beside_another() {
-        guard.asleep = guard.asleep.saturating_add(1);
+    if guard.attendance.is_beside_another() {
+        guard.attendance.fall_asleep();
         guard = bell.wait(rt, guard);
-        guard.asleep = guard.asleep.saturating_sub(1);
-        guard.rung = false;
+        guard.attendance.wake_up();
     }
     let turn = guard.turn(number, out);
     let ring = guard.ring_after(&turn);
@@ -181,10 +180,9 @@ fn wait_for_turn<S: Shop, L: Ledger, M: Ledger, R: Wait>(
             ring.sound(bell);
             return turn;
         };
-        guard.asleep = guard.asleep.saturating_add(1);
+        guard.attendance.fall_asleep();
         guard = bell.wait(rt, guard);
-        guard.asleep = guard.asleep.saturating_sub(1);
-        guard.rung = false;
+        guard.attendance.wake_up();
     }
     unreachable!()
 }
@@ -227,13 +225,12 @@ fn hand_in<S: Shop, L: Ledger, M: Ledger, R: Wait>(
 {
     let (done, lasted) = done;
     let mut guard = desk.lock(rt);
-    guard.note(lasted);
+    guard.attendance.end_job(lasted);
     let taken = guard.commit(done, out, tally);
-    if guard.is_crowded() {
-        guard.asleep = guard.asleep.saturating_add(1);
+    if guard.attendance.is_crowded() {
+        guard.attendance.fall_asleep();
         guard = bell.wait(rt, guard);
-        guard.asleep = guard.asleep.saturating_sub(1);
-        guard.rung = false;
+        guard.attendance.wake_up();
     }
     let turn = guard.turn(number, out);
     let ring = guard.ring_after(&turn);
@@ -249,7 +246,7 @@ fn fail<S: Shop, L: Ledger, M: Ledger, R: Wait>(
     bell: &Condvar,
 ) -> AllocError {
     let mut guard = desk.lock(rt);
-    guard.failed = true;
+    guard.attendance.fail();
     let ring = guard.ring_at_the_end();
     drop(guard);
     ring.sound(bell);
