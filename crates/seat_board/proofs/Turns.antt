@@ -1,8 +1,7 @@
 -- What a board's turn leaves of the jobs that are out.
 use Rattle.std.proofs.Common.{◌≡◌, ◌≢◌, ℕ, ◌+◌, ◌≤◌, ◌<◌, Bool, true, false, true≢false, List, [], ◌∷◌, ◌++◌, length, Option, Some, None, ◌⊎◌, inl, inr, refl, sym, ap, ◌∙◌, subst, arith, append-nil}
 use Rattle.std.proofs.lemmas.Bool.{cases_eq}
-use Rattle.std.proofs.lemmas.Bool.Decides.{nat_tests}
-use Rattle.std.specs.Prelude.{IsSome, nat_lt}
+use Rattle.std.specs.Prelude.{IsSome}
 use Rattle.arrayvec.specs.ArrayVec.{ArrayVec}
 use Rattle.space_model.specs.Space.{Space, Top, is_settled}
 use Rattle.space_model.specs.Sound.{IsSound}
@@ -13,7 +12,7 @@ use Rattle.det_laws.proofs.Tops.{top_other}
 use Rattle.det_laws.proofs.Near.{local_enabled, going_on_stays}
 use Rattle.det_core.specs.declared.entry.Entry.{Entry}
 use Rattle.det_core.specs.declared.entry.Entry.TheVariants.{Ran, Moved, Met as HasMetAt}
-use Rattle.det_core.specs.Legal.{Leads, AreCopied, IsCopied}
+use Rattle.det_core.specs.Legal.{Leads, IsCopied}
 use Rattle.worker_pool.specs.declared.shop.Turn.{Turn}
 use Rattle.worker_pool.specs.declared.shop.Turn.TheVariants.{Job as Hands, Met, Rest, Over}
 use Rattle.board.specs.declared.job.Out.{Out}
@@ -26,6 +25,7 @@ use Rattle.board.specs.GoingOn.{HasGoneOn}
 use Rattle.board.specs.Turns.{HandsOut, GoesOnNode, IsTurn, IsFinished}
 use Rattle.board.specs.Value.{Shown}
 use Rattle.board.proofs.Kept.{not_both}
+use Rattle.board.proofs.Meetings.{copied_nodes}
 use Rattle.board.proofs.Turns.{finished_meets_none, finished_goes_none}
 use Rattle.seat_board.specs.Held.{Held}
 use Rattle.seat_board.specs.Desk.{Desk, GoesOn, held_of, job_of, told_by}
@@ -84,22 +84,6 @@ is_held b (Some slot) h e = go (out_at b.out slot) refl e
     go (Some o) is e = top o (top_at o.path.items b.tree) is refl e
 
 -- entries lead to as many nodes as there were
-short_cases : (n : ℕ) → (n ≤ 8) ⊎ (8 < n)
-short_cases n = go (nat_lt 8 n) refl
-  where
-    go : (b : Bool) → nat_lt 8 n ≡ b → (n ≤ 8) ⊎ (8 < n)
-    go true is = let more : 8 < n = grind (arith, nat_tests) in inr more
-    go false is = let less : n ≤ 8 = grind (arith, nat_tests) in inl less
-
-copied_nodes : (b : Bool) (p : List ℕ) (o : Option (List ℕ)) (ps qs : Places) → AreCopied b p o ps qs → qs.nodes ≡ ps.nodes
-copied_nodes true p o ps qs same = ap (λ (s : Places). s.nodes) same
-copied_nodes false p None ps qs same = ap (λ (s : Places). s.nodes) same
-copied_nodes false p (Some r) ps qs copied = go (short_cases (length (p ++ r)))
-  where
-    go : (length (p ++ r) ≤ 8) ⊎ (8 < length (p ++ r)) → qs.nodes ≡ ps.nodes
-    go (inl le) = let left = copied.here le in left.nodes
-    go (inr lt) = ap (λ (s : Places). s.nodes) (copied.deeper lt)
-
 leads_nodes : (es : List Entry) (s t : Space) (ps qs : Places) → Leads s ps es t qs → qs.nodes ≡ ps.nodes
 leads_nodes [] s t ps qs led = ap (λ (x : Places). x.nodes) (sym led.1)
 leads_nodes (Ran path events ∷ es) s t ps qs led = leads_nodes es led.0 t led.1 qs led.3 ∙ ap (λ (x : Places). x.nodes) led.2.1

@@ -15,7 +15,7 @@ use Rattle.seat_board.specs.Desk.{Desk, IsSeatTurn, held_of, job_of, told_by}
 use Rattle.seat_board.specs.Seats.{after, counted_up, held_in, taken_in, IsDoneOf}
 use Rattle.atomic_table.specs.Seated.{TableId}
 use Rattle.seat_board.specs.declared.pass.Pass.{Pass}
-use Rattle.seat_board.specs.declared.worker.Worn.{Worn}
+use Rattle.seat_board.specs.declared.worker.Finished.{Finished}
 use Rattle.seat_board.specs.Passes.{HasTurn, known}
 use Rattle.seat_board.specs.Workers.{AreServed, Follows, Goes, HasServed, IsFirst, IsOfOneBoard, IsReady, IsSame}
 use Rattle.seat_board.proofs.Turns.{goes_leaves}
@@ -63,10 +63,10 @@ works_at job d held is of =
 pub idle_none : (c : Known) → c.job ≡ None → IsDoneOf c.job None
 idle_none c idle = subst (λ h. IsDoneOf h None) (sym idle) tt
 
-pub goes_on : (o : Option (Option Worn)) (worn : Option Worn) (c : Known) → o ≡ Some worn → Goes o c → IsDoneOf c.job (option_map (λ (w : Worn). w.done) worn)
-goes_on o worn c is goes = subst (λ x. Goes x c) is goes
+pub goes_on : (o : Option (Option Finished)) (finished : Option Finished) (c : Known) → o ≡ Some finished → Goes o c → IsDoneOf c.job (option_map (λ (w : Finished). w.done) finished)
+goes_on o finished c is goes = subst (λ x. Goes x c) is goes
 
-pub goes_home : (o : Option (Option Worn)) (c : Known) → o ≡ None → Goes o c → (c.job ≡ None) × (c.over ≡ true)
+pub goes_home : (o : Option (Option Finished)) (c : Known) → o ≡ None → Goes o c → (c.job ≡ None) × (c.over ≡ true)
 goes_home o c is goes = subst (λ x. Goes x c) is goes
 
 -- seat 0 gives one number more, which has not ended

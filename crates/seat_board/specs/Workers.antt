@@ -9,7 +9,7 @@ use Rattle.worker_pool.specs.declared.shop.Turn.{Turn}
 use Rattle.board.specs.declared.job.Job.{Job}
 use Rattle.board.specs.declared.done.Done.{Done}
 use Rattle.board.specs.Turns.{is_over}
-use Rattle.seat_board.specs.declared.worker.Worn.{Worn}
+use Rattle.seat_board.specs.declared.worker.Finished.{Finished}
 use Rattle.seat_board.specs.Desk.{job_of}
 use Rattle.seat_board.specs.declared.known.Known.{Known}
 use Rattle.seat_board.specs.declared.pass.Pass.{Pass}
@@ -40,8 +40,8 @@ abbrev pub Follows : Turn Job → Known → Type 0
 Follows t c = (c.job ≡ job_of t) × (is_over t ≡ true → c.over ≡ true)
 
 -- what a worker hands in next, or that the board is over
-abbrev pub Goes : Option (Option Worn) → Known → Type 0
-Goes (Some worn) c = IsDoneOf c.job (option_map (λ (w : Worn). w.done) worn)
+abbrev pub Goes : Option (Option Finished) → Known → Type 0
+Goes (Some finished) c = IsDoneOf c.job (option_map (λ (w : Finished). w.done) finished)
 Goes None c = (c.job ≡ None) × (c.over ≡ true)
 
 -- Seat 0, while so many of the numbers that it has given have not ended beside its own

@@ -20,7 +20,7 @@ pub use closed::SeatClosed;
 pub use desk::Desk;
 pub use known::Known;
 pub use pass::Pass;
-pub use running::run_seats;
+pub use running::{gather, run_seats, seats_beside};
 pub use seat_board::SeatBoard;
 pub use seat_turn::SeatTurn;
 pub use seats::Seats;

@@ -22,8 +22,8 @@ use std::alloc::{AllocError, Global};
 use std::sync::Wait;
 use std::thread::{Threads, map_vec};
 
-// So many seats beside the first.
-fn seated(
+/// So many seats beside the first, which has given no other number: those from 1 on. At most 63. The one error is want of memory.
+pub fn seats_beside(
     alloc: Global,
     board: &SeatBoard,
     first: &mut Pass,
@@ -64,8 +64,8 @@ fn serve_all<G: Gate, R: Threads + Wait + Sync>(
     map_vec(rt, seats, &work)
 }
 
-// Seat 0 takes in all others.
-fn gather(
+/// Seat 0, which was told that the board is over, takes in all others, none of which has a job. The one error is one of theirs.
+pub fn gather(
     board: &SeatBoard,
     first: Pass,
     others: Vec<Result<Pass, AllocError>>,
@@ -80,6 +80,31 @@ fn gather(
         board.join(&mut first, one?);
     }
     Ok(first)
+}
+
+// All workers of a board, from their first turns to their last, by its first seat, which takes in the others.
+fn run_to_end<R: Threads + Wait + Sync, G: Gate>(
+    rt: &R,
+    alloc: Global,
+    board: &SeatBoard,
+    first: Pass,
+    workers: usize,
+    gate: &G,
+) -> Result<Pass, AllocError>
+    requires first { IsFirst board.now.lock.table.shared.table_id 0 first × ((known first).given ≡ 1) }
+    requires some { (0 < workers) × (workers < 65) }
+    ensures { IfOk result (λ p. IsFirst board.now.lock.table.shared.table_id 0 p × ((known p).over ≡ true) × IsOfOneBoard p first) }
+{
+    let mut first = first;
+    let mut seats = seats_beside(alloc, board, &mut first, workers - 1)?;
+    seats.push(first)?;
+    let bell = Bell::new();
+    let mut served = serve_all(rt, board, &bell, gate, seats)?;
+    let Some(one) = served.pop() else {
+        unreachable!()
+    };
+    let last = gather(board, one?, served)?;
+    Ok(last)
 }
 
 /// Runs a sound tree to its end by so many workers, 1 to 64, each in a thread of its own but the first, which this thread is, on so many nodes, 1 to 64. `gate` is told of their events, outside of their turns. The
@@ -103,14 +128,7 @@ pub fn run_seats<R: Threads + Wait + Sync, G: Gate>(
     ensures settled { IfOk result (λ c. is_settled c.closed.tree ≡ true) }
     ensures end { IfOk result (λ c. c.closed.tree ≡ settle_tree space) }
 {
-    let (board, mut first) = SeatBoard::begin(alloc, space, nodes, link)?;
-    let mut seats = seated(alloc, &board, &mut first, workers - 1)?;
-    seats.push(first)?;
-    let bell = Bell::new();
-    let mut served = serve_all(rt, &board, &bell, gate, seats)?;
-    let Some(first) = served.pop() else {
-        unreachable!()
-    };
-    let last = gather(&board, first?, served)?;
+    let (board, first) = SeatBoard::begin(alloc, space, nodes, link)?;
+    let last = run_to_end(rt, alloc, &board, first, workers, gate)?;
     Ok(board.close(last))
 }

@@ -1,6 +1,7 @@
 // What one worker does, from its first turn to its last.
 //
 // No worker sleeps for ever beside a job. A worker sleeps where two turns of its own were `Rest`, one behind the other, and the bell was not rung since it was read between them; or beside another that is awake:
+// - A worker that comes sleeps beside another that is awake and has no job in its hands: that one takes its turn.
 // - What there is to do comes from turns alone, and who has such a turn is awake. Where it meets, the worker takes the next turn itself, or sleeps beside another that is awake and has no job in its hands: that
 //   one takes its turn, too. So turns that meet, one after another, are one worker's.
 // - Where a turn hands out a job, and there may be more, the worker rings for one that sleeps; where the last jobs were short, as soon as this one is known to last. If it does not, the worker is back soon. Where
@@ -10,7 +11,7 @@
 
 ghost use Rattle.std.specs.Prelude.{◌≡◌, IfOk, None, Some, option_map};
 ghost use Rattle.board.specs.Turns.{IsOf};
-ghost use Rattle.seat_board.specs.declared.worker.Worn.{Worn as WornValue};
+ghost use Rattle.seat_board.specs.declared.worker.Finished.{Finished as FinishedValue};
 ghost use Rattle.seat_board.specs.Passes.{known};
 ghost use Rattle.seat_board.specs.Seats.{IsDoneOf};
 ghost use Rattle.seat_board.specs.Workers.{Follows, Goes, HasServed, IsReady, IsSame};
@@ -27,7 +28,7 @@ use worker_pool::{Turn, Worked};
 
 /// What came of a job, and whether it lasted.
 #[derive(Drop)]
-pub(crate) struct Worn {
+pub(crate) struct Finished {
     pub(crate) done: Done,
     pub(crate) lasted: bool,
 }
@@ -39,18 +40,18 @@ fn work<R: Wait>(
     cache: &mut DecodeCache,
     job: Job,
     more: bool,
-) -> Result<Worn, AllocError>
+) -> Result<Finished, AllocError>
     ensures { IfOk result (λ w. IsOf job w.done) }
 {
     match begin(cache, job)? {
-        Worked::Ended(done) => Ok(Worn {
+        Worked::Ended(done) => Ok(Finished {
             done,
             lasted: false,
         }),
         Worked::Lasts(done) => {
             bell.lasts(rt, more);
             let done = go_on(cache, done)?;
-            Ok(Worn { done, lasted: true })
+            Ok(Finished { done, lasted: true })
         }
     }
 }
@@ -74,16 +75,16 @@ fn turn<G: Gate, R: Wait>(
     bell: &Bell,
     gate: &G,
     pass: &mut Pass,
-    worn: Option<Worn>,
+    finished: Option<Finished>,
 ) -> Result<(Turn<Job>, bool), AllocError>
     requires pass { pass.old.pass.seat.table_id ≡ board.now.lock.table.shared.table_id }
-    requires done { IsDoneOf (known pass.old).job (option_map (λ (w : WornValue). w.done) worn) }
+    requires done { IsDoneOf (known pass.old).job (option_map (λ (w : FinishedValue). w.done) finished) }
     ensures pass { pass.new.pass.seat.table_id ≡ pass.old.pass.seat.table_id }
     ensures same { IsSame (known pass.old) (known pass.new) }
     ensures turn { IfOk result (λ a. Follows a.0 (known pass.new)) }
 {
     let number = pass.number as usize;
-    let Some(Worn { done, lasted }) = worn else {
+    let Some(Finished { done, lasted }) = finished else {
         return Ok((board.turn(rt, pass, None, false)?, false));
     };
     let aside = bell.ends(rt, lasted);
@@ -100,24 +101,24 @@ fn step<G: Gate, R: Wait>(
     gate: &G,
     cache: &mut DecodeCache,
     pass: &mut Pass,
-    worn: Option<Worn>,
+    finished: Option<Finished>,
     heard: &mut Option<u64>,
-) -> Result<Option<Option<Worn>>, AllocError>
+) -> Result<Option<Option<Finished>>, AllocError>
     requires pass { pass.old.pass.seat.table_id ≡ board.now.lock.table.shared.table_id }
-    requires done { IsDoneOf (known pass.old).job (option_map (λ (w : WornValue). w.done) worn) }
+    requires done { IsDoneOf (known pass.old).job (option_map (λ (w : FinishedValue). w.done) finished) }
     ensures pass { pass.new.pass.seat.table_id ≡ pass.old.pass.seat.table_id }
     ensures same { IsSame (known pass.old) (known pass.new) }
     ensures goes { IfOk result (λ o. Goes o (known pass.new)) }
 {
-    let (turn, aside) = turn(rt, board, bell, gate, pass, worn)?;
+    let (turn, aside) = turn(rt, board, bell, gate, pass, finished)?;
     let number = pass.number as usize;
     match turn {
         Turn::Job(job) => {
             bell.takes(rt, pass.more);
             gate.pass(number, GateEvent::Took);
             *heard = None;
-            let worn = work(rt, bell, cache, job, pass.more)?;
-            Ok(Some(Some(worn)))
+            let finished = work(rt, bell, cache, job, pass.more)?;
+            Ok(Some(Some(finished)))
         }
         Turn::Met => {
             gate.pass(number, GateEvent::Met);
@@ -147,14 +148,14 @@ fn take_turns<G: Gate, R: Wait>(
 {
     let mut cache = DecodeCache::new(board.alloc)?;
     let mut pass = pass;
-    let mut worn = None;
+    let mut finished = None;
     let mut heard = None;
     for _ in rt.forever() {
         let next = step(
-            rt, board, bell, gate, &mut cache, &mut pass, worn, &mut heard,
+            rt, board, bell, gate, &mut cache, &mut pass, finished, &mut heard,
         )?;
         match next {
-            Some(next) => worn = next,
+            Some(next) => finished = next,
             None => return Ok(pass),
         }
     }
@@ -173,6 +174,7 @@ pub(crate) fn serve<G: Gate, R: Wait>(
     ensures { IfOk result (λ p. HasServed board.now.lock.table.shared.table_id (known pass) p) }
 {
     bell.come(rt);
+    bell.sleep_beside(rt, false);
     let served = take_turns(rt, board, bell, gate, pass);
     bell.ring_at_the_end(rt, served.is_err());
     served

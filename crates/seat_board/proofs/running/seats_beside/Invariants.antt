@@ -1,7 +1,7 @@
 use Rattle.std.proofs.Common.{◌≡◌, ◌+◌, ◌≤◌, length, vec_len}
 use Rattle.seat_board.specs.Passes.{known}
 use Rattle.seat_board.specs.Workers.{AreReady, IsFirst, IsOfOneBoard}
-use Rattle.seat_board.proofs.running.seated.Given as goal
+use Rattle.seat_board.proofs.running.seats_beside.Given as goal
 
 abbrev pub invariant-loop : goal.invariant-loop
 invariant-loop l =
