@@ -186,7 +186,7 @@ happened start now p a number old new some come =
     }
 
 -- every space on the way has stopped: these are all own events that any schedule has
-all_own : (start now : Space) (p : List ℕ) (a : Asked) (wanted left : ℕ) (old new : Kept) → IsSound start → 0 < left → (come : HasCome 8 p a wanted left old new start now)
+pub all_own : (start now : Space) (p : List ℕ) (a : Asked) (wanted left : ℕ) (old new : Kept) → IsSound start → 0 < left → (come : HasCome 8 p a wanted left old new start now)
     → (full : List (List ℕ)) × NoneMayHappen (after_all full start) × (own_events p full start ≡ come.own)
 all_own start now p a wanted left old new sound more come =
     let goes = come.goes in
@@ -239,6 +239,17 @@ pub cannot_happen : (start now : Space) (p : List ℕ) (a : Asked) (number left 
 cannot_happen start now p a number left old new sound some more come =
     let more' : 0 < left = grind (arith, nat_tests) in
     never start now p a number left old new sound some more' come
+
+-- none is wanted
+pub none_wanted : (levels wanted : ℕ) (p : List ℕ) (a : Asked) (old : Kept) (s : Space) → wanted ≡ 0 → HasCome levels p a wanted 0 old old s s
+none_wanted levels wanted p a old s none = record {
+  own = [];
+  goes = stays levels p s;
+  count = omega (arith, none);
+  kept = refl;
+  last = λ e. tt;
+  over = λ more. absurd (omega (arith, more));
+}
 
 -- where nothing was kept at first
 pub from_nothing : (start now : Space) (p : List ℕ) (a : Asked) (wanted left : ℕ) (old new : Kept) → old ≡ nothing_kept → HasCome 8 p a wanted left old new start now → HasCome 8 p a wanted left nothing_kept new start now

@@ -5,6 +5,7 @@ pub mod Turns
 pub mod Traces
 pub mod Coming
 pub mod LastChange
+pub mod Endings
 pub mod WatchedEvents
 pub mod Leaving
 pub mod BothSides

@@ -1,6 +1,7 @@
 pub mod Beside
 pub mod Bytes
 pub mod Contents
+pub mod Ending
 pub mod Going
 pub mod Headers
 pub mod Hex

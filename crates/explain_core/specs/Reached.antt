@@ -60,6 +60,11 @@ abbrev pub TellsLast : Space → List ℕ → ℕ → Watched → Option Noted �
 TellsLast start p to w None = NeverChanges start p to w
 TellsLast start p to w (Some c) = TellsLastChange start p to w c
 
+-- the same of what is watched, where anything is; else nothing is told
+abbrev pub TellsLastOf : Space → List ℕ → ℕ → Option Watched → Option Noted → Type 0
+TellsLastOf start p to None o = o ≡ None
+TellsLastOf start p to (Some w) o = TellsLast start p to w o
+
 -- every schedule that has ended has fewer own events of a path than so many
 abbrev pub HasFewerThan : Space → List ℕ → ℕ → Type 0
 HasFewerThan start p n = (ps : List (List ℕ)) → NoneMayHappen (after_all ps start) → length (own_events p ps start) < n

@@ -318,17 +318,21 @@ pub(crate) fn copied(path: &Path) -> Result<Path, AllocError>
     path.clone()
 }
 
-// A tree goes on until so many own events as are asked for have happened, or no more can. It answers how many are left.
-fn go_as_asked(
+/// A tree goes on until so many own events as are wanted, the last of those that are asked for, have happened, or no more can. It answers how many are left.
+pub(crate) fn go_on(
     alloc: Global,
     tree: &mut Space,
     kept: &mut Kept,
     asked: &Asked,
+    wanted: u64,
 ) -> Result<u64, AllocError>
     requires sound { IsSound tree.old }
-    requires some { 1 ≤ asked.now.to }
-    ensures { IfOk result (λ left. HasCome greatest_depth asked.now.path.items asked.now asked.now.to left (kept_of kept.old) (kept_of kept.new) tree.old tree.new) }
+    requires within { wanted ≤ asked.now.to }
+    ensures { IfOk result (λ left. HasCome greatest_depth asked.now.path.items asked.now wanted left (kept_of kept.old) (kept_of kept.new) tree.old tree.new) }
 {
+    if wanted == 0 {
+        return Ok(0);
+    }
     let cache = DecodeCache::new(alloc)?;
     let mut runner = Runner { alloc, cache };
     go(
@@ -337,9 +341,22 @@ fn go_as_asked(
         kept,
         asked,
         asked.path.as_slice(),
-        asked.to,
+        wanted,
         0,
     )
+}
+
+/// A tree goes on until so many own events as are asked for have happened, or no more can. It answers how many are left.
+pub(crate) fn go_as_asked(
+    alloc: Global,
+    tree: &mut Space,
+    kept: &mut Kept,
+    asked: &Asked,
+) -> Result<u64, AllocError>
+    requires sound { IsSound tree.old }
+    ensures { IfOk result (λ left. HasCome greatest_depth asked.now.path.items asked.now asked.now.to left (kept_of kept.old) (kept_of kept.new) tree.old tree.new) }
+{
+    go_on(alloc, tree, kept, asked, asked.to)
 }
 
 /// Lets a tree go on until the own event of this number, from 1 on, of the space at a path has just happened; `false` exactly where no schedule has

@@ -1,5 +1,6 @@
 pub mod Parts
 pub mod Origin
 pub mod Texts
+pub mod Trapped
 pub mod Why
 pub mod Sought

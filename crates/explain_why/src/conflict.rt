@@ -8,7 +8,7 @@ ghost use Rattle.explain_why.specs.Origin.{TellsOrigin};
 ghost use Rattle.explain_why.specs.Texts.{lone_conflict_text};
 ghost use Rattle.explain_why.specs.Why.{ExplainsConflict, StandsAt, TellsConflict, all_events};
 
-use crate::origin::{byte_origin, changed_origin};
+use crate::origin::{byte_origin, changed_byte};
 use crate::paths::child_path;
 use crate::texts::{bytes_text, conflict_text, lone_conflict_text};
 use explain_core::{Watched, last_changes};
@@ -46,10 +46,8 @@ fn both_origins(
     let tree = copy_tree(alloc, root)?;
     match last_changes(alloc, tree, path, below, number, Watched::Byte(address))? {
         Some((by_child, by_parent)) => {
-            let of_child = changed_origin(
-                alloc, root, below, address, child, by_child, child_word,
-            )?;
-            let of_parent = changed_origin(
+            let of_child = changed_byte(alloc, root, below, address, child, by_child, child_word)?;
+            let of_parent = changed_byte(
                 alloc,
                 root,
                 path,

@@ -172,35 +172,35 @@ fn origin(
     origin_of(alloc, root, sought, change, word)
 }
 
-// What is sought of the byte at an address of a memory, among all own events of a path.
-fn byte_sought(path: &Path, address: u32, memory: &Mem) -> Result<Sought, AllocError>
+// What is sought of what is watched: who left this value, of all own events of a path.
+fn all_sought(path: &Path, watched: Watched, value: u32) -> Result<Sought, AllocError>
     ensures path { IfOk result (λ s. s.path.items ≡ path.now.items) }
-    ensures rest { IfOk result (λ s. (s.to ≡ all_events) × (s.watched ≡ Byte address) × (s.value ≡ byte_at memory.now.memory address)) }
+    ensures rest { IfOk result (λ s. (s.to ≡ all_events) × (s.watched ≡ watched) × (s.value ≡ value)) }
 {
     Ok(Sought {
         path: copy_path(path)?,
         to: u64::MAX,
-        watched: Watched::Byte(address),
-        value: u32::from(memory.byte(address)),
+        watched,
+        value,
     })
 }
 
-/// A line for the event that left the byte at an address of a memory, where the last event that changed it is known.
+/// A line for the event that left a value of what is watched, where the last of all own events of a path that changed it is known.
 pub(crate) fn changed_origin(
     alloc: Global,
     root: &mut Space,
     path: &Path,
-    address: u32,
-    memory: &Mem,
+    watched: Watched,
+    value: u32,
     change: Option<Change>,
     word: &str,
 ) -> Result<Vec<u8>, AllocError>
     requires sound { IsSound root.old }
-    requires change { TellsLast root.old path.now.items all_events (Byte address) (option_map noted_of change) }
-    ensures told { IfOk result (λ v. TellsOrigin root.old (Byte address) path.now.items all_events (byte_at memory.now.memory address) word.now v.items) }
+    requires change { TellsLast root.old path.now.items all_events watched (option_map noted_of change) }
+    ensures told { IfOk result (λ v. TellsOrigin root.old watched path.now.items all_events value word.now v.items) }
     ensures same { root.new ≡ root.old }
 {
-    let sought = byte_sought(path, address, memory)?;
+    let sought = all_sought(path, watched, value)?;
     let left = where_left(&sought, change);
     origin_of(alloc, root, &sought, left, word)
 }
@@ -218,13 +218,35 @@ pub(crate) fn last_origin(
     ensures told { IfOk result (λ v. TellsOrigin root.old watched path.now.items all_events value word.now v.items) }
     ensures same { root.new ≡ root.old }
 {
-    let sought = Sought {
-        path: copy_path(path)?,
-        to: u64::MAX,
-        watched,
-        value,
-    };
+    let sought = all_sought(path, watched, value)?;
     origin(alloc, root, &sought, word)
+}
+
+/// A line for the event that left the byte at an address of a memory, where the last of all own events of a path that changed it is known.
+pub(crate) fn changed_byte(
+    alloc: Global,
+    root: &mut Space,
+    path: &Path,
+    address: u32,
+    memory: &Mem,
+    change: Option<Change>,
+    word: &str,
+) -> Result<Vec<u8>, AllocError>
+    requires sound { IsSound root.old }
+    requires change { TellsLast root.old path.now.items all_events (Byte address) (option_map noted_of change) }
+    ensures told { IfOk result (λ v. TellsOrigin root.old (Byte address) path.now.items all_events (byte_at memory.now.memory address) word.now v.items) }
+    ensures same { root.new ≡ root.old }
+{
+    let byte = u32::from(memory.byte(address));
+    changed_origin(
+        alloc,
+        root,
+        path,
+        Watched::Byte(address),
+        byte,
+        change,
+        word,
+    )
 }
 
 /// A line for the event that left the byte at an address of a memory, among all own events of a path.
@@ -240,6 +262,7 @@ pub(crate) fn byte_origin(
     ensures told { IfOk result (λ v. TellsOrigin root.old (Byte address) path.now.items all_events (byte_at memory.now.memory address) word.now v.items) }
     ensures same { root.new ≡ root.old }
 {
-    let sought = byte_sought(path, address, memory)?;
-    origin(alloc, root, &sought, word)
+    let watched = Watched::Byte(address);
+    let byte = u32::from(memory.byte(address));
+    last_origin(alloc, root, path, watched, byte, word)
 }

@@ -1,14 +1,17 @@
-ghost use Rattle.std.specs.Prelude.{◌≡◌, ◌<◌, ◌-◌, IfOk, IfSome, true};
+ghost use Rattle.std.specs.Prelude.{◌≡◌, ◌<◌, ◌-◌, IfOk, IfSome, true, option_map};
 ghost use Rattle.space_model.specs.Sound.{IsSound};
 ghost use Rattle.space_model.specs.Stop.{is_stopped};
+ghost use Rattle.explain_core.specs.declared.watching.Watched.TheVariants.{Register};
 ghost use Rattle.explain_core.specs.Instructions.{instruction_at_pc};
-ghost use Rattle.explain_core.specs.Reached.{IsTrace};
-ghost use Rattle.explain_why.specs.Why.{TellsRegister, TellsTrap, address_register, base_register};
+ghost use Rattle.explain_core.specs.Reached.{IsTrace, TellsLastOf};
+ghost use Rattle.explain_core.specs.Watch.{noted_of};
+ghost use Rattle.explain_why.specs.Trapped.{TellsLastTwo};
+ghost use Rattle.explain_why.specs.Why.{TellsRegister, TellsTrap, address_register, all_events, base_register};
 
 use crate::counting::events_of;
-use crate::origin::last_origin;
+use crate::origin::{changed_origin, last_origin};
 use crate::texts::{register_word, trap_text};
-use explain_core::{Watched, instruction_at_pc, trace};
+use explain_core::{Change, LastEvents, Watched, instruction_at_pc, last_events, trace};
 use rv_decode::{Instr, Instruction};
 use space_tree::{Cause, Path, Space, Status, Top, copy_tree};
 use std::alloc::{AllocError, Global};
@@ -41,18 +44,54 @@ fn address_register(top: &Top) -> Option<u8>
     }
 }
 
-// Who changed the register of the address, where a load or a store has stopped the space.
+// What is watched: a register, where one is asked for.
+fn watched_register(register: Option<u8>) -> Option<Watched>
+    ensures { result ≡ option_map Register register }
+{
+    match register {
+        Some(register) => Some(Watched::Register(register)),
+        None => None,
+    }
+}
+
+// Who changed a register of a space of a settled tree, where one is asked for and the last own event that changed it is known.
+fn changed_register(
+    alloc: Global,
+    root: &mut Space,
+    path: &Path,
+    top: &Top,
+    register: Option<u8>,
+    change: Option<Change>,
+) -> Result<Vec<u8>, AllocError>
+    requires sound { IsSound root.old }
+    requires within { IfSome register (λ r. r < 32) }
+    requires change { TellsLastOf root.old path.now.items all_events (option_map Register register) (option_map noted_of change) }
+    ensures told { IfOk result (λ v. TellsRegister root.old path.now.items top.now register v.items) }
+    ensures same { root.new ≡ root.old }
+{
+    let Some(register) = register else {
+        return Ok(Vec::new(alloc));
+    };
+    let word = register_word(alloc, register)?;
+    let watched = Watched::Register(register);
+    let value = top.registers.register(register);
+    changed_origin(alloc, root, path, watched, value, change, &word)
+}
+
+// Who changed a register of a space of a settled tree, where one is asked for.
 fn register_origin(
     alloc: Global,
     root: &mut Space,
     path: &Path,
     top: &Top,
+    register: Option<u8>,
 ) -> Result<Vec<u8>, AllocError>
-    requires { IsSound root.old }
-    ensures told { IfOk result (λ v. let t = top.now in TellsRegister root.old path.now.items t (address_register t.status (instruction_at_pc t)) v.items) }
+    requires sound { IsSound root.old }
+    requires within { IfSome register (λ r. r < 32) }
+    ensures told { IfOk result (λ v. TellsRegister root.old path.now.items top.now register v.items) }
     ensures same { root.new ≡ root.old }
 {
-    let Some(register) = address_register(top) else {
+    let Some(register) = register else {
         return Ok(Vec::new(alloc));
     };
     let word = register_word(alloc, register)?;
@@ -74,6 +113,49 @@ fn last_two(alloc: Global, root: &mut Space, path: &Path, count: u64) -> Result<
     trace(alloc, tree, path, count - 1, count)
 }
 
+// The last two own events of a space of a settled tree, and who changed a register, where one is asked for: each question in a run of its own.
+fn told_in_turn(
+    alloc: Global,
+    root: &mut Space,
+    path: &Path,
+    top: &Top,
+    register: Option<u8>,
+) -> Result<(Vec<u8>, Vec<u8>), AllocError>
+    requires sound { IsSound root.old }
+    requires within { IfSome register (λ r. r < 32) }
+    ensures told { IfOk result (λ v. TellsLastTwo root.old path.now.items top.now register v.0.items v.1.items) }
+    ensures same { root.new ≡ root.old }
+{
+    let count = events_of(alloc, root, path)?;
+    let events = last_two(alloc, root, path, count)?;
+    let source = register_origin(alloc, root, path, top, register)?;
+    Ok((events, source))
+}
+
+// The same in one run, where the path has as many own events as the space that stands there has used: so it is unless Put has copied or made it anew.
+fn told_at_once(
+    alloc: Global,
+    root: &mut Space,
+    path: &Path,
+    top: &Top,
+    register: Option<u8>,
+) -> Result<(Vec<u8>, Vec<u8>), AllocError>
+    requires sound { IsSound root.old }
+    requires within { IfSome register (λ r. r < 32) }
+    ensures told { IfOk result (λ v. TellsLastTwo root.old path.now.items top.now register v.0.items v.1.items) }
+    ensures same { root.new ≡ root.old }
+{
+    let tree = copy_tree(alloc, root)?;
+    let count = u64::from(top.used);
+    match last_events(alloc, tree, path, count, watched_register(register))? {
+        Some(LastEvents { lines, change }) => {
+            let source = changed_register(alloc, root, path, top, register, change)?;
+            Ok((lines, source))
+        }
+        None => told_in_turn(alloc, root, path, top, register),
+    }
+}
+
 /// Why a trap has stopped a space of a settled tree: the event before it, the trap, and who changed the register of the address.
 pub(crate) fn explain_trap(
     alloc: Global,
@@ -87,9 +169,8 @@ pub(crate) fn explain_trap(
     ensures same { root.new ≡ root.old }
 {
     let head = trap_text(alloc, path, top.status)?;
-    let count = events_of(alloc, root, path)?;
-    let events = last_two(alloc, root, path, count)?;
-    let source = register_origin(alloc, root, path, top)?;
+    let register = address_register(top);
+    let (events, source) = told_at_once(alloc, root, path, top, register)?;
     let mut text = head.into_bytes();
     text.extend_from_slice(&events)?;
     text.extend_from_slice(&source)?;
