@@ -1,9 +1,10 @@
 ghost use Rattle.std.specs.Prelude.{◌≤◌};
+ghost use Rattle.space_model.specs.Sound.{IsSound};
 
 use crate::programs::{TWO_AWAY, TWO_THREADS, booted};
 use board::{Board, Closed, run_alone};
 use det_core::{Entry, walk};
-use space_tree::{Path, same};
+use space_tree::{Path, Space, same};
 use std::alloc::{AllocError, Global};
 use std::process::Abort;
 use std::sync::Wait;
@@ -43,14 +44,21 @@ fn closed_on<R: Wait + Abort>(rt: &R, alloc: Global, source: &[u8], nodes: u32) 
     run_alone(rt, board).expect(rt, "memory")
 }
 
-// Whether the events of the history of a whole run, one by one and without the moves, lead from the tree of its source to the tree that the run has led to.
+/// Whether the events of the history of a whole run, one by one and without the moves, lead from this tree to the tree that the run has led to.
+pub(crate) fn leads(rt: &impl Abort, alloc: Global, from: Space, closed: &Closed) -> bool
+    requires { IsSound from }
+{
+    let paths = paths_of(alloc, closed.history.as_slice()).expect(rt, "memory");
+    let replayed = walk(alloc, from, paths.as_slice()).expect(rt, "memory");
+    same(&replayed, &closed.tree)
+}
+
+// Whether the history of the whole run of a source leads from its tree to the tree that the run has led to.
 fn is_replayed<R: Wait + Abort>(rt: &R, alloc: Global, source: &[u8], nodes: u32) -> bool
     requires { (1 ≤ nodes) × (nodes ≤ 64) }
 {
     let closed = closed_on(rt, alloc, source, nodes);
-    let paths = paths_of(alloc, closed.history.as_slice()).expect(rt, "memory");
-    let replayed = walk(alloc, booted(rt, alloc, source), paths.as_slice()).expect(rt, "memory");
-    same(&replayed, &closed.tree)
+    leads(rt, alloc, booted(rt, alloc, source), &closed)
 }
 
 #[test]

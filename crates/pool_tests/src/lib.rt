@@ -1,4 +1,4 @@
-//! Tests of a board in code: results that are handed in by hand, and the history that a whole run leaves.
+//! Tests of a board in code: results that are handed in by hand, the history that a whole run leaves, and seats that take their turns by hand and in threads.
 #![tactic(auto)]
 
 #[cfg(test)]
@@ -7,5 +7,9 @@ mod by_hand;
 mod histories;
 #[cfg(test)]
 mod programs;
+#[cfg(test)]
+mod seats_at_work;
+#[cfg(test)]
+mod seats_by_hand;
 #[cfg(test)]
 mod test_board;
