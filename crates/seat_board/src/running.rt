@@ -33,6 +33,7 @@ pub fn seats_beside(
     requires few { others < 64 }
     ensures first { IfOk result (λ v. IsFirst board.now.lock.table.shared.table_id (vec_len v) first.new × IsOfOneBoard first.new first.old) }
     ensures others { IfOk result (λ v. AreReady board.now.lock.table.shared.table_id v.items) }
+    ensures count { IfOk result (λ v. vec_len v ≡ others) }
 {
     let mut passes = Vec::with_capacity(alloc, others)?;
     for _ in 0..others {
