@@ -40,8 +40,10 @@ impl Branch {
         ensures { (i : ℕ) → i < branch_blocks → block_at result i ≡ Uniform permission }
     {
         let mut blocks = from_fn(|_| BlockRef::Uniform(0));
-        for i in 0..BLOCKS {
-            blocks[i] = BlockRef::Uniform(permission);
+        if permission != 0 {
+            for i in 0..BLOCKS {
+                blocks[i] = BlockRef::Uniform(permission);
+            }
         }
         Branch { blocks }
     }

@@ -40,8 +40,10 @@ impl Tree {
         ensures { (i : ℕ) → i < tree_branches → branch_at result i ≡ Uniform permission }
     {
         let mut branches = from_fn(|_| BranchRef::Uniform(0));
-        for i in 0..BRANCHES {
-            branches[i] = BranchRef::Uniform(permission);
+        if permission != 0 {
+            for i in 0..BRANCHES {
+                branches[i] = BranchRef::Uniform(permission);
+            }
         }
         Tree { branches }
     }

@@ -1,7 +1,5 @@
-use Rattle.std.proofs.Common.{◌+◌, arith, sym, ap, ◌∙◌}
-use Rattle.page_store.specs.Kept.{kept_in}
-use Rattle.page_tree.specs.Kept.{slot_in}
-use Rattle.page_tree.proofs.Counts.{count_most, counted_set, kept_least, slot_is}
+use Rattle.std.proofs.Common.{arith}
+use Rattle.page_tree.proofs.Counts.{count_most}
 use Rattle.page_tree.proofs.slots.Slots.replace.Goals as goal
 
 pub count_after-self-inside-requires-clause-few : goal.count_after-self-inside-requires-clause-few
