@@ -1,5 +1,5 @@
 -- Pages of a source that stand in the place of others.
-use Rattle.std.specs.Prelude.{◌≡◌, ℕ, ◌+◌, ◌-◌, ◌*◌, ◌/◌, ◌%◌, ◌<◌, ◌≤◌, ◌⊎◌, Bool, true, false, cond, not, nat_lt, ◌&&◌, Result, Ok, Err, OnErr}
+use Rattle.std.specs.Prelude.{◌≡◌, ℕ, ◌+◌, ◌-◌, ◌*◌, ◌/◌, ◌%◌, ◌<◌, ◌≤◌, ◌⊎◌, ◌==◌, Bool, true, false, cond, not, nat_lt, ◌&&◌, Result, Ok, Err, OnErr}
 use Rattle.std.proofs.Common.{refl, sym, ◌∙◌, ap, arith, inl, inr, eq-eqb}
 use Rattle.std.proofs.lemmas.Bool.{cases_lt}
 use Rattle.std.proofs.lemmas.Bool.Decides.{nat_tests}
@@ -55,6 +55,12 @@ out_of_range first end p out = elim out [
   | inr after ↦ (let e : nat_lt p end ≡ false = grind (arith, nat_tests) in rw e (and_false (not (nat_lt p first))))
 ]
 
+other_page : (first p : ℕ) → IsOutside first (first + 1) p → (p == first) ≡ false
+other_page first p out = elim out [
+  | inl before ↦ grind (arith, nat_tests)
+  | inr after ↦ grind (arith, nat_tests)
+]
+
 -- the pages of a range are a source's; the others are as they were
 pub record IsCopied (from first end : ℕ) (source t s : TreeRef) : Type 0 where
   pub permission : (p : ℕ) → first ≤ p → p < end → root_permission s p ≡ root_permission source (from + (p - first))
@@ -100,6 +106,22 @@ copied_part from first end source made ready t u s le moved prepared same owners
   other_permission = λ p below out. taken.permission p below ∙ ap (λ b. cond b (root_permission ready p) (root_permission u p)) (out_of_range first end p out) ∙ same.permission p below;
   other_byte = λ p j below out. ap (λ o. byte_in o j) (taken.page p below ∙ ap (λ b. cond b (root_page ready p) (root_page u p)) (out_of_range first end p out)) ∙ same.byte p j below;
   own = λ p below out. taken.own p below ∙ ap (λ b. cond b (root_own ready p) (root_own u p)) (out_of_range first end p out) ∙ owners p below;
+}
+
+pub copied_page : (from first : ℕ) (source t s : TreeRef) → first < 1048576
+    → ((p : ℕ) → p < 1048576 → root_permission s p ≡ cond (within first (first + 1) p) (root_permission source from) (root_permission t p))
+    → ((p k : ℕ) → p < 1048576 → byte_in (root_page s p) k ≡ cond (p == first) (byte_in (root_page source from) k) (byte_in (root_page t p) k))
+    → ((p : ℕ) → p < 1048576 → IsOutside first (first + 1) p → root_own s p ≡ root_own t p) → IsCopied from first (first + 1) source t s
+copied_page from first source t s within_all permission byte own = record {
+  permission = λ p low high.
+      permission p (omega arith) ∙ ap (λ b. cond b (root_permission source from) (root_permission t p)) (in_range first (first + 1) p low high)
+      ∙ ap (root_permission source) {x = from} {y = from + (p - first)} (omega (arith, low, high));
+  byte = λ p j low high.
+      byte p j (omega arith) ∙ ap (λ b. cond b (byte_in (root_page source from) j) (byte_in (root_page t p) j)) (eq-eqb p first (omega (arith, low, high)))
+      ∙ ap (λ q. byte_in (root_page source q) j) {x = from} {y = from + (p - first)} (omega (arith, low, high));
+  other_permission = λ p below out. permission p below ∙ ap (λ b. cond b (root_permission source from) (root_permission t p)) (out_of_range first (first + 1) p out);
+  other_byte = λ p j below out. byte p j below ∙ ap (λ b. cond b (byte_in (root_page source from) j) (byte_in (root_page t p) j)) (other_page first p out);
+  own = own;
 }
 
 pub marked_part : (first end : ℕ) (t u s : PageMarks) → end ≤ 1048576 → SameMarks t u → SetsMarks first end 1 u s → IsMarked first end t s

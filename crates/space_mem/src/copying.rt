@@ -4,7 +4,8 @@ ghost use Rattle.memory_model.specs.Sizes.{pages};
 ghost use Rattle.page_tree.specs.Blocks.{block_pages, byte_in, within, IsWhole};
 ghost use Rattle.page_tree.specs.Branches.{branch_pages};
 ghost use Rattle.page_tree.specs.Trees.{tree_pages};
-ghost use Rattle.page_tree.specs.TreeRefs.{root_page, root_permission, root_row, AreWholeRoot};
+ghost use Rattle.page_tree.specs.Rows.{SameOwners, SameRow};
+ghost use Rattle.page_tree.specs.TreeRefs.{root_own, root_page, root_permission, root_row, AreWholeRoot};
 ghost use Rattle.space_mem.specs.Held.{IsOutside, KeepsMarksOutside, Marks};
 ghost use Rattle.space_mem.specs.Moves.{HasMoved};
 ghost use Rattle.space_mem.specs.Tables.{IsTable, held_of, memory_of};
@@ -60,6 +61,9 @@ impl PageTable {
         if first == 0 && end == PAGES {
             return self.copy_all(source);
         }
+        if end - first == 1 && source.pages.page(from as usize).is_some() {
+            return self.copy_page(source, from as usize, first as usize, end as usize);
+        }
         self.copy_part(source, from as usize, first as usize, end as usize)
     }
 
@@ -76,6 +80,31 @@ impl PageTable {
         let copied = source.pages.share(self.alloc)?;
         self.pages = copied;
         self.dirty = PageMarks::all();
+        Ok(())
+    }
+
+    // Gives one page the bytes and the permission of a source's page; it is dirty then. No tree is made for it.
+    fn copy_page(
+        &mut self,
+        source: &PageTable,
+        from: usize,
+        first: usize,
+        end: usize,
+    ) -> Result<(), AllocError>
+        requires table { IsTable self.old }
+        requires source { IsTable source.now }
+        requires one { end ≡ first + 1 }
+        requires within { end ≤ pages }
+        requires in_range { from + (end - first) ≤ pages }
+        ensures table { IsTable self.new }
+        ensures ok { OnOk result (memory_of self.new.pages ≡ with_copies (memory_of self.old.pages) (memory_of source.now.pages) from first (end - first)) }
+        ensures err { OnErr result (held_of self.new ≡ held_of self.old) }
+        ensures outside { KeepsMarksOutside first end (held_of self.old) (held_of self.new) }
+        ensures marks { Marks (held_of self.old) (held_of self.new) }
+    {
+        self.dirty.prepare(first, end, self.alloc)?;
+        move_page(&mut self.pages, &source.pages, from, first, self.alloc)?;
+        self.dirty.mark(first, end);
         Ok(())
     }
 
@@ -259,7 +288,7 @@ fn move_bare(
     Ok(())
 }
 
-// Gives the page `to` the bytes and the permission of a source's page.
+// Gives the page `to` the bytes and the permission of a source's page. At the one error, want of memory, bytes, permissions and owners stay.
 fn move_page(
     made: &mut TreeRef,
     source: &TreeRef,
@@ -271,7 +300,10 @@ fn move_page(
     requires to { to < tree_pages }
     ensures permission { OnOk result ((p : ℕ) → p < tree_pages → root_permission made.new p ≡ cond (within to (to + 1) p) (root_permission source.now at) (root_permission made.old p)) }
     ensures byte { OnOk result ((p k : ℕ) → p < tree_pages → byte_in (root_page made.new p) k ≡ cond (p == to) (byte_in (root_page source.now at) k) (byte_in (root_page made.old p) k)) }
+    ensures owners { OnOk result ((p : ℕ) → p < tree_pages → IsOutside to (to + 1) p → root_own made.new p ≡ root_own made.old p) }
     ensures whole { AreWholeRoot made.old → AreWholeRoot made.new }
+    ensures err { OnErr result (SameRow tree_pages (root_row made.old) (root_row made.new)) }
+    ensures err_owners { OnErr result (SameOwners tree_pages (root_row made.old) (root_row made.new)) }
 {
     let kept = share_page(source, at, alloc)?;
     made.own_block(to, alloc)?;
