@@ -11,11 +11,11 @@ use Rattle.explain_core.specs.declared.beside.Sides.{Sides}
 use Rattle.explain_core.specs.declared.going.Turn.{Turn}
 use Rattle.explain_core.specs.declared.watching.Asked.{Asked}
 use Rattle.explain_core.specs.declared.watching.Watched.{Watched}
-use Rattle.explain_core.specs.Beside.{AreAtFirst, ComeBoth, ComeBothBelow, ComesSo, ComesSoBelow, IsAll, IsAskedFor, IsAtFirst, IsLeft, IsUsedUp, OneIsUsedUp, OneIsUsedUpBelow, all, child_of}
-use Rattle.explain_core.specs.Going.{HasCome, TakesTurn, TellsTurn}
+use Rattle.explain_core.specs.Beside.{AreAtFirst, ComeBoth, ComeBothBelow, ComesSo, ComesSoBelow, IsAll, IsAskedFor, IsAtFirst, IsLeft, OneEnds, all, child_of}
+use Rattle.explain_core.specs.Going.{HasCome, SoFar, TakesTurn, TellsTurn}
 use Rattle.explain_core.specs.Reached.{HasAtLeast, HasFewerThan, HasSoMany, TellsMoment}
 use Rattle.explain_core.specs.Watch.{Kept, kept_of, nothing_kept}
-use Rattle.explain_core.proofs.Coming.{SoFar, at_first, come_child, come_itself, come_stopped, come_through, more, none_child, one_turn, so_many, turn_above}
+use Rattle.explain_core.proofs.Coming.{at_first, come_at_end, come_child, come_itself, come_on, come_stopped, far_child, more, none_child, one_turn, so_many, turn_above}
 use Rattle.explain_core.proofs.LastChange.{moment_kept}
 
 -- so many own events of both so far, and what is kept of them, and some of both are left
@@ -65,35 +65,59 @@ beside_stopped levels n a old mid new turn s t u v asked far come some tells res
 }
 
 -- none of the child's are left
-pub child_out : (levels n : ℕ) (a : BothAsked) (old mid : Sides) (new : Side) (s t u : Space) → IsAskedFor a old → BothSoFar levels [] n a old mid s t → ComesSoBelow levels (n ∷ []) a.below mid.below new t u → new.left ≡ 0 → OneIsUsedUp levels [] n a old s
-child_out levels n a old mid new s t u asked far come none =
-    inl (kept_of new.kept, u, come_through levels a.below old.below.left mid.below.left new.left (n ∷ []) (kept_of old.below.kept) (kept_of mid.below.kept) (kept_of new.kept) s t u asked.below.within far.below far.left.below.some none come)
+pub child_ends : (levels n : ℕ) (a : BothAsked) (old mid new : Sides) (s t u : Space) → IsAskedFor a old → BothSoFar levels [] n a old mid s t → ComesSoBelow levels (n ∷ []) a.below mid.below new.below t u → new.below.left ≡ 0 → OneEnds levels [] n a old new s u
+child_ends levels n a old mid new s t u asked far come none = inl (
+    record {
+      below = come_on levels a.below old.below.left mid.below.left new.below.left (n ∷ []) (kept_of old.below.kept) (kept_of mid.below.kept) (kept_of new.below.kept) s t u asked.below.within far.below far.left.below.some
+          (come_at_end levels a.below mid.below.left new.below.left (n ∷ []) (kept_of mid.below.kept) (kept_of new.below.kept) t u none come);
+      none = none;
+    })
 
 -- none of the space's own
-pub itself_out : (levels n : ℕ) (a : BothAsked) (old mid new : Sides) (turn : Turn) (s t u v : Space) → IsAskedFor a old → BothSoFar levels [] n a old mid s t → ComesSoBelow levels (n ∷ []) a.below mid.below new.below t u
-    → TellsTurn levels mid.above.left a.above turn (kept_of mid.above.kept) (kept_of new.above.kept) u v → new.above.left + turn.events ≡ mid.above.left → new.above.left ≡ 0 → OneIsUsedUp levels [] n a old s
-itself_out levels n a old mid new turn s t u v asked far come tells rest none =
-    inr (
-      kept_of new.above.kept,
-      v,
-      come_itself levels a.above old.above.left mid.above.left 0 turn (kept_of old.above.kept) (kept_of mid.above.kept) (kept_of new.above.kept) s u v asked.above.within (above_waits levels n a old mid new.below s t u asked far come) tells
-          (omega (arith, rest, none)) far.left.above.some (λ more. absurd (omega (arith, more))),
-    )
+pub itself_ends : (levels n : ℕ) (a : BothAsked) (old mid new : Sides) (turn : Turn) (s t u v : Space) → IsAskedFor a old → BothSoFar levels [] n a old mid s t → ComesSoBelow levels (n ∷ []) a.below mid.below new.below t u → 1 ≤ new.below.left
+    → TellsTurn levels mid.above.left a.above turn (kept_of mid.above.kept) (kept_of new.above.kept) u v → new.above.left + turn.events ≡ mid.above.left → new.above.left ≡ 0 → OneEnds levels [] n a old new s v
+itself_ends levels n a old mid new turn s t u v asked far come some tells rest none = inr (
+    record {
+      above = come_itself levels a.above old.above.left mid.above.left new.above.left turn (kept_of old.above.kept) (kept_of mid.above.kept) (kept_of new.above.kept) s u v asked.above.within (above_waits levels n a old mid new.below s t u asked far come) tells rest
+          far.left.above.some (λ more. absurd (omega (arith, more, none)));
+      none = none;
+      below = turn_above levels mid.above.left n a.below old.below.left mid.below.left new.below.left [] (kept_of old.below.kept) (kept_of mid.below.kept) (kept_of new.below.kept) turn s t u v asked.below.within far.below come some tells.takes;
+      left = left_below levels (n ∷ []) a.below mid.below new.below t u far.left.below come some;
+    })
 
 -- ---- further down
 
-pub through_out : (levels number : ℕ) (p : List ℕ) (a : BothAsked) (old mid : Sides) (s t : Space) → IsAskedFor a old → BothSoFar levels p number a old mid s t → OneIsUsedUpBelow levels p number a mid t → OneIsUsedUp levels p number a old s
-through_out levels number p a old mid s t asked far (inl (kept, u, come)) =
-    inl (kept, u, come_through levels a.below old.below.left mid.below.left 0 (child_of p number) (kept_of old.below.kept) (kept_of mid.below.kept) kept s t u asked.below.within far.below far.left.below.some refl come)
-through_out levels number p a old mid s t asked far (inr (kept, u, come)) =
-    inr (kept, u, come_through levels a.above old.above.left mid.above.left 0 p (kept_of old.above.kept) (kept_of mid.above.kept) kept s t u asked.above.within far.above far.left.above.some refl come)
+pub through_ends : (levels number : ℕ) (p : List ℕ) (a : BothAsked) (old mid new : Sides) (s t u : Space) → IsAskedFor a old → BothSoFar levels p number a old mid s t → OneEnds levels p number a mid new t u → OneEnds levels p number a old new s u
+through_ends levels number p a old mid new s t u asked far (inl ends) = inl (
+    record {
+      below = come_on levels a.below old.below.left mid.below.left new.below.left (child_of p number) (kept_of old.below.kept) (kept_of mid.below.kept) (kept_of new.below.kept) s t u asked.below.within far.below far.left.below.some ends.below;
+      none = ends.none;
+    })
+through_ends levels number p a old mid new s t u asked far (inr ends) =
+    let later = ends.below in inr (
+    record {
+      above = come_on levels a.above old.above.left mid.above.left new.above.left p (kept_of old.above.kept) (kept_of mid.above.kept) (kept_of new.above.kept) s t u asked.above.within far.above far.left.above.some ends.above;
+      none = ends.none;
+      below = more levels (child_of p number) a.below old.below.left mid.below.left new.below.left (kept_of old.below.kept) (kept_of mid.below.kept) (kept_of new.below.kept) s t u later.own asked.below.within far.below later.goes later.count later.kept;
+      left = ends.left;
+    })
 
-pub child_below_out : (depth first number : ℕ) (rest : List ℕ) (a : BothAsked) (old : Sides) (t : Top) (s c : Space) (cs : Children) → space t cs ≡ s → Some c ≡ find first cs → OneIsUsedUp (8 - (depth + 1)) rest number a old c
-    → OneIsUsedUpBelow (8 - depth) (first ∷ rest) number a old s
-child_below_out depth first number rest a old t s c cs is found (inl (kept, d, come)) =
-    inl (kept, space t (over first (λ x. d) cs), come_child depth first a.below old.below.left 0 (rest ++ number ∷ []) (kept_of old.below.kept) kept t s c d cs is found come)
-child_below_out depth first number rest a old t s c cs is found (inr (kept, d, come)) =
-    inr (kept, space t (over first (λ x. d) cs), come_child depth first a.above old.above.left 0 rest (kept_of old.above.kept) kept t s c d cs is found come)
+pub child_below_ends : (depth first number : ℕ) (rest : List ℕ) (a : BothAsked) (old new : Sides) (t : Top) (s c d : Space) (cs : Children) → space t cs ≡ s → Some c ≡ find first cs → OneEnds (8 - (depth + 1)) rest number a old new c d
+    → OneEnds (8 - depth) (first ∷ rest) number a old new s (space t (over first (λ x. d) cs))
+child_below_ends depth first number rest a old new t s c d cs is found (inl ends) = inl (
+    record {
+      below = come_at_end (8 - depth) a.below old.below.left new.below.left (first ∷ (rest ++ number ∷ [])) (kept_of old.below.kept) (kept_of new.below.kept) s (space t (over first (λ x. d) cs)) ends.none
+          (come_child depth first a.below old.below.left new.below.left (rest ++ number ∷ []) (kept_of old.below.kept) (kept_of new.below.kept) t s c d cs is found ends.below);
+      none = ends.none;
+    })
+child_below_ends depth first number rest a old new t s c d cs is found (inr ends) = inr (
+    record {
+      above = come_at_end (8 - depth) a.above old.above.left new.above.left (first ∷ rest) (kept_of old.above.kept) (kept_of new.above.kept) s (space t (over first (λ x. d) cs)) ends.none
+          (come_child depth first a.above old.above.left new.above.left rest (kept_of old.above.kept) (kept_of new.above.kept) t s c d cs is found ends.above);
+      none = ends.none;
+      below = far_child depth first a.below old.below.left new.below.left (rest ++ number ∷ []) (kept_of old.below.kept) (kept_of new.below.kept) t s c d cs is found ends.below;
+      left = ends.left;
+    })
 
 pub through_more : (levels most first number : ℕ) (rest : List ℕ) (a : BothAsked) (old mid new : Sides) (turn : Turn) (s t u v : Space) → IsAskedFor a old → BothSoFar levels (first ∷ rest) number a old mid s t
     → ComeBothBelow levels (first ∷ rest) number a mid new t u → TakesTurn levels most turn u v → BothSoFar levels (first ∷ rest) number a old new s v
@@ -129,7 +153,7 @@ no_child depth first number rest a old t s cs asked is found = record {
 
 -- ---- all of a tree
 
-all_left : (a : Asked) (p : List ℕ) (w : Watched) (s : Side) → IsAll p w a → IsAtFirst s → IsLeft a s
+pub all_left : (a : Asked) (p : List ℕ) (w : Watched) (s : Side) → IsAll p w a → IsAtFirst s → IsLeft a s
 all_left a p w s is first = let to = is.to in let left = first.left in record { some = omega (arith, left); within = omega (arith, left, to) }
 
 pub both_left : (a : BothAsked) (p q : List ℕ) (w : Watched) (s : Sides) → IsAll p w a.below × IsAll q w a.above → AreAtFirst s → IsAskedFor a s
@@ -159,8 +183,12 @@ side_fewer start now p q a w old new is sound first left come ps ended =
     let to = is.to in
     let within = left.within in fewer_of new.left (length (own_events p ps start)) left.some (omega (arith, within, to)) (side_counted start now p q a w old (kept_of new.kept) new.left is sound first come ps ended)
 
-side_out : (start : Space) (p q : List ℕ) (a : Asked) (w : Watched) (old : Side) → IsAll q w a → IsSound start → IsAtFirst old → IsUsedUp 8 p a old start → HasAtLeast start p all
-side_out start p q a w old is sound first (kept, now, come) ps ended = let counted = side_counted start now p q a w old kept 0 is sound first come ps ended in grind (arith, counted)
+-- none are left
+pub side_out : (start now : Space) (p q : List ℕ) (a : Asked) (w : Watched) (old new : Side) → IsAll q w a → IsSound start → IsAtFirst old → new.left ≡ 0 → ComesSo 8 p a old new start now → HasAtLeast start p all
+side_out start now p q a w old new is sound first none come ps ended =
+    let whole : HasCome 8 p a old.left 0 (kept_of old.kept) (kept_of new.kept) start now = subst (λ n. HasCome 8 p a old.left n (kept_of old.kept) (kept_of new.kept) start now) none come in
+    let counted = side_counted start now p q a w old (kept_of new.kept) 0 is sound first whole ps ended in
+    grind (arith, counted)
 
 pub both_fewer : (start now : Space) (p q : List ℕ) (number : ℕ) (a : BothAsked) (w : Watched) (old new : Sides) → q ≡ child_of p number → IsAll q w a.below × IsAll p w a.above → IsSound start → AreAtFirst old
     → ComeBoth 8 p number a old new start now → HasFewerThan start q all × HasFewerThan start p all
@@ -169,10 +197,10 @@ both_fewer start now p q number a w old new child is sound first come = (
   side_fewer start now p p a.above w old.above new.above is.1 sound first.1 come.left.above come.above,
 )
 
-pub one_out : (start : Space) (p q : List ℕ) (number : ℕ) (a : BothAsked) (w : Watched) (old : Sides) → q ≡ child_of p number → IsAll q w a.below × IsAll p w a.above → IsSound start → AreAtFirst old
-    → OneIsUsedUp 8 p number a old start → HasAtLeast start q all ⊎ HasAtLeast start p all
-one_out start p q number a w old child is sound first (inl out) = inl (subst (λ r. HasAtLeast start r all) (sym child) (side_out start (child_of p number) q a.below w old.below is.0 sound first.0 out))
-one_out start p q number a w old child is sound first (inr out) = inr (side_out start p p a.above w old.above is.1 sound first.1 out)
+pub one_out : (start now : Space) (p q : List ℕ) (number : ℕ) (a : BothAsked) (w : Watched) (old new : Sides) → q ≡ child_of p number → IsAll q w a.below × IsAll p w a.above → IsSound start → AreAtFirst old
+    → OneEnds 8 p number a old new start now → HasAtLeast start q all ⊎ HasAtLeast start p all
+one_out start now p q number a w old new child is sound first (inl ends) = inl (subst (λ r. HasAtLeast start r all) (sym child) (side_out start now (child_of p number) q a.below w old.below new.below is.0 sound first.0 ends.none ends.below))
+one_out start now p q number a w old new child is sound first (inr ends) = inr (side_out start now p p a.above w old.above new.above is.1 sound first.1 ends.none ends.above)
 
 pub both_told : (start now : Space) (p q : List ℕ) (number : ℕ) (a : BothAsked) (w : Watched) (old new : Sides) → q ≡ child_of p number → IsAll q w a.below × IsAll p w a.above → IsSound start → AreAtFirst old
     → ComeBoth 8 p number a old new start now → TellsMoment start q all w new.below.kept.last × TellsMoment start p all w new.above.kept.last

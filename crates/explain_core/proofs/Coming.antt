@@ -25,7 +25,7 @@ use Rattle.event_laws.proofs.Histories.{one_meaning, has_all, all_alike}
 use Rattle.explain_core.specs.declared.going.Turn.{Turn}
 use Rattle.explain_core.specs.declared.watching.Asked.{Asked}
 use Rattle.explain_core.specs.declared.watching.Noticing.TheVariants as notice
-use Rattle.explain_core.specs.Going.{own_below, GoesBy, WayStopped, BelowStopped, EndsWith, TakesTurn, TellsTurn, HasCome, HasComeBelow}
+use Rattle.explain_core.specs.Going.{own_below, GoesBy, WayStopped, BelowStopped, EndsWith, TakesTurn, TellsTurn, SoFar, HasCome, HasComeBelow}
 use Rattle.explain_core.specs.Reached.{HasJustHappened, HasSoMany, IsTrace, NeverHappens, ShowsEvent}
 use Rattle.explain_core.specs.Trace.{trace_lines}
 use Rattle.explain_core.specs.Watch.{Kept, keep_all, nothing_kept}
@@ -35,13 +35,6 @@ use Rattle.explain_core.proofs.Schedules.{whole, replay_parts, own_parts, goes_t
 use Rattle.explain_core.proofs.Stopped.{none_own}
 use Rattle.explain_core.proofs.Traces.{front, kept_lines, kept_then}
 use Rattle.explain_core.proofs.Turns.{ends_append}
-
--- so many own events so far, and what is kept of them, and so many are left
-pub record SoFar (levels : ℕ) (p : List ℕ) (a : Asked) (wanted left : ℕ) (old mid : Kept) (s now : Space) : Type 0 where
-  pub own : List OwnEvent
-  pub goes : GoesBy levels p own s now
-  pub count : length own + left ≡ wanted
-  pub kept : mid ≡ keep_all a (a.to - wanted) own old
 
 pub at_first : (levels : ℕ) (p : List ℕ) (a : Asked) (wanted : ℕ) (old : Kept) (s : Space) → SoFar levels p a wanted wanted old old s s
 at_first levels p a wanted old s = record { own = []; goes = stays levels p s; count = omega arith; kept = refl }
@@ -124,21 +117,49 @@ come_child depth n a wanted left p old new t s c d cs is found come =
 pub none_child : (depth n : ℕ) (a : Asked) (wanted : ℕ) (p : List ℕ) (old : Kept) (t : Top) (s : Space) (cs : Children) → space t cs ≡ s → None ≡ find n cs → HasComeBelow (8 - depth) (n ∷ p) a wanted wanted old old s (space t cs)
 none_child depth n a wanted p old t s cs is found = subst (λ r. HasComeBelow (8 - depth) (n ∷ p) a wanted wanted old old r (space t cs)) is (none_below (8 - depth) n a wanted p old t cs (sym found))
 
--- no more are left
-pub come_through : (levels : ℕ) (a : Asked) (wanted left later : ℕ) (p : List ℕ) (old mid new : Kept) (s t u : Space) → wanted ≤ a.to → SoFar levels p a wanted left old mid s t → 1 ≤ left → later ≡ 0 → HasComeBelow levels p a left later mid new t u
-    → HasCome levels p a wanted 0 old new s u
-come_through levels a wanted left later p old mid new s t u fits far some none come =
+-- in the words of a child
+pub far_child : (depth n : ℕ) (a : Asked) (wanted left : ℕ) (p : List ℕ) (old new : Kept) (t : Top) (s c d : Space) (cs : Children) → space t cs ≡ s → Some c ≡ find n cs → SoFar (8 - (depth + 1)) p a wanted left old new c d
+    → SoFar (8 - depth) (n ∷ p) a wanted left old new s (space t (over n (λ x. d) cs))
+far_child depth n a wanted left p old new t s c d cs is found far = record {
+  own = far.own;
+  goes = subst (λ r. GoesBy (8 - depth) (n ∷ p) far.own r (space t (over n (λ x. d) cs))) is
+      (child_goes (8 - depth) n p far.own t cs c d (sym found) (subst (λ k. GoesBy k p far.own c d) (one_below depth) far.goes));
+  count = far.count;
+  kept = far.kept;
+}
+
+-- no more are left of a path below
+pub come_at_end : (levels : ℕ) (a : Asked) (wanted left : ℕ) (p : List ℕ) (old new : Kept) (s now : Space) → left ≡ 0 → HasComeBelow levels p a wanted left old new s now → HasCome levels p a wanted left old new s now
+come_at_end levels a wanted left p old new s now none come = record {
+  own = come.own;
+  goes = come.goes;
+  count = come.count;
+  kept = come.kept;
+  last = come.last;
+  over = λ more. absurd (omega (arith, more, none));
+}
+
+-- so many so far, and then more
+pub come_on : (levels : ℕ) (a : Asked) (wanted left later : ℕ) (p : List ℕ) (old mid new : Kept) (s t u : Space) → wanted ≤ a.to → SoFar levels p a wanted left old mid s t → 1 ≤ left → HasCome levels p a left later mid new t u
+    → HasCome levels p a wanted later old new s u
+come_on levels a wanted left later p old mid new s t u fits far some come =
     let count = come.count in
     let before = far.count in
     let long = length-append far.own come.own in
     record {
       own = far.own ++ come.own;
       goes = goes_then levels p far.own come.own s t u far.goes come.goes;
-      count = omega (arith, long, before, count, none);
+      count = omega (arith, long, before, count);
       kept = kept_then a wanted left old mid new far.own come.own fits before far.kept come.kept;
-      last = λ e. ends_append far.own come.own (top_at p u) (omega (arith, count, some, none)) (come.last none);
-      over = λ more. absurd (omega (arith, more));
+      last = λ e. ends_append far.own come.own (top_at p u) (omega (arith, count, some, e)) (come.last e);
+      over = come.over;
     }
+
+-- no more are left
+pub come_through : (levels : ℕ) (a : Asked) (wanted left later : ℕ) (p : List ℕ) (old mid new : Kept) (s t u : Space) → wanted ≤ a.to → SoFar levels p a wanted left old mid s t → 1 ≤ left → later ≡ 0 → HasComeBelow levels p a left later mid new t u
+    → HasCome levels p a wanted 0 old new s u
+come_through levels a wanted left later p old mid new s t u fits far some none come =
+    subst (λ n. HasCome levels p a wanted n old new s u) none (come_on levels a wanted left later p old mid new s t u fits far some (come_at_end levels a left later p mid new t u none come))
 
 -- a turn of a space above
 pub turn_above : (levels most n : ℕ) (a : Asked) (wanted left later : ℕ) (p : List ℕ) (old mid new : Kept) (turn : Turn) (s t u v : Space) → wanted ≤ a.to → SoFar levels (n ∷ p) a wanted left old mid s t
@@ -201,7 +222,7 @@ all_own start now p a wanted left old new sound more come =
     )
 
 -- every space on the way has stopped before there were so many
-never : (start now : Space) (p : List ℕ) (a : Asked) (number left : ℕ) (old new : Kept) → IsSound start → 1 ≤ number → 0 < left → HasCome 8 p a number left old new start now → NeverHappens start p (number - 1)
+pub never : (start now : Space) (p : List ℕ) (a : Asked) (number left : ℕ) (old new : Kept) → IsSound start → 1 ≤ number → 0 < left → HasCome 8 p a number left old new start now → NeverHappens start p (number - 1)
 never start now p a number left old new sound some more come ps e is =
     let all = all_own start now p a number left old new sound more come in
     let within = slice_get_within (own_events p all.0 start) (number - 1) e (has_all ps all.0 p start all.1 (number - 1) e is) in
@@ -255,25 +276,25 @@ none_wanted levels wanted p a old s none = record {
 pub from_nothing : (start now : Space) (p : List ℕ) (a : Asked) (wanted left : ℕ) (old new : Kept) → old ≡ nothing_kept → HasCome 8 p a wanted left old new start now → HasCome 8 p a wanted left nothing_kept new start now
 from_nothing start now p a wanted left old new is come = subst (λ k. HasCome 8 p a wanted left k new start now) is come
 
+-- own events so far are the first of each schedule that has ended
+pub first_own : (start now : Space) (p : List ℕ) (own : List OwnEvent) → GoesBy 8 p own start now → (ps : List (List ℕ)) → NoneMayHappen (after_all ps start) → take (length own) (own_events p ps start) ≡ own
+first_own start now p own goes ps ended = front (own_events p ps start) own (λ k e at. has_all goes.schedule ps p start ended k e (ap (λ xs. slice_get xs k) mine ∙ at))
+  where
+    mine : own_events p goes.schedule start ≡ own
+    mine = sym (whole p goes.schedule start) ∙ goes.events
+
 -- they are the first own events of each schedule that has ended
 pub firsts : (start now : Space) (p : List ℕ) (a : Asked) (left : ℕ) (old new : Kept) → IsSound start → (come : HasCome 8 p a a.to left old new start now)
     → (ps : List (List ℕ)) → NoneMayHappen (after_all ps start) → take a.to (own_events p ps start) ≡ come.own
 firsts start now p a left old new sound come ps ended = first (cases_eq left 0)
   where
-    goes : GoesBy 8 p come.own start now
-    goes = come.goes
-
     count : length come.own + left ≡ a.to
     count = come.count
-
-    mine : own_events p goes.schedule start ≡ come.own
-    mine = sym (whole p goes.schedule start) ∙ goes.events
 
     first : (left ≡ 0) ⊎ (left ≡ 0 → ⊥) → take a.to (own_events p ps start) ≡ come.own
     first (inl none) =
         let long : length come.own ≡ a.to = omega (arith, none, count) in
-        ap (λ n. take n (own_events p ps start)) (sym long)
-        ∙ front (own_events p ps start) come.own (λ k e at. has_all goes.schedule ps p start ended k e (ap (λ xs. slice_get xs k) mine ∙ at))
+        ap (λ n. take n (own_events p ps start)) (sym long) ∙ first_own start now p come.own come.goes ps ended
     first (inr some) =
         let more : 0 < left = omega (arith, some) in
         let all = all_own start now p a a.to left old new sound more come in

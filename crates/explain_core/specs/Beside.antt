@@ -8,8 +8,8 @@ use Rattle.explain_core.specs.declared.beside.Sides.{Sides}
 use Rattle.explain_core.specs.declared.watching.Asked.{Asked}
 use Rattle.explain_core.specs.declared.watching.Noticing.TheVariants.{Change}
 use Rattle.explain_core.specs.declared.watching.Watched.{Watched}
-use Rattle.explain_core.specs.Going.{HasCome, HasComeBelow}
-use Rattle.explain_core.specs.Watch.{Kept, kept_of, nothing_kept}
+use Rattle.explain_core.specs.Going.{HasCome, HasComeBelow, SoFar}
+use Rattle.explain_core.specs.Watch.{kept_of, nothing_kept}
 
 -- so many are left, of those that are asked for
 pub record IsLeft (a : Asked) (s : Side) : Type 0 where
@@ -27,6 +27,10 @@ ComesSo levels p a old new s now = HasCome levels p a old.left new.left (kept_of
 abbrev pub ComesSoBelow : ℕ → List ℕ → Asked → Side → Side → Space → Space → Type 0
 ComesSoBelow levels p a old new s now = HasComeBelow levels p a old.left new.left (kept_of old.kept) (kept_of new.kept) s now
 
+-- of own events of a path some have happened, so many are left, and of those between each that is asked for is noticed
+abbrev pub GoesSo : ℕ → List ℕ → Asked → Side → Side → Space → Space → Type 0
+GoesSo levels p a old new s now = SoFar levels p a old.left new.left (kept_of old.kept) (kept_of new.kept) s now
+
 -- the path of a child
 abbrev pub child_of : List ℕ → ℕ → List ℕ
 child_of p number = p ++ number ∷ []
@@ -43,20 +47,21 @@ pub record ComeBothBelow (levels : ℕ) (p : List ℕ) (number : ℕ) (a : BothA
   pub above : ComesSoBelow levels p a.above old.above new.above s now
   pub left : IsAskedFor a new
 
--- a schedule of a space has all own events of a path that were left
-abbrev pub IsUsedUp : ℕ → List ℕ → Asked → Side → Space → Type 0
-IsUsedUp levels p a old s = (kept : Kept) × (now : Space) × HasCome levels p a old.left 0 (kept_of old.kept) kept s now
+-- of a child of the space at a path none are left
+pub record EndsBelow (levels : ℕ) (p : List ℕ) (number : ℕ) (a : BothAsked) (old new : Sides) (s now : Space) : Type 0 where
+  pub below : ComesSo levels (child_of p number) a.below old.below new.below s now
+  pub none : new.below.left ≡ 0
 
--- the same of a path below a space that has not gone on itself
-abbrev pub IsUsedUpBelow : ℕ → List ℕ → Asked → Side → Space → Type 0
-IsUsedUpBelow levels p a old s = (kept : Kept) × (now : Space) × HasComeBelow levels p a old.left 0 (kept_of old.kept) kept s now
+-- of the space's own none are left, and the child has had some of its own, and others are left
+pub record EndsAbove (levels : ℕ) (p : List ℕ) (number : ℕ) (a : BothAsked) (old new : Sides) (s now : Space) : Type 0 where
+  pub above : ComesSo levels p a.above old.above new.above s now
+  pub none : new.above.left ≡ 0
+  pub below : GoesSo levels (child_of p number) a.below old.below new.below s now
+  pub left : IsLeft a.below new.below
 
--- of the space at a path or of its child none are left
-abbrev pub OneIsUsedUp : ℕ → List ℕ → ℕ → BothAsked → Sides → Space → Type 0
-OneIsUsedUp levels p number a old s = IsUsedUp levels (child_of p number) a.below old.below s ⊎ IsUsedUp levels p a.above old.above s
-
-abbrev pub OneIsUsedUpBelow : ℕ → List ℕ → ℕ → BothAsked → Sides → Space → Type 0
-OneIsUsedUpBelow levels p number a old s = IsUsedUpBelow levels (child_of p number) a.below old.below s ⊎ IsUsedUpBelow levels p a.above old.above s
+-- of one of the two none are left
+abbrev pub OneEnds : ℕ → List ℕ → ℕ → BothAsked → Sides → Sides → Space → Space → Type 0
+OneEnds levels p number a old new s now = EndsBelow levels p number a old new s now ⊎ EndsAbove levels p number a old new s now
 
 -- all own events of a path, as far as a number of 64 bits can count them
 abbrev pub all : ℕ

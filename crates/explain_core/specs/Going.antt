@@ -61,6 +61,13 @@ pub record TellsTurn (levels left : ℕ) (a : Asked) (turn : Turn) (old new : Ke
   pub takes : TakesTurn levels left turn s now
   pub kept : new ≡ keep_all a (a.to - left) takes.own old
 
+-- so many own events of a path so far, of those that are wanted, and what is kept of them, and so many are left
+pub record SoFar (levels : ℕ) (p : List ℕ) (a : Asked) (wanted left : ℕ) (old mid : Kept) (s now : Space) : Type 0 where
+  pub own : List OwnEvent
+  pub goes : GoesBy levels p own s now
+  pub count : length own + left ≡ wanted
+  pub kept : mid ≡ keep_all a (a.to - wanted) own old
+
 -- Of so many own events of a path that are wanted, so many are left: none, and the last one has just happened; or some, and every space on the way has
 -- stopped. Those that are asked for are noticed.
 pub record HasCome (levels : ℕ) (p : List ℕ) (a : Asked) (wanted left : ℕ) (old new : Kept) (s now : Space) : Type 0 where

@@ -73,6 +73,12 @@ HasFewerThan start p n = (ps : List (List ℕ)) → NoneMayHappen (after_all ps 
 abbrev pub HasAtLeast : Space → List ℕ → ℕ → Type 0
 HasAtLeast start p n = (ps : List (List ℕ)) → NoneMayHappen (after_all ps start) → n ≤ length (own_events p ps start)
 
+-- a schedule whose own events at p are so many has so many at q
+pub record HasBefore (start : Space) (p : List ℕ) (number : ℕ) (q : List ℕ) (count : ℕ) : Type 0 where
+  pub schedule : List (List ℕ)
+  pub events : length (own_events p schedule start) ≡ number
+  pub before : length (own_events q schedule start) ≡ count
+
 -- every schedule that has ended has so many own events of a path, or all that a number of 64 bits can count
 abbrev pub HasSoMany : Space → List ℕ → ℕ → Type 0
 HasSoMany start p n = (ps : List (List ℕ)) → NoneMayHappen (after_all ps start) → n ≡ min (2 ^ 64 - 1) (length (own_events p ps start))

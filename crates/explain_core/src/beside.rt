@@ -2,7 +2,7 @@ ghost use Rattle.std.specs.Prelude.{◌≡◌, ◌+◌, ◌≤◌, ◌∷◌, []
 ghost use Rattle.call_model.specs.Limits.{greatest_depth, levels_below};
 ghost use Rattle.space_model.specs.Sound.{IsSound};
 ghost use Rattle.demand_eval.specs.Turns.{IsSoundBelow};
-ghost use Rattle.explain_core.specs.Beside.{AreAtFirst, ComeBoth, ComeBothBelow, ComesSoBelow, IsAll, IsAskedFor, IsAtFirst, IsLeft, OneIsUsedUp, OneIsUsedUpBelow, all, child_of};
+ghost use Rattle.explain_core.specs.Beside.{AreAtFirst, ComeBoth, ComeBothBelow, ComesSoBelow, IsAll, IsAskedFor, IsAtFirst, IsLeft, OneEnds, all, child_of};
 ghost use Rattle.explain_core.specs.Going.{TellsTurn};
 ghost use Rattle.explain_core.specs.Reached.{HasAtLeast, HasFewerThan, TellsLast, TellsMoment};
 ghost use Rattle.explain_core.specs.Watch.{kept_of, noted_of};
@@ -94,7 +94,7 @@ fn go_beside(
     requires asked { IsAskedFor asked.now sides.old }
     requires sound { IsSoundBelow (levels_below depth) space.old }
     ensures both { IfOk result (λ both. both ≡ true → ComeBoth (levels_below depth) [] number asked.now sides.old sides.new space.old space.new) }
-    ensures out { IfOk result (λ both. both ≡ false → OneIsUsedUp (levels_below depth) [] number asked.now sides.old space.old) }
+    ensures out { IfOk result (λ both. both ≡ false → OneEnds (levels_below depth) [] number asked.now sides.old sides.new space.old space.new) }
 {
     'turns: loop {
         child_goes(runner, space, &mut sides.below, &asked.below, number, depth)?;
@@ -127,7 +127,7 @@ fn both_below(
     requires asked { IsAskedFor asked.now sides.old }
     requires sound { IsSoundBelow (levels_below depth) space.old }
     ensures both { IfOk result (λ both. both ≡ true → ComeBothBelow (levels_below depth) (first ∷ rest.now) number asked.now sides.old sides.new space.old space.new) }
-    ensures out { IfOk result (λ both. both ≡ false → OneIsUsedUpBelow (levels_below depth) (first ∷ rest.now) number asked.now sides.old space.old) }
+    ensures out { IfOk result (λ both. both ≡ false → OneEnds (levels_below depth) (first ∷ rest.now) number asked.now sides.old sides.new space.old space.new) }
 {
     match space.children.get_mut(first) {
         Some(child) => go_both(runner, child, sides, asked, rest, number, depth + 1),
@@ -151,7 +151,7 @@ fn both_through(
     requires asked { IsAskedFor asked.now sides.old }
     requires sound { IsSoundBelow (levels_below depth) space.old }
     ensures both { IfOk result (λ both. both ≡ true → ComeBoth (levels_below depth) (first ∷ rest.now) number asked.now sides.old sides.new space.old space.new) }
-    ensures out { IfOk result (λ both. both ≡ false → OneIsUsedUp (levels_below depth) (first ∷ rest.now) number asked.now sides.old space.old) }
+    ensures out { IfOk result (λ both. both ≡ false → OneEnds (levels_below depth) (first ∷ rest.now) number asked.now sides.old sides.new space.old space.new) }
 {
     'turns: loop {
         let both = both_below(runner, space, sides, asked, first, rest, number, depth)?;
@@ -181,7 +181,7 @@ fn go_both(
     requires asked { IsAskedFor asked.now sides.old }
     requires sound { IsSoundBelow (levels_below depth) space.old }
     ensures both { IfOk result (λ both. both ≡ true → ComeBoth (levels_below depth) path.now number asked.now sides.old sides.new space.old space.new) }
-    ensures out { IfOk result (λ both. both ≡ false → OneIsUsedUp (levels_below depth) path.now number asked.now sides.old space.old) }
+    ensures out { IfOk result (λ both. both ≡ false → OneEnds (levels_below depth) path.now number asked.now sides.old sides.new space.old space.new) }
 {
     match path {
         [] => go_beside(runner, space, sides, asked, number, depth),
@@ -191,8 +191,8 @@ fn go_both(
     }
 }
 
-// All own events of the space at a path, of which it is noticed what was the last that changed what is watched.
-fn all_of(path: &Path, watched: Watched) -> Result<Asked, AllocError>
+/// All own events of the space at a path, of which it is noticed what was the last that changed what is watched.
+pub(crate) fn all_of(path: &Path, watched: Watched) -> Result<Asked, AllocError>
     ensures { IfOk result (λ a. IsAll path.now.items watched a) }
 {
     Ok(Asked {
@@ -215,8 +215,8 @@ fn both_asked(path: &Path, below: &Path, watched: Watched) -> Result<BothAsked, 
     })
 }
 
-// Nothing is kept yet, and all are left.
-fn at_first(alloc: Global) -> Side
+/// Nothing is kept yet, and all are left.
+pub(crate) fn at_first(alloc: Global) -> Side
     ensures { IsAtFirst result }
 {
     Side {
@@ -234,8 +234,8 @@ fn both_at_first(alloc: Global) -> Sides
     Sides { below, above }
 }
 
-// A tree goes on until a child of the space at a path and this space have stopped; `false` where one of them has as many own events as are left.
-fn run_both(
+/// A tree goes on until a child of the space at a path and this space have stopped; `false` where one of them has as many own events as are left.
+pub(crate) fn run_both(
     alloc: Global,
     tree: &mut Space,
     sides: &mut Sides,
@@ -246,7 +246,7 @@ fn run_both(
     requires sound { IsSound tree.old }
     requires asked { IsAskedFor asked.now sides.old }
     ensures both { IfOk result (λ both. both ≡ true → ComeBoth greatest_depth path.now.items number asked.now sides.old sides.new tree.old tree.new) }
-    ensures out { IfOk result (λ both. both ≡ false → OneIsUsedUp greatest_depth path.now.items number asked.now sides.old tree.old) }
+    ensures out { IfOk result (λ both. both ≡ false → OneEnds greatest_depth path.now.items number asked.now sides.old sides.new tree.old tree.new) }
 {
     let cache = DecodeCache::new(alloc)?;
     let mut runner = Runner { alloc, cache };

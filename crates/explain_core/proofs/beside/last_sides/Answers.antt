@@ -15,4 +15,6 @@ returns-then-both-clause-fewer c =
     (c.in_ok-both.ensures.both c.if-both.true)
 
 pub returns-clause-none : goal.returns-clause-none
-returns-clause-none c none = one_out c.args.tree c.args.path.now.items c.args.below.now.items c.args.number c.in_ok-asked.asked c.args.watched c.both_at_first-sides.result c.requires.child c.in_ok-asked.ensures c.requires.sound c.both_at_first-sides.ensures (c.in_ok-both.ensures.out c.if-both.false)
+returns-clause-none c none =
+    one_out c.args.tree c.run_both.new.tree c.args.path.now.items c.args.below.now.items c.args.number c.in_ok-asked.asked c.args.watched c.both_at_first-sides.result c.run_both.new.sides c.requires.child c.in_ok-asked.ensures c.requires.sound c.both_at_first-sides.ensures
+    (c.in_ok-both.ensures.out c.if-both.false)

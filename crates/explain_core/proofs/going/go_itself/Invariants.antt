@@ -2,8 +2,8 @@ use Rattle.std.proofs.Common.{◌-◌, ◌≤◌, []}
 use Rattle.space_model.specs.Space.{top_of}
 use Rattle.run_model.specs.Demand.{left_of}
 use Rattle.demand_eval.specs.Turns.{IsSoundBelow}
+use Rattle.explain_core.specs.Going.{SoFar}
 use Rattle.explain_core.specs.Watch.{kept_of}
-use Rattle.explain_core.proofs.Coming.{SoFar}
 use Rattle.explain_core.proofs.going.go_itself.Given as goal
 
 abbrev pub invariant-turns : goal.invariant-turns
