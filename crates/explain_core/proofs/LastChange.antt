@@ -1,5 +1,5 @@
 -- The last own event that changed what is watched.
-use Rattle.std.proofs.Common.{◌≡◌, ℕ, suc, ◌+◌, ◌-◌, ◌≤◌, List, take, Option, Some, None, sym, ap, ◌∙◌, subst, arith, inl, inr, ◌⊎◌}
+use Rattle.std.proofs.Common.{◌≡◌, ℕ, suc, ◌+◌, ◌-◌, ◌≤◌, List, length, take, Option, Some, None, sym, ap, ◌∙◌, subst, arith, inl, inr, ◌⊎◌}
 use Rattle.std.specs.List.{slice_get}
 use Rattle.std.specs.Prelude.{option_map}
 use Rattle.space_model.specs.Space.{Space}
@@ -11,10 +11,10 @@ use Rattle.explain_core.specs.declared.watching.Kept as code
 use Rattle.explain_core.specs.declared.watching.Moment.{Moment}
 use Rattle.explain_core.specs.declared.watching.Noticing.TheVariants as notice
 use Rattle.explain_core.specs.declared.watching.Watched.{Watched}
-use Rattle.explain_core.specs.Going.{HasCome}
+use Rattle.explain_core.specs.Going.{HasCome, SoFar}
 use Rattle.explain_core.specs.Reached.{NeverChanges, TellsLast, TellsMoment}
 use Rattle.explain_core.specs.Watch.{IsLastChange, Kept, NoneChanges, Noted, keep_all, kept_of, moment_at, note, nothing_kept, told}
-use Rattle.explain_core.proofs.Coming.{firsts}
+use Rattle.explain_core.proofs.Coming.{first_own, firsts}
 use Rattle.explain_core.proofs.Traces.{KeepsLast, keep_last}
 
 one : {X : Type 0} (x y : X) → Some x ≡ Some y → x ≡ y
@@ -50,6 +50,15 @@ pub moment_kept : (start now : Space) (p : List ℕ) (a : Asked) (w : Watched) (
 moment_kept start now p a w left k watched all sound come =
     let nothing : a.to - a.to ≡ 0 = omega arith in
     in_every start p a.to w come.own k.last (firsts start now p a left nothing_kept (kept_of k) sound come) (tells_last a w (a.to - a.to) come.own (kept_of k) nothing watched all come.kept)
+
+-- what is kept of own events so far, of all that are asked for
+pub moment_so_far : (start now : Space) (p : List ℕ) (a : Asked) (w : Watched) (left : ℕ) (k : code.Kept) → a.noticing ≡ notice.Change w → a.from ≤ 1 → SoFar 8 p a a.to left nothing_kept (kept_of k) start now → TellsMoment start p (a.to - left) w k.last
+moment_so_far start now p a w left k watched all far =
+    let nothing : a.to - a.to ≡ 0 = omega arith in
+    let count = far.count in
+    let long : length far.own ≡ a.to - left = omega (arith, count) in
+    subst (λ n. TellsMoment start p n w k.last) long
+    (in_every start p (length far.own) w far.own k.last (first_own start now p far.own far.goes) (tells_last a w (a.to - a.to) far.own (kept_of k) nothing watched all far.kept))
 
 -- and what is told of it
 as_told : (p : List ℕ) (w : Watched) (k : ℕ) (e : OwnEvent) (m : Moment) → m ≡ moment_at w k e → told p m ≡ note p w k e

@@ -9,6 +9,7 @@ pub mod Endings
 pub mod WatchedEvents
 pub mod Leaving
 pub mod BothSides
+pub mod EventsBefore
 pub mod Lines
 pub mod Names
 pub mod Rows

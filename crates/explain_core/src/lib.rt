@@ -2,6 +2,7 @@
 #![tactic(auto)]
 
 mod asking;
+mod before;
 mod beside;
 mod bytes;
 mod contents;
@@ -19,6 +20,7 @@ mod watched_memory;
 mod watching;
 
 pub use asking::{after_event, at_end};
+pub use before::{ChangeBefore, change_before};
 pub use beside::last_changes;
 pub use bytes::Bytes;
 pub use ending::{LastEvents, last_events};
