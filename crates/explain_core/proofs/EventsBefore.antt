@@ -1,5 +1,5 @@
 -- How many own events a child has before an event of the space above it, and what is kept of them.
-use Rattle.std.proofs.Common.{◌≡◌, ℕ, ◌+◌, ◌-◌, ◌≤◌, ◌<◌, true, List, ◌++◌, length, length-append, sym, ap, ap₂, ◌∙◌, subst, arith, inl, inr}
+use Rattle.std.proofs.Common.{◌≡◌, ℕ, ◌-◌, ◌≤◌, true, List, ◌++◌, length, length-append, sym, ap, ap₂, ◌∙◌, subst, arith, inl, inr}
 use Rattle.space_model.specs.declared.Reach.TheVariants.{Whole}
 use Rattle.space_model.specs.Space.{Space}
 use Rattle.space_model.specs.Sound.{IsSound, IsSoundAt}

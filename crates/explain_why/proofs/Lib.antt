@@ -1,6 +1,5 @@
 pub mod TreePaths
 pub mod Parts
-pub mod Counts
 pub mod Origins
 pub mod Joins
 pub mod Slots

@@ -5,15 +5,15 @@ use Rattle.std.specs.List.{slice_get}
 use Rattle.std.proofs.lemmas.List.{append-nil}
 use Rattle.space_model.specs.Space.{Space}
 use Rattle.space_model.specs.Sound.{IsSound}
-use Rattle.event_laws.specs.OwnEvents.{OwnEvent, own_events}
+use Rattle.event_laws.specs.OwnEvents.{IsOwnEvent, OwnEvent, own_events}
 use Rattle.explain_core.specs.declared.watching.Watched.{Watched}
-use Rattle.explain_core.specs.Reached.{NeverChanges, TellsLast, TellsLastChange}
+use Rattle.explain_core.specs.Reached.{TellsLast}
 use Rattle.explain_core.specs.Watch.{Noted}
+use Rattle.explain_core.proofs.EventsBefore.{ended}
 use Rattle.explain_why.specs.declared.origin.Sought.{Sought}
-use Rattle.explain_why.specs.Origin.{Happens, IsLeft, IsLeftBy, IsLeftByNone, TellsOrigin, by_join, by_none, by_own, joined_path, where_left}
+use Rattle.explain_why.specs.Origin.{IsLeft, IsLeftBy, IsLeftByNone, TellsOrigin, by_join, by_none, by_own, joined_path, where_left}
 use Rattle.explain_why.specs.Sought.{IsSoughtBelow}
 use Rattle.explain_why.specs.Why.{all_events}
-use Rattle.explain_why.proofs.Counts.{ended}
 
 not_same : (x y : ℕ) → (x == y) ≡ false → x ≡ y → ⊥
 not_same x y other e = grind (arith, nat_tests)
@@ -36,6 +36,10 @@ in_front xs zero k e is = cc
 in_front [] (suc n) k e is = cc
 in_front (x ∷ xs) (suc n) zero e is = is
 in_front (x ∷ xs) (suc n) (suc k) e is = in_front xs n k e is
+
+-- a schedule has the own event behind so many others at a path
+abbrev Happens : Space → List ℕ → ℕ → Type 0
+Happens root p k = (ps : List (List ℕ)) × (e : OwnEvent) × IsOwnEvent ps root p k e
 
 -- an event that is told of happens
 pub happens : (root : Space) (p : List ℕ) (to : ℕ) (w : Watched) (value : ℕ) (c : Noted) → IsSound root → IsLeftBy root p to w value c → Happens root p (c.number - 1) × (1 ≤ c.number)

@@ -6,12 +6,11 @@ use Rattle.call_model.specs.declared.TheConstants.{GET, TJOIN}
 use Rattle.call_model.specs.Limits.{greatest_depth}
 use Rattle.call_model.specs.Options.{has, merging}
 use Rattle.space_model.specs.Space.{Space}
-use Rattle.event_laws.specs.OwnEvents.{IsOwnEvent, OwnEvent, own_events}
 use Rattle.explain_core.specs.declared.watching.Watched.{Watched}
 use Rattle.explain_core.specs.declared.watching.Watched.TheVariants.{Byte, Register}
 use Rattle.explain_core.specs.Instructions.{is_call}
 use Rattle.explain_core.specs.Watch.{Noted}
-use Rattle.explain_core.specs.Reached.{HasSoMany, NeverChanges, TellsLastChange}
+use Rattle.explain_core.specs.Reached.{HasBefore, HasSoMany, NeverChanges, TellsLastChange}
 
 -- of the first so many own events at a path, the last that changed what is watched left this value
 pub record IsLeftBy (root : Space) (p : List ℕ) (to : ℕ) (w : Watched) (value : ℕ) (c : Noted) : Type 0 where
@@ -48,16 +47,6 @@ child_path p n = if nat_lt n (2 ^ 16) && nat_lt (length p) greatest_depth then S
 -- the path of the child that an event joins: a1 names it
 abbrev pub joined_path : List ℕ → Watched → Noted → Option (List ℕ)
 joined_path p w c = let r = c.registers in if is_join w c then child_path p (slice_index r.x 11) else None
-
--- a schedule has the own event behind so many others at a path
-abbrev pub Happens : Space → List ℕ → ℕ → Type 0
-Happens root p k = (ps : List (List ℕ)) × (e : OwnEvent) × IsOwnEvent ps root p k e
-
--- a schedule whose own events at p are so many has so many at q
-pub record HasBefore (root : Space) (p : List ℕ) (number : ℕ) (q : List ℕ) (count : ℕ) : Type 0 where
-  pub schedule : List (List ℕ)
-  pub events : length (own_events p schedule root) ≡ number
-  pub before : length (own_events q schedule root) ≡ count
 
 -- before the own event of a number at p has happened, so many at q have; where there are more at q than a number of 64 bits can count, nothing is said
 abbrev pub IsBefore : Space → List ℕ → ℕ → List ℕ → ℕ → Type 0

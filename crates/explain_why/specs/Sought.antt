@@ -1,8 +1,7 @@
--- What is sought of a child that was joined, and which of its events come behind the join.
+-- What is sought of a child that was joined.
 -- Our choice: a restatement for proofs.
-use Rattle.std.specs.Prelude.{◌≡◌, ℕ, List, Some}
+use Rattle.std.specs.Prelude.{◌≡◌, Some}
 use Rattle.space_model.specs.Space.{Space}
-use Rattle.explain_core.specs.Reached.{HasJustHappened, HasSoMany}
 use Rattle.explain_core.specs.Watch.{Noted}
 use Rattle.explain_why.specs.declared.origin.Sought.{Sought}
 use Rattle.explain_why.specs.Origin.{IsBefore, joined_path}
@@ -13,9 +12,3 @@ pub record IsSoughtBelow (root : Space) (s : Sought) (c : Noted) (below : Sought
   pub before : IsBefore root s.path.items c.number below.path.items below.to
   pub watched : below.watched ≡ s.watched
   pub value : below.value ≡ s.value
-
--- from where the own event behind k others at p has just happened, so many own events of q are left
-pub record IsBehind (root : Space) (p : List ℕ) (k : ℕ) (q : List ℕ) (count : ℕ) : Type 0 where
-  pub now : Space
-  pub happened : HasJustHappened root p k now
-  pub left : HasSoMany now q count

@@ -3,7 +3,6 @@
 #![tactic(auto)]
 
 mod conflict;
-mod counting;
 mod files;
 mod origin;
 mod paths;

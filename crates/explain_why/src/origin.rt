@@ -1,4 +1,4 @@
-ghost use Rattle.std.specs.Prelude.{◌≡◌, ◌++◌, ◌∷◌, None, IfOk, IfSome, IsNone, codes, option_map};
+ghost use Rattle.std.specs.Prelude.{◌≡◌, ◌++◌, ◌∷◌, None, Some, IfOk, IfSome, IsNone, codes, option_map};
 ghost use Rattle.memory_model.specs.Memory.{byte_at};
 ghost use Rattle.space_model.specs.Sound.{IsSound};
 ghost use Rattle.explain_core.specs.declared.watching.Watched.TheVariants.{Byte};
@@ -8,10 +8,9 @@ ghost use Rattle.explain_why.specs.Origin.{IsLeft, IsLeftBy, TellsOrigin, is_joi
 ghost use Rattle.explain_why.specs.Sought.{IsSoughtBelow};
 ghost use Rattle.explain_why.specs.Why.{all_events};
 
-use crate::counting::events_before;
 use crate::paths::{child_path, copy_path};
 use call_model::{GET, TJOIN};
-use explain_core::{Change, Watched, is_call, last_change};
+use explain_core::{Change, ChangeBefore, Watched, change_before, is_call, last_change};
 use space_tree::{Mem, Path, Regs, Space, copy_tree};
 use std::alloc::{AllocError, Global};
 use trap_ret::options::{MERGE, has};
@@ -105,35 +104,76 @@ fn line_of_change(
     Ok(text)
 }
 
-// What is sought of the child that an event joined: who of its own events before it left the value. None exactly where the event joined none.
+// The same sought at another path, of the first so many own events there.
+fn sought_at(sought: &Sought, path: Path, to: u64) -> Sought
+    ensures { result ≡ record sought.now { path = path; to = to } }
+{
+    Sought {
+        path,
+        to,
+        watched: sought.watched,
+        value: sought.value,
+    }
+}
+
+// What is sought of the child at a path that an event joined, and who left the value. One run tells how many own events the child has before the event, and the last of
+// them that changed what is watched; where it has more than are counted, all that are counted are asked.
+fn sought_below(
+    alloc: Global,
+    root: &mut Space,
+    sought: &Sought,
+    change: &Change,
+    path: Path,
+) -> Result<(Sought, Option<Change>), AllocError>
+    requires sound { IsSound root.old }
+    requires left { IsLeftBy root.old sought.now.path.items sought.now.to sought.now.watched sought.now.value (noted_of change.now) }
+    requires path { joined_path sought.now.path.items sought.now.watched (noted_of change.now) ≡ Some path.items }
+    ensures below { IfOk result (λ r. IsSoughtBelow root.old sought.now (noted_of change.now) r.0) }
+    ensures left { IfOk result (λ r. IsLeft root.old r.0.path.items r.0.to r.0.watched r.0.value (option_map noted_of r.1)) }
+    ensures same { root.new ≡ root.old }
+{
+    let number = change.number;
+    let child = change.registers.register(11) as u16;
+    let watched = sought.watched;
+    let tree = copy_tree(alloc, root)?;
+    match change_before(alloc, tree, &sought.path, number, &path, child, watched)? {
+        Some(ChangeBefore { count, change }) => {
+            let below = sought_at(sought, path, count);
+            let left = where_left(&below, change);
+            Ok((below, left))
+        }
+        None => {
+            let below = sought_at(sought, path, u64::MAX);
+            let left = left_by(alloc, root, &below)?;
+            Ok((below, left))
+        }
+    }
+}
+
+// What is sought of the child that an event joined: who of its own events before it left the value; and the one that did. None exactly where the event joined none.
 fn joined(
     alloc: Global,
     root: &mut Space,
     sought: &Sought,
     change: &Change,
-) -> Result<Option<Sought>, AllocError>
+) -> Result<Option<(Sought, Option<Change>)>, AllocError>
     requires sound { IsSound root.old }
     requires left { IsLeftBy root.old sought.now.path.items sought.now.to sought.now.watched sought.now.value (noted_of change.now) }
-    ensures some { IfOk result (λ o. IfSome o (IsSoughtBelow root.old sought.now (noted_of change.now))) }
+    ensures some { IfOk result (λ o. IfSome o (λ r. IsSoughtBelow root.old sought.now (noted_of change.now) r.0)) }
+    ensures left { IfOk result (λ o. IfSome o (λ r. IsLeft root.old r.0.path.items r.0.to r.0.watched r.0.value (option_map noted_of r.1))) }
     ensures none { IfOk result (λ o. IsNone o → joined_path sought.now.path.items sought.now.watched (noted_of change.now) ≡ None) }
     ensures same { root.new ≡ root.old }
 {
     match joined_path(sought, change)? {
         None => Ok(None),
         Some(path) => {
-            let to = events_before(alloc, root, &sought.path, change.number, &path)?;
-            Ok(Some(Sought {
-                path,
-                to,
-                watched: sought.watched,
-                value: sought.value,
-            }))
+            let below = sought_below(alloc, root, sought, change, path)?;
+            Ok(Some(below))
         }
     }
 }
 
 // A line for the event that left a value, where one did, behind a word; and behind one that joined a child, on through it to the one who stored.
-#[cycle(origin)]
 fn origin_of(
     alloc: Global,
     root: &mut Space,
@@ -149,27 +189,11 @@ fn origin_of(
     let Some(change) = change else {
         return line_of_none(alloc, word);
     };
-    let Some(below) = joined(alloc, root, sought, &change)? else {
+    let Some((below, left)) = joined(alloc, root, sought, &change)? else {
         return line_of_change(alloc, word, &change.line, b"");
     };
-    let rest = origin(alloc, root, &below, "through")?;
+    let rest = origin_of(alloc, root, &below, left, "through")?;
     line_of_change(alloc, word, &change.line, &rest)
-}
-
-// The same of what is sought.
-#[cycle(origin)]
-fn origin(
-    alloc: Global,
-    root: &mut Space,
-    sought: &Sought,
-    word: &str,
-) -> Result<Vec<u8>, AllocError>
-    requires { IsSound root.old }
-    ensures told { IfOk result (λ v. TellsOrigin root.old sought.now.watched sought.now.path.items sought.now.to sought.now.value word.now v.items) }
-    ensures same { root.new ≡ root.old }
-{
-    let change = left_by(alloc, root, sought)?;
-    origin_of(alloc, root, sought, change, word)
 }
 
 // What is sought of what is watched: who left this value, of all own events of a path.
@@ -219,7 +243,8 @@ pub(crate) fn last_origin(
     ensures same { root.new ≡ root.old }
 {
     let sought = all_sought(path, watched, value)?;
-    origin(alloc, root, &sought, word)
+    let left = left_by(alloc, root, &sought)?;
+    origin_of(alloc, root, &sought, left, word)
 }
 
 /// A line for the event that left the byte at an address of a memory, where the last of all own events of a path that changed it is known.

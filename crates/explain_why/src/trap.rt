@@ -3,15 +3,16 @@ ghost use Rattle.space_model.specs.Sound.{IsSound};
 ghost use Rattle.space_model.specs.Stop.{is_stopped};
 ghost use Rattle.explain_core.specs.declared.watching.Watched.TheVariants.{Register};
 ghost use Rattle.explain_core.specs.Instructions.{instruction_at_pc};
-ghost use Rattle.explain_core.specs.Reached.{IsTrace, TellsLastOf};
+ghost use Rattle.explain_core.specs.Reached.{HasSoMany, IsTrace, TellsLastOf};
 ghost use Rattle.explain_core.specs.Watch.{noted_of};
 ghost use Rattle.explain_why.specs.Trapped.{TellsLastTwo};
 ghost use Rattle.explain_why.specs.Why.{TellsRegister, TellsTrap, address_register, all_events, base_register};
 
-use crate::counting::events_of;
 use crate::origin::{changed_origin, last_origin};
 use crate::texts::{register_word, trap_text};
-use explain_core::{Change, LastEvents, Watched, instruction_at_pc, last_events, trace};
+use explain_core::{
+    Change, LastEvents, Watched, count_events, instruction_at_pc, last_events, trace,
+};
 use rv_decode::{Instr, Instruction};
 use space_tree::{Cause, Path, Space, Status, Top, copy_tree};
 use std::alloc::{AllocError, Global};
@@ -98,6 +99,16 @@ fn register_origin(
     let watched = Watched::Register(register);
     let value = top.registers.register(register);
     last_origin(alloc, root, path, watched, value, &word)
+}
+
+// How many own events a path has until no space of the tree runs any more.
+fn events_of(alloc: Global, root: &mut Space, path: &Path) -> Result<u64, AllocError>
+    requires { IsSound root.old }
+    ensures count { IfOk result (λ n. HasSoMany root.old path.now.items n) }
+    ensures same { root.new ≡ root.old }
+{
+    let tree = copy_tree(alloc, root)?;
+    count_events(alloc, tree, path)
 }
 
 // The lines of the last two of so many own events of a path.

@@ -1,14 +1,10 @@
 use Rattle.std.proofs.Common.{◌-◌, IfSome, subst}
 use Rattle.std.specs.Prelude.{option_map}
 use Rattle.explain_core.specs.Beside.{all}
-use Rattle.explain_core.specs.Reached.{HasBefore, TellsMoment}
+use Rattle.explain_core.specs.Reached.{TellsMoment}
 use Rattle.explain_core.specs.Watch.{noted_of}
 use Rattle.explain_core.proofs.LastChange.{last_told}
 use Rattle.explain_core.proofs.before.change_before.Goals as goal
-
-pub returns-in_ok-change-in-Some-clause-before : goal.returns-in_ok-change-in-Some-clause-before
-returns-in_ok-change-in-Some-clause-before c =
-    subst (λ o. IfSome o (λ s. HasBefore c.args.tree c.args.path.now.items c.args.number c.args.below.now.items (all - s.below.left))) c.in-Some.is c.in_ok-sides_before.ensures.before
 
 pub returns-in_ok-change-in-Some-clause-tells : goal.returns-in_ok-change-in-Some-clause-tells
 returns-in_ok-change-in-Some-clause-tells c =

@@ -1,7 +1,7 @@
 use Rattle.std.proofs.Common.{IfOk, sym, subst}
 use Rattle.space_model.specs.Sound.{IsSound}
 use Rattle.explain_core.specs.Reached.{HasSoMany}
-use Rattle.explain_why.proofs.counting.events_of.Goals as goal
+use Rattle.explain_why.proofs.trap.events_of.Goals as goal
 
 pub count_events-requires : goal.count_events-requires
 count_events-requires c = subst IsSound (sym c.in_ok-tree.ensures.equal) c.requires
