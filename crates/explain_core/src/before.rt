@@ -87,8 +87,8 @@ fn sides_before(
     Ok(Some(sides))
 }
 
-/// How many own events the child of a number of the space at a path has before the own event of another number there, from 1 on, and the last of these that changed what is watched, as
-/// `last_change` tells it, in one run: that of a schedule in which the event has just happened. None comes where no schedule has the event, or the child has at least 2^64 - 1 own
+/// How many own events a child has before the own event of a number, from 1 on, of the space above it, and of these the last that changed what is watched, as `last_change` tells it, in one run:
+/// the space at the path goes on until this event has just happened, and its child beside it. None comes only where no schedule has the event, or the child has at least 2^64 - 1 own
 /// events. The one error is want of memory.
 pub fn change_before(
     alloc: Global,
@@ -102,6 +102,7 @@ pub fn change_before(
     requires sound { IsSound tree }
     requires number { 1 ≤ number }
     requires child { below.now.items ≡ child_of path.now.items child }
+    // In a schedule that has no later own event of the space.
     ensures before { IfOk result (λ o. IfSome o (λ b. HasBefore tree path.now.items number below.now.items b.count)) }
     ensures tells { IfOk result (λ o. IfSome o (λ b. TellsLast tree below.now.items b.count watched (option_map noted_of b.change))) }
     ensures none { IfOk result (λ o. IsNone o → NeverHappens tree path.now.items (number - 1) ⊎ HasAtLeast tree below.now.items all) }
