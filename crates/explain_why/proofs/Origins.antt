@@ -1,5 +1,5 @@
 -- Who left a value: the constructors in the words of the code.
-use Rattle.std.proofs.Common.{◌≡◌, ◌≤◌, ◌-◌, ℕ, zero, suc, take, List, [], ◌∷◌, ◌++◌, Option, Some, None, Bool, true, false, ◌==◌, if◌then◌else◌, refl, sym, ap, ◌∙◌, subst, arith, codes, inl, inr}
+use Rattle.std.proofs.Common.{◌≡◌, ◌≤◌, ◌-◌, ◌^◌, ◌⊎◌, ℕ, zero, suc, take, List, [], ◌∷◌, ◌++◌, Option, Some, None, Bool, true, false, ◌==◌, if◌then◌else◌, refl, sym, ap, ◌∙◌, subst, arith, codes, inl, inr}
 use Rattle.std.proofs.lemmas.Bool.Decides.{nat_tests}
 use Rattle.std.specs.List.{slice_get}
 use Rattle.std.proofs.lemmas.List.{append-nil}
@@ -7,7 +7,8 @@ use Rattle.space_model.specs.Space.{Space}
 use Rattle.space_model.specs.Sound.{IsSound}
 use Rattle.event_laws.specs.OwnEvents.{IsOwnEvent, OwnEvent, own_events}
 use Rattle.explain_core.specs.declared.watching.Watched.{Watched}
-use Rattle.explain_core.specs.Reached.{TellsLast}
+use Rattle.explain_core.specs.Beside.{all}
+use Rattle.explain_core.specs.Reached.{HasAtLeast, HasSoMany, NeverHappens, TellsLast}
 use Rattle.explain_core.specs.Watch.{Noted}
 use Rattle.explain_core.proofs.EventsBefore.{ended}
 use Rattle.explain_why.specs.declared.origin.Sought.{Sought}
@@ -49,6 +50,26 @@ happens root p to w value c sound is =
     let number : c.number ≡ suc told.0 = ap (λ (n : Noted). n.number) told.3 in
     let here : c.number - 1 ≡ told.0 = omega (arith, number) in
     ((full.0, told.1, ap (slice_get (own_events p full.0 root)) here ∙ in_front (own_events p full.0 root) to told.0 told.1 told.2.event), omega (arith, number))
+
+-- ---- the child that it joined
+
+-- as many own events of a path as a number of 64 bits can count
+counted : (root : Space) (q : List ℕ) → HasAtLeast root q all → HasSoMany root q (2 ^ 64 - 1)
+counted root q most ps none = let long = most ps none in omega (arith, long)
+
+-- there are as many as can be counted
+pub sought_of_all : (root tree : Space) (s below : Sought) (c : Noted) → tree ≡ root → IsSound root → IsLeftBy root s.path.items s.to s.watched s.value c → joined_path s.path.items s.watched c ≡ Some below.path.items
+    → NeverHappens tree s.path.items (c.number - 1) ⊎ HasAtLeast tree below.path.items all → below.watched ≡ s.watched → below.value ≡ s.value → IsSoughtBelow root s c below
+sought_of_all root tree s below c is sound by path (inl never) watched value =
+    let there = happens root s.path.items s.to s.watched s.value c sound by in absurd (subst (λ t. NeverHappens t s.path.items (c.number - 1)) is never there.0.0 there.0.1 there.0.2)
+sought_of_all root tree s below c is sound by path (inr most) watched value = record {
+  path = path;
+  before = inr (counted root below.path.items (subst (λ t. HasAtLeast t below.path.items all) is most));
+  watched = watched;
+  value = value;
+}
+
+-- ---- what is told
 
 pub told_none : (root : Space) (s : Sought) (word text : List ℕ) → IsLeftByNone root s.path.items s.to s.watched s.value → text ≡ word ++ codes " no own event\n" → TellsOrigin root s.watched s.path.items s.to s.value word text
 told_none root s word text none is = subst (TellsOrigin root s.watched s.path.items s.to s.value word) (sym is) (by_none s.path.items s.to s.value word none)
