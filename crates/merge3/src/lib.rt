@@ -65,8 +65,9 @@ fn differ(a: &[u8], b: &[u8], at: usize) -> bool
     x.simd_ne(y).to_bitmask() != 0
 }
 
-// The least offset that is in conflict.
-fn first_conflict(
+/// The least offset, below 4,096, that is in conflict: both the child's byte and the parent's differ from the snapshot's, and with `agree` from one
+/// another as well; none exactly where there is none. It writes nothing.
+pub fn first_conflict(
     snapshot: &[u8; SIZE],
     child: &[u8; SIZE],
     parent: &[u8; SIZE],

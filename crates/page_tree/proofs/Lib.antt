@@ -9,3 +9,4 @@ mod LimbEdits
 mod Blockwise
 pub mod Cuts
 mod Alike
+mod Replaced

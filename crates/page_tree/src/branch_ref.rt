@@ -56,6 +56,7 @@ impl BranchRef {
         ensures whole { AreWholeLimb self.old → AreWholeLimb self.new }
         ensures err { OnErr result (self.new ≡ self.old) }
         ensures idle { IsOwnBranch self.old → IsOk result }
+        ensures again { IsOwnBranch self.old → self.new ≡ self.old }
     {
         match self {
             BranchRef::Uniform(permission) => {

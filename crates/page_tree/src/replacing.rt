@@ -49,26 +49,28 @@ impl BlockRef {
 }
 
 impl Branch {
-    /// Makes the block of a page its holder's own, so that what is kept of the page can be exchanged. Permissions, bytes and owners stay, also
-    /// at the one error, want of memory.
+    /// Makes the block of a page its holder's own, so that what is kept of the page can be exchanged. Permissions, bytes and owners stay, and
+    /// what could be exchanged still can, also at the one error, want of memory.
     pub fn own_block(&mut self, page: usize, alloc: Global) -> Result<(), AllocError>
         requires { page < branch_pages }
         ensures same { SameBelow self.old self.new }
         ensures own { SameOwnBelow self.old self.new }
         ensures ready { OnOk result (ReplaceableBelow page self.new) }
+        ensures stays { (other : ℕ) → ReplaceableBelow other self.old → ReplaceableBelow other self.new }
         ensures whole { AreWholeBelow self.old → AreWholeBelow self.new }
     {
         self.blocks[page / BLOCK_PAGES].own(alloc)?;
         Ok(())
     }
 
-    /// Exchanges what is kept of a page.
+    /// Exchanges what is kept of a page. What could be exchanged still can.
     pub fn replace(&mut self, page: usize, kept: Option<PageRef>) -> Option<PageRef>
         requires within { page < branch_pages }
         requires ready { ReplaceableBelow page self.old }
         ensures was { result ≡ branch_page self.old page }
         ensures replaced { IsReplacedRow branch_pages page kept (branch_row self.old) (branch_row self.new) }
         ensures ready { ReplaceableBelow page self.new }
+        ensures stays { (other : ℕ) → ReplaceableBelow other self.old → ReplaceableBelow other self.new }
         ensures whole { IsWhole kept → AreWholeBelow self.old → AreWholeBelow self.new }
         ensures given { AreWholeBelow self.old → IsWhole result }
     {
@@ -92,13 +94,14 @@ impl Branch {
 }
 
 impl BranchRef {
-    /// Makes the block of a page its holder's own, so that what is kept of the page can be exchanged. Permissions, bytes and owners stay, also
-    /// at the one error, want of memory.
+    /// Makes the block of a page its holder's own, so that what is kept of the page can be exchanged. Permissions, bytes and owners stay, and
+    /// what could be exchanged still can, also at the one error, want of memory.
     pub fn own_block(&mut self, page: usize, alloc: Global) -> Result<(), AllocError>
         requires { page < branch_pages }
         ensures same { SameLimb self.old self.new }
         ensures own { SameOwnLimb self.old self.new }
         ensures ready { OnOk result (ReplaceableLimb page self.new) }
+        ensures stays { (other : ℕ) → ReplaceableLimb other self.old → ReplaceableLimb other self.new }
         ensures whole { AreWholeLimb self.old → AreWholeLimb self.new }
     {
         self.own(alloc)?;
@@ -108,13 +111,14 @@ impl BranchRef {
         }
     }
 
-    /// Exchanges what is kept of a page.
+    /// Exchanges what is kept of a page. What could be exchanged still can.
     pub fn replace(&mut self, page: usize, kept: Option<PageRef>) -> Option<PageRef>
         requires within { page < branch_pages }
         requires ready { ReplaceableLimb page self.old }
         ensures was { result ≡ limb_page self.old page }
         ensures replaced { IsReplacedRow branch_pages page kept (limb_row self.old) (limb_row self.new) }
         ensures ready { ReplaceableLimb page self.new }
+        ensures stays { (other : ℕ) → ReplaceableLimb other self.old → ReplaceableLimb other self.new }
         ensures whole { IsWhole kept → AreWholeLimb self.old → AreWholeLimb self.new }
         ensures given { AreWholeLimb self.old → IsWhole result }
     {
@@ -126,26 +130,28 @@ impl BranchRef {
 }
 
 impl Tree {
-    /// Makes the block of a page its holder's own, so that what is kept of the page can be exchanged. Permissions, bytes and owners stay, also
-    /// at the one error, want of memory.
+    /// Makes the block of a page its holder's own, so that what is kept of the page can be exchanged. Permissions, bytes and owners stay, and
+    /// what could be exchanged still can, also at the one error, want of memory.
     pub fn own_block(&mut self, page: usize, alloc: Global) -> Result<(), AllocError>
         requires { page < tree_pages }
         ensures same { SameTree self.old self.new }
         ensures own { SameOwnTree self.old self.new }
         ensures ready { OnOk result (ReplaceableTree page self.new) }
+        ensures stays { (other : ℕ) → ReplaceableTree other self.old → ReplaceableTree other self.new }
         ensures whole { AreWholeTree self.old → AreWholeTree self.new }
     {
         self.branches[page / BRANCH_PAGES].own_block(page % BRANCH_PAGES, alloc)?;
         Ok(())
     }
 
-    /// Exchanges what is kept of a page.
+    /// Exchanges what is kept of a page. What could be exchanged still can.
     pub fn replace(&mut self, page: usize, kept: Option<PageRef>) -> Option<PageRef>
         requires within { page < tree_pages }
         requires ready { ReplaceableTree page self.old }
         ensures was { result ≡ tree_page self.old page }
         ensures replaced { IsReplacedRow tree_pages page kept (tree_row self.old) (tree_row self.new) }
         ensures ready { ReplaceableTree page self.new }
+        ensures stays { (other : ℕ) → ReplaceableTree other self.old → ReplaceableTree other self.new }
         ensures whole { IsWhole kept → AreWholeTree self.old → AreWholeTree self.new }
         ensures given { AreWholeTree self.old → IsWhole result }
     {
@@ -160,6 +166,7 @@ impl Tree {
         ensures was { result ≡ limb_page (branch_at self.old i) page }
         ensures replaced { IsReplacedRow branch_pages page kept (limb_row (branch_at self.old i)) (limb_row (branch_at self.new i)) }
         ensures ready { ReplaceableLimb page (branch_at self.new i) }
+        ensures stays { (other : ℕ) → ReplaceableLimb other (branch_at self.old i) → ReplaceableLimb other (branch_at self.new i) }
         ensures whole { IsWhole kept → AreWholeLimb (branch_at self.old i) → AreWholeLimb (branch_at self.new i) }
         ensures given { AreWholeLimb (branch_at self.old i) → IsWhole result }
         ensures others { SameOtherBranches i self.old self.new }
@@ -169,13 +176,14 @@ impl Tree {
 }
 
 impl TreeRef {
-    /// Makes the block of a page its holder's own, so that what is kept of the page can be exchanged. Permissions, bytes and owners stay, also
-    /// at the one error, want of memory.
+    /// Makes the block of a page its holder's own, so that what is kept of the page can be exchanged. Permissions, bytes and owners stay, and
+    /// what could be exchanged still can, also at the one error, want of memory.
     pub fn own_block(&mut self, page: usize, alloc: Global) -> Result<(), AllocError>
         requires { page < tree_pages }
         ensures same { SameRoot self.old self.new }
         ensures own { SameOwnRoot self.old self.new }
         ensures ready { OnOk result (ReplaceableRoot page self.new) }
+        ensures stays { (other : ℕ) → ReplaceableRoot other self.old → ReplaceableRoot other self.new }
         ensures whole { AreWholeRoot self.old → AreWholeRoot self.new }
     {
         self.own(alloc)?;
@@ -185,13 +193,14 @@ impl TreeRef {
         }
     }
 
-    /// Exchanges what is kept of a page.
+    /// Exchanges what is kept of a page. What could be exchanged still can.
     pub fn replace(&mut self, page: usize, kept: Option<PageRef>) -> Option<PageRef>
         requires within { page < tree_pages }
         requires ready { ReplaceableRoot page self.old }
         ensures was { result ≡ root_page self.old page }
         ensures replaced { IsReplacedRow tree_pages page kept (root_row self.old) (root_row self.new) }
         ensures ready { ReplaceableRoot page self.new }
+        ensures stays { (other : ℕ) → ReplaceableRoot other self.old → ReplaceableRoot other self.new }
         ensures whole { IsWhole kept → AreWholeRoot self.old → AreWholeRoot self.new }
         ensures given { AreWholeRoot self.old → IsWhole result }
     {

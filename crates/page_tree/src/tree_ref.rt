@@ -56,6 +56,7 @@ impl TreeRef {
         ensures whole { AreWholeRoot self.old → AreWholeRoot self.new }
         ensures err { OnErr result (self.new ≡ self.old) }
         ensures idle { IsOwnTree self.old → IsOk result }
+        ensures again { IsOwnTree self.old → self.new ≡ self.old }
     {
         match self {
             TreeRef::Uniform(permission) => {

@@ -41,7 +41,7 @@ merged_in_page s c p page xs ys zs out hs hc hp merged k below =
     merged k below ∙ sym (λ i. if not (b i == a i) then b i else d i)
 
 -- the byte of a side that changed it, where the other did not
-either : (before written current : ℕ) → current ≡ before → written ≡ (if not (written == before) then written else current)
+pub either : (before written current : ℕ) → current ≡ before → written ≡ (if not (written == before) then written else current)
 either before written current kept = elim (cases_eq written before) [
   | inl same ↦ rw (eq-eqb written before same) (same ∙ sym kept)
   | inr other ↦ rw (ne_eqb written before other) refl
@@ -65,18 +65,11 @@ fails_at agree s c p first count page (Conflict addr) from to none found =
     (none_join agree s c p (4096 * first) (4096 * page) addr none found.least) found.here
 fails_at agree s c p first count page NoMemory from to none found = absurd found
 
--- where the parent changed nothing the child's page is the merged one
-pub taken_over : (s c p : Memory) (page : ℕ) (xs ys zs : List ℕ) → IsPageOf s page xs → IsPageOf c page ys → IsPageOf p page zs → xs ≡ zs → IsMergedPage s c p page ys
-taken_over s c p page xs ys zs hs hc hp same k below =
-    let a : ℕ = 4096 * page + k in
-    let kept : byte_at p a ≡ byte_at s a = hp.byte k below ∙ ap (λ l. slice_index l k) (sym same) ∙ sym (hs.byte k below) in
-    sym (hc.byte k below) ∙ either (byte_at s a) (byte_at c a) (byte_at p a) kept
-
 unchanged : (t u v : Bool) → u ≡ false → (t && u && v) ≡ false
 unchanged true u v e = rw e refl
 unchanged false u v e = refl
 
--- and nothing is in conflict
+-- where the parent changed nothing, nothing is in conflict
 pub none_kept : (agree : Bool) (s c p : Memory) (page : ℕ) (xs zs : List ℕ) → IsPageOf s page xs → IsPageOf p page zs → xs ≡ zs → NoneInConflict agree s c p (4096 * page) (4096 * (page + 1))
 none_kept agree s c p page xs zs hs hp same a above below =
     let k : ℕ = a - 4096 * page in

@@ -1,13 +1,13 @@
 -- Pages that are the same in two memories, and lists of pages that a child changed.
-use Rattle.std.specs.Prelude.{◌≡◌, ℕ, ◌+◌, ◌*◌, ◌/◌, ◌%◌, ◌<◌, ◌≤◌, List, [], ◌∷◌, ◌++◌, All, slice_index}
+use Rattle.std.specs.Prelude.{◌≡◌, ℕ, ◌+◌, ◌*◌, ◌/◌, ◌%◌, ◌<◌, ◌≤◌, ◌⊎◌, List, [], ◌∷◌, All, Contains, slice_index}
 use Rattle.std.proofs.Common.{sym, ◌∙◌, ap, arith, inl, inr, subst}
-use Rattle.std.proofs.lemmas.Bool.{cases_lt}
+use Rattle.std.proofs.lemmas.Bool.{cases_eq, cases_lt}
 use Rattle.std.proofs.lemmas.List.{get_or_default, same_lists}
-use Rattle.std.proofs.lemmas.List.Elements.{All-nil, All-cons, All-same}
+use Rattle.std.proofs.lemmas.List.Elements.{All-nil, All-cons, Contains-append_right, Contains-get_or}
 use Rattle.memory_model.specs.Memory.{Memory, byte_at}
 use Rattle.memory_model.specs.Ranges.{IsPageOf, IsZeroPage}
 use Rattle.space_mem.specs.Held.{Held, AllClean, AllZero, Covers, SamePage}
-use Rattle.snapshot.specs.Pages.{AreChanged, IsEqual, IsMerged, SameBytes}
+use Rattle.snapshot.specs.Pages.{SameBytes}
 
 -- pages of which neither memory has a byte other than 0
 pub same_zero : (m n : Memory) (from end : ℕ) → AllZero m from end → AllZero n from end → SameBytes m n from end
@@ -57,34 +57,17 @@ same_join m n a b c p q k above below = elim (cases_lt k (4096 * b)) [
 pub same_less : (m n : Memory) (a b c : ℕ) → b ≤ c → SameBytes m n a c → SameBytes m n a b
 same_less m n a b c le same k above below = same k above (omega arith)
 
--- no page at all
-pub changed_start : (m n : Memory) (low : ℕ) (ps : List ℕ) → ps ≡ [] → AreChanged m n low low ps
-changed_start m n low ps none = subst (AreChanged m n low low) (sym none) (omega arith, λ a above below. absurd (omega arith))
-
--- no page of those that follow is changed
-pub changed_more : (m n : Memory) (low end more : ℕ) (ps : List ℕ) → AreChanged m n low end ps → end ≤ more → SameBytes m n end more → AreChanged m n low more ps
-changed_more m n low end more [] all le same = (omega (arith, all.0), same_join m n low end more all.1 same)
-changed_more m n low end more (p ∷ ps) all le same =
-    (all.0, (omega (arith, all.1.0), (all.1.1.0, changed_more m n (p + 1) end more ps all.1.1.1 le same)))
-
--- one more page is changed
-pub changed_push : (m n : Memory) (low end page : ℕ) (ps : List ℕ) → AreChanged m n low end ps → end ≤ page → SameBytes m n end page → AreChanged m n low (page + 1) (ps ++ page ∷ [])
-changed_push m n low end page [] all le same =
-    (omega (arith, all.0), (omega arith, (same_join m n low end page all.1 same, (omega arith, λ a above below. absurd (omega arith)))))
-changed_push m n low end page (p ∷ ps) all le same =
-    (all.0, (omega (arith, all.1.0), (all.1.1.0, changed_push m n (p + 1) end page ps all.1.1.1 le same)))
-
-pub changed_below : (m n : Memory) (low end : ℕ) (ps : List ℕ) → AreChanged m n low end ps → end ≤ 1048576 → All (λ p. p < 1048576) ps
-changed_below m n low end [] all le = All-nil (λ p. p < 1048576)
-changed_below m n low end (p ∷ ps) all le = All-cons (λ q. q < 1048576) p ps (omega (arith, all.1.0)) (changed_below m n (p + 1) end ps all.1.1.1 le)
-
-pub none_merged : (h : Held) (s : Memory) (first end : ℕ) (ps : List ℕ) → ps ≡ [] → All (IsMerged h s first end) ps
-none_merged h s first end ps none = All-same (IsMerged h s first end) ps [] none (All-nil (IsMerged h s first end))
-
--- no page was found the same
-pub none_equal : (m n : Memory) (ps : List ℕ) → ps ≡ [] → All (IsEqual m n) ps
-none_equal m n ps none = All-same (IsEqual m n) ps [] none (All-nil (IsEqual m n))
-
 -- a page, as one of those in a row
 pub page_of_row : (m n : Memory) (page : ℕ) → SameBytes m n page (page + 1) → SamePage m n page
 page_of_row m n page same k low = same (4096 * page + k) (omega arith) (omega arith)
+
+-- a page stands in a list, or it does not
+pub stands : (xs : List ℕ) (p : ℕ) → Contains xs p ⊎ All (λ x. p ≡ x → ⊥) xs
+stands [] p = inr (All-nil (λ x. p ≡ x → ⊥))
+stands (x ∷ xs) p = elim (cases_eq p x) [
+  | inl same ↦ inl (subst (Contains (x ∷ xs)) (sym same) (Contains-get_or (x ∷ xs) 0 0 (omega arith)))
+  | inr other ↦ elim (stands xs p) [
+    | inl at ↦ inl (Contains-append_right (x ∷ []) xs p at)
+    | inr none ↦ inr (All-cons (λ y. p ≡ y → ⊥) x xs other none)
+  ]
+]

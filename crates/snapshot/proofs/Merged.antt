@@ -1,13 +1,17 @@
 -- Memories of which some pages are merged.
-use Rattle.std.specs.Prelude.{◌≡◌, ℕ, ◌+◌, ◌-◌, ◌*◌, ◌<◌, ◌≤◌, ◌⊎◌, ◌==◌, Bool, not, ◌&&◌, if◌then◌else◌, List, [], ◌∷◌, drop, length}
+use Rattle.std.specs.Prelude.{◌≡◌, ℕ, ◌+◌, ◌-◌, ◌*◌, ◌/◌, ◌%◌, ◌<◌, ◌≤◌, ◌⊎◌, Bool, true, false, not, if◌then◌else◌, List, [], All, Contains, Some, length, take}
 use Rattle.std.proofs.Common.{sym, ◌∙◌, ap, arith, inl, inr, refl, eq-eqb, get_or, subst}
-use Rattle.std.proofs.lemmas.List.{drop_more, drop_all}
-use Rattle.std.proofs.lemmas.Bool.{cases_lt}
+use Rattle.std.proofs.lemmas.List.{take_more}
+use Rattle.std.proofs.lemmas.List.Elements.{All-contains, All-more, All-nil, All-pop, All-weaker}
+use Rattle.std.proofs.lemmas.Bool.{cases_eq, cases_lt}
 use Rattle.memory_model.specs.Memory.{Memory, byte_at, permission_at, with_bytes, same_memory}
 use Rattle.memory_model.proofs.Runs.{byte_at-with_bytes, byte_at-with_bytes_out, permission_at-with_bytes}
 use Rattle.merge_model.specs.Merge.{is_changed, merged_byte, with_merge}
 use Rattle.merge_model.proofs.Merges.{byte_at-with_merge, byte_at-with_merge_out}
-use Rattle.snapshot.specs.Pages.{AreChanged, IsMergedPage, NoneInConflict, SameBytes}
+use Rattle.space_mem.specs.Held.{SamePage}
+use Rattle.snapshot.specs.Pages.{HasMerged, IsMergedAt, IsMergedPage}
+use Rattle.snapshot.proofs.Conflicts.{either}
+use Rattle.snapshot.proofs.Lists.{stands}
 
 -- the merged bytes of a page are written
 pub written : (s c p : Memory) (page : ℕ) (bs : List ℕ) → length bs ≡ 4096 → IsMergedPage s c p page bs → with_bytes p (4096 * page) bs ≡ with_merge s c p page 1
@@ -29,86 +33,102 @@ written s c p page bs sized merged = same_memory (with_bytes p (4096 * page) bs)
 pub unchanged_byte : (s c p : Memory) (a : ℕ) → byte_at c a ≡ byte_at s a → merged_byte s c p a ≡ byte_at p a
 unchanged_byte s c p a same = ap (λ b. if not b then byte_at c a else byte_at p a) (eq-eqb (byte_at c a) (byte_at s a) same)
 
--- a page that the child did not change
-pub untouched : (s c p : Memory) (page : ℕ) → SameBytes c s page (page + 1) → p ≡ with_merge s c p page 1
-untouched s c p page same = same_memory p (with_merge s c p page 1)
-    (λ a. elim (cases_lt a (4096 * page)) [
-      | inl before ↦ sym (byte_at-with_merge_out s c p page 1 a (inl before))
-      | inr from ↦ elim (cases_lt a (4096 * (page + 1))) [
-        | inl here ↦ sym (unchanged_byte s c p a (same a from here)) ∙ sym (byte_at-with_merge s c p page 1 a from here)
-        | inr after ↦ sym (byte_at-with_merge_out s c p page 1 a (inr after))
-      ]
-    ])
-    (λ q. refl)
+-- a page with the bytes of a source, of which the parent has the snapshot's, is merged
+pub taken_merged : (s c p m : Memory) (page : ℕ) → SamePage p s page → SamePage m c page → IsMergedAt s c p m page
+taken_merged s c p m page kept same k low = same k low ∙ either (byte_at s (4096 * page + k)) (byte_at c (4096 * page + k)) (byte_at p (4096 * page + k)) (kept k low)
 
--- what is so once the pages before some are merged
-pub record IsUpTo (s c old now : Memory) (first end : ℕ) (rest : List ℕ) : Type 0 where
-  pub low : ℕ
-  pub from : first ≤ low
-  pub changed : AreChanged c s low end rest
-  pub byte : (a : ℕ) → 4096 * first ≤ a → a < 4096 * low → byte_at now a ≡ merged_byte s c old a
-  pub before : (a : ℕ) → a < 4096 * first → byte_at now a ≡ byte_at old a
-  pub after : (a : ℕ) → 4096 * low ≤ a → byte_at now a ≡ byte_at old a
-  pub permission : (page : ℕ) → permission_at now page ≡ permission_at old page
+-- what is merged again is what was merged
+again : (t : Bool) (x v w : ℕ) → (v ≡ w) ⊎ (v ≡ (if t then x else w)) → (if t then x else v) ≡ (if t then x else w)
+again true x v w is = refl
+again false x v w (inl same) = same
+again false x v w (inr same) = same
 
-pub up_start : (s c old : Memory) (first end : ℕ) (ps : List ℕ) → AreChanged c s first end ps → IsUpTo s c old old first end ps
-up_start s c old first end ps all = record {
-  low = first;
-  from = omega arith;
-  changed = all;
-  byte = λ a above below. absurd (omega arith);
-  before = λ a below. refl;
-  after = λ a above. refl;
+merged_again : (s c p m : Memory) (a : ℕ) → (byte_at m a ≡ byte_at p a) ⊎ (byte_at m a ≡ merged_byte s c p a) → merged_byte s c m a ≡ merged_byte s c p a
+merged_again s c p m a is = again (is_changed s c a) (byte_at c a) (byte_at m a) (byte_at p a) is
+
+-- ---- pages that are merged, in any order
+
+pub merged_none : (s c p : Memory) → HasMerged s c p [] p
+merged_none s c p = record {
   permission = λ page. refl;
+  here = All-nil (IsMergedAt s c p p);
+  other = λ page none k low. refl;
 }
 
--- by the index of the next page in a list
-pub up_next : (s c old now : Memory) (first end : ℕ) (ps : List ℕ) (i : ℕ) → i < length ps → IsUpTo s c old now first end (drop i ps) → IsUpTo s c old now first end (get_or ps i 0 ∷ drop (i + 1) ps)
-up_next s c old now first end ps i within up = subst (IsUpTo s c old now first end) (drop_more ps i 0 within) up
+-- each page has the bytes that it had, or the merged ones
+pub either_way : (s c p m : Memory) (each : List ℕ) → HasMerged s c p each m → (page : ℕ) → IsMergedAt s c p m page ⊎ SamePage m p page
+either_way s c p m each merged page = elim (stands each page) [
+  | inl at ↦ inl (All-contains (IsMergedAt s c p m) each page merged.here at)
+  | inr none ↦ inr (merged.other page none)
+]
 
-pub up_last : (s c old now : Memory) (first end : ℕ) (ps : List ℕ) (i : ℕ) → length ps ≤ i → IsUpTo s c old now first end (drop i ps) → IsUpTo s c old now first end []
-up_last s c old now first end ps i past up = subst (IsUpTo s c old now first end) (drop_all i ps past) up
+at_byte : (s c p m : Memory) (page : ℕ) → IsMergedAt s c p m page ⊎ SamePage m p page → (k : ℕ) → k < 4096 → (byte_at m (4096 * page + k) ≡ byte_at p (4096 * page + k)) ⊎ (byte_at m (4096 * page + k) ≡ merged_byte s c p (4096 * page + k))
+at_byte s c p m page (inl merged) k low = inr (merged k low)
+at_byte s c p m page (inr same) k low = inl (same k low)
 
--- the next page has no conflict still
-pub up_free : (agree : Bool) (s c old now : Memory) (first end page : ℕ) (rest : List ℕ) → IsUpTo s c old now first end (page ∷ rest) → NoneInConflict agree s c old (4096 * first) (4096 * end) → NoneInConflict agree s c now (4096 * page) (4096 * (page + 1))
-up_free agree s c old now first end page rest up none a above below =
-    let from = up.changed.0 in
-    let to = up.changed.1.0 in
-    let same = up.after a (omega (arith, from)) in
-    ap (λ v. is_changed s c a && not (v == byte_at s a) && not (agree && byte_at c a == v)) same ∙ none a (omega (arith, from, up.from)) (omega (arith, to))
-
--- the next page is merged
-pub up_step : (s c old now new : Memory) (first end page : ℕ) (rest : List ℕ) → IsUpTo s c old now first end (page ∷ rest) → new ≡ with_merge s c now page 1 → IsUpTo s c old new first end rest
-up_step s c old now new first end page rest up is =
-    let from = up.changed.0 in
-    let out : (a : ℕ) → (a < 4096 * page) ⊎ (4096 * (page + 1) ≤ a) → byte_at new a ≡ byte_at now a = λ a other. ap (λ m. byte_at m a) is ∙ byte_at-with_merge_out s c now page 1 a other in
+-- one page more
+pub merged_more : (s c p m n : Memory) (each : List ℕ) (i : ℕ) → i < length each → HasMerged s c p (take i each) m → n ≡ with_merge s c m (get_or each i 0) 1 → HasMerged s c p (take (i + 1) each) n
+merged_more s c p m n each i within before is =
+    let page : ℕ = get_or each i 0 in
+    let out : (q : ℕ) → (q ≡ page → ⊥) → SamePage n m q = λ q other k low. ap (λ o. byte_at o (4096 * q + k)) is ∙ byte_at-with_merge_out s c m page 1 (4096 * q + k) (elim (cases_lt q page) [
+      | inl below ↦ inl (omega arith)
+      | inr from ↦ inr (omega (arith, other))
+    ]) in
+    let at : IsMergedAt s c p n page = λ k low.
+    ap (λ o. byte_at o (4096 * page + k)) is ∙ byte_at-with_merge s c m page 1 (4096 * page + k) (omega arith) (omega arith)
+    ∙ merged_again s c p m (4096 * page + k) (at_byte s c p m page (either_way s c p m (take i each) before page) k low) in
     record {
-      low = page + 1;
-      from = omega (arith, from, up.from);
-      changed = up.changed.1.1.1;
-      byte = λ a above below. elim (cases_lt a (4096 * up.low)) [
-        | inl merged ↦ out a (inl (omega (arith, from))) ∙ up.byte a above merged
-        | inr high ↦ elim (cases_lt a (4096 * page)) [
-          | inl between ↦ out a (inl between) ∙ up.after a high ∙ sym (unchanged_byte s c old a (up.changed.1.1.0 a high between))
-          | inr here ↦ ap (λ m. byte_at m a) is ∙ byte_at-with_merge s c now page 1 a here below ∙ ap (λ v. if is_changed s c a then byte_at c a else v) (up.after a high)
-        ]
-      ];
-      before = λ a below. out a (inl (omega (arith, from, up.from))) ∙ up.before a below;
-      after = λ a above. out a (inr above) ∙ up.after a (omega (arith, from));
-      permission = λ q. ap (λ m. permission_at m q) is ∙ up.permission q;
+      permission = λ q. ap (λ o. permission_at o q) is ∙ before.permission q;
+      here = All-more (IsMergedAt s c p n) each i 0 within
+          (All-weaker (IsMergedAt s c p m) (IsMergedAt s c p n) (λ q was. elim (cases_eq q page) [
+            | inl same ↦ subst (IsMergedAt s c p n) (sym same) at
+            | inr other ↦ λ k low. out q other k low ∙ was k low
+          ]) (take i each) before.here) at;
+      other = λ q none.
+          let both = All-pop (λ o. q ≡ o → ⊥) (take (i + 1) each) (take i each) (Some page) (take_more each i 0 within) none in
+          λ k low. out q both.1 k low ∙ before.other q both.0 k low;
     }
 
--- no page is left
-pub up_end : (s c old now : Memory) (first count : ℕ) → IsUpTo s c old now first (first + count) [] → now ≡ with_merge s c old first count
-up_end s c old now first count up = same_memory now (with_merge s c old first count)
-    (λ a. elim (cases_lt a (4096 * first)) [
-      | inl below ↦ up.before a below ∙ sym (byte_at-with_merge_out s c old first count a (inl below))
-      | inr above ↦ elim (cases_lt a (4096 * (first + count))) [
-        | inl within ↦ elim (cases_lt a (4096 * up.low)) [
-          | inl merged ↦ up.byte a above merged ∙ sym (byte_at-with_merge s c old first count a above within)
-          | inr high ↦ up.after a high ∙ sym (unchanged_byte s c old a (up.changed.1 a high within)) ∙ sym (byte_at-with_merge s c old first count a above within)
-        ]
-        | inr past ↦ up.after a (omega (arith, up.changed.0)) ∙ sym (byte_at-with_merge_out s c old first count a (inr past))
+-- some pages, and then others, and no other was changed
+pub merged_all : (s c p m n : Memory) (first count : ℕ) (taken merged : List ℕ) → All (λ q. (first ≤ q) × (q < first + count)) taken → All (λ q. (first ≤ q) × (q < first + count)) merged
+    → ((q : ℕ) → first ≤ q → q < first + count → SamePage c s q ⊎ (Contains taken q ⊎ Contains merged q)) → HasMerged s c p taken m → HasMerged s c m merged n → n ≡ with_merge s c p first count
+merged_all s c p m n first count taken merged in_taken in_merged each one two = same_memory n (with_merge s c p first count)
+    (λ a.
+    let q : ℕ = a / 4096 in
+    let k : ℕ = a % 4096 in
+    let e : a ≡ 4096 * q + k = omega arith in
+    subst (λ b. byte_at n b ≡ byte_at (with_merge s c p first count) b) (sym e) (elim (cases_lt q first) [
+      | inl below ↦ beside q k (omega arith) (λ f g. omega arith) ∙ sym (byte_at-with_merge_out s c p first count (4096 * q + k) (inl (omega arith)))
+      | inr above ↦ elim (cases_lt q (first + count)) [
+        | inl here ↦ inside q k (omega arith) above here ∙ sym (byte_at-with_merge s c p first count (4096 * q + k) (omega arith) (omega arith))
+        | inr past ↦ beside q k (omega arith) (λ f g. omega arith) ∙ sym (byte_at-with_merge_out s c p first count (4096 * q + k) (inr (omega arith)))
       ]
-    ])
-    up.permission
+    ]))
+    (λ q. two.permission q ∙ one.permission q)
+  where
+    beside : (q k : ℕ) → k < 4096 → (first ≤ q → q < first + count → ⊥) → byte_at n (4096 * q + k) ≡ byte_at p (4096 * q + k)
+    beside q k low out =
+        two.other q (All-weaker (λ r. (first ≤ r) × (r < first + count)) (λ r. q ≡ r → ⊥) (λ r at is. out (subst (λ t. first ≤ t) (sym is) at.0) (subst (λ t. t < first + count) (sym is) at.1)) merged in_merged) k low
+        ∙ one.other q (All-weaker (λ r. (first ≤ r) × (r < first + count)) (λ r. q ≡ r → ⊥) (λ r at is. out (subst (λ t. first ≤ t) (sym is) at.0) (subst (λ t. t < first + count) (sym is) at.1)) taken in_taken) k low
+
+    -- a page that the second step merges
+    last : (q k : ℕ) → k < 4096 → IsMergedAt s c m n q → byte_at n (4096 * q + k) ≡ merged_byte s c p (4096 * q + k)
+    last q k low merged_q = merged_q k low ∙ merged_again s c p m (4096 * q + k) (at_byte s c p m q (either_way s c p m taken one q) k low)
+
+    -- and one that it leaves
+    left : (q k : ℕ) → k < 4096 → IsMergedAt s c p m q → IsMergedAt s c m n q ⊎ SamePage n m q → byte_at n (4096 * q + k) ≡ merged_byte s c p (4096 * q + k)
+    left q k low at (inl merged_q) = last q k low merged_q
+    left q k low at (inr same) = same k low ∙ at k low
+
+    idle : (q : ℕ) → SamePage c s q → IsMergedAt s c p m q ⊎ SamePage m p q → IsMergedAt s c p m q
+    idle q equal (inl at) = at
+    idle q equal (inr same) = λ k low. same k low ∙ sym (unchanged_byte s c p (4096 * q + k) (equal k low))
+
+    inside : (q k : ℕ) → k < 4096 → first ≤ q → q < first + count → byte_at n (4096 * q + k) ≡ merged_byte s c p (4096 * q + k)
+    inside q k low above below = elim (each q above below) [
+      | inl equal ↦ left q k low (idle q equal (either_way s c p m taken one q)) (either_way s c m n merged two q)
+      | inr rest ↦ elim rest [
+        | inl at ↦ left q k low (All-contains (IsMergedAt s c p m) taken q one.here at) (either_way s c m n merged two q)
+        | inr at ↦ last q k low (All-contains (IsMergedAt s c m n) merged q two.here at)
+      ]
+    ]

@@ -1,11 +1,11 @@
 -- Pages that are overlaid one after the other.
-use Rattle.std.specs.Prelude.{◌≡◌, ℕ, ◌+◌, ◌-◌, ◌*◌, ◌<◌, ◌≤◌, ◌⊎◌, if◌then◌else◌}
+use Rattle.std.specs.Prelude.{◌≡◌, ℕ, ◌+◌, ◌-◌, ◌*◌, ◌≤◌, if◌then◌else◌}
 use Rattle.std.proofs.Common.{sym, ◌∙◌, ap, arith, inl, inr, refl, subst}
 use Rattle.std.proofs.lemmas.Bool.{cases_eq, cases_lt}
 use Rattle.memory_model.specs.Memory.{Memory, byte_at, same_memory}
-use Rattle.merge_model.specs.Merge.{is_changed, merged_byte, with_merge}
+use Rattle.merge_model.specs.Merge.{is_changed, with_merge}
 use Rattle.merge_model.proofs.Merges.{byte_at-with_merge, byte_at-with_merge_out}
-use Rattle.space_mem.specs.Held.{Held, IsClean, IsOutside, KeepsMarks, Owns, SamePage}
+use Rattle.space_mem.specs.Held.{Held, IsClean, IsOutside, Owns, SamePage}
 use Rattle.snapshot.specs.Pages.{IsMerged, IsNextChanged, IsPassedOver, OwnsChanged, SameBytes}
 use Rattle.snapshot.proofs.Lists.{page_of_row}
 use Rattle.snapshot.proofs.Merged.{unchanged_byte}

@@ -1,15 +1,16 @@
-ghost use Rattle.std.specs.Prelude.{◌≡◌, ℕ, ◌*◌, ◌+◌, ◌<◌, ◌≤◌, All, IfErr, IfOk, IsOk, OnErr, OnOk, Some, None};
+ghost use Rattle.std.specs.Prelude.{◌≡◌, ℕ, ◌+◌, ◌<◌, ◌≤◌, All, IfErr, IfOk, IsOk, OnErr, OnOk, Some, None};
 ghost use Rattle.memory_model.specs.Memory.{with_permissions};
-ghost use Rattle.memory_model.specs.Sizes.{greatest_permission, page_size, pages};
+ghost use Rattle.memory_model.specs.Sizes.{greatest_permission, pages};
 ghost use Rattle.merge_model.specs.Merge.{first_conflict, with_merge};
 ghost use Rattle.space_mem.specs.Held.{Covers, IsClean, KeepsMarks, Marks, Owns};
+ghost use Rattle.space_mem.specs.Taken.{IsTakenOver};
 ghost use Rattle.snapshot.specs.Faults.{MayFail};
-ghost use Rattle.snapshot.specs.Pages.{AreChanged, AreSettled, IsEqual, IsPassedOver, NoneInConflict};
+ghost use Rattle.snapshot.specs.Pages.{AreSettled, HasMerged, IsEqual, IsPassedOver, IsSorted};
 
 use crate::changes::{Found, find_changes};
 use crate::fault::MergeError;
-use crate::page::{SIZE, merge_in_page};
-use memory_model::PAGE_SIZE;
+use crate::overlaying::overlay_page;
+use crate::page::SIZE;
 use space_mem::{Mem, Pages};
 use std::alloc::AllocError;
 
@@ -31,52 +32,48 @@ fn own_each(memory: &mut Mem, each: &[u32]) -> Result<(), AllocError>
     Ok(())
 }
 
-// Merges a page that is owned and has no conflict, by way of `scratch`.
-fn merge_one(
-    parent: &mut Mem,
-    child: &Mem,
-    snapshot: &Mem,
-    page: u32,
-    agree: bool,
-    scratch: &mut [u8; SIZE],
-) -> Result<(), MergeError>
-    requires within { page < pages }
-    requires free { NoneInConflict agree snapshot.now.memory child.now.memory parent.old.memory (page_size * page) (page_size * (page + 1)) }
-    requires owned { Owns parent.old page }
-    ensures ok { OnOk result (parent.new.memory ≡ with_merge snapshot.now.memory child.now.memory parent.old.memory page 1) }
-    ensures sure { IsOk result }
-    ensures stays { (p : ℕ) → Owns parent.old p → Owns parent.new p }
-    ensures others { (p : ℕ) → (p ≡ page → ⊥) → KeepsMarks parent.old parent.new p }
-    ensures marks { Marks parent.old parent.new }
+// Makes each of these pages that is kept one that can be shared.
+fn freeze_each(memory: &mut Mem, each: &[u32]) -> Result<(), AllocError>
+    requires { All (λ page. page < pages) each.now }
+    ensures same { memory.new.memory ≡ memory.old.memory }
+    ensures dirty { memory.new.dirty ≡ memory.old.dirty }
 {
-    if !merge_in_page(parent, child, snapshot, page, agree, scratch)? {
-        return Ok(());
+    for page in each {
+        memory.freeze_range(Pages {
+            first: *page,
+            count: 1,
+        })?;
     }
-    parent.write_bytes(PAGE_SIZE * page, scratch)?;
     Ok(())
 }
 
-// Merges the pages of a range that the child changed, which are owned and have no conflict.
-fn merge_each(
-    parent: &mut Mem,
-    child: &Mem,
-    snapshot: &Mem,
-    range: Pages,
-    agree: bool,
-    changed: &[u32],
-) -> Result<(), MergeError>
-    requires changed { AreChanged child.now.memory snapshot.now.memory range.first (range.first + range.count) changed.now }
-    requires free { NoneInConflict agree snapshot.now.memory child.now.memory parent.old.memory (page_size * range.first) (page_size * (range.first + range.count)) }
-    requires owned { All (Owns parent.old) changed.now }
-    ensures ok { OnOk result (parent.new.memory ≡ with_merge snapshot.now.memory child.now.memory parent.old.memory range.first range.count) }
+// Gives the parent's pages the bytes of the child's, which both share then.
+fn take_each(parent: &mut Mem, child: &mut Mem, each: &[u32]) -> Result<(), AllocError>
+    requires { All (λ page. page < pages) each.now }
+    ensures ok { OnOk result (IsTakenOver parent.old.memory child.old.memory each.now parent.new.memory) }
+    ensures err { OnErr result (parent.new.memory ≡ parent.old.memory) }
+    ensures others { (page : ℕ) → All (λ taken. page ≡ taken → ⊥) each.now → KeepsMarks parent.old parent.new page }
+    ensures marks { Marks parent.old parent.new }
+    ensures same_child { child.new.memory ≡ child.old.memory }
+    ensures dirty_child { child.new.dirty ≡ child.old.dirty }
+{
+    freeze_each(child, each)?;
+    parent.take_over(child, each)
+}
+
+// Merges these pages, which are owned, byte by byte.
+fn merge_each(parent: &mut Mem, child: &Mem, snapshot: &Mem, each: &[u32]) -> Result<(), AllocError>
+    requires within { All (λ page. page < pages) each.now }
+    requires owned { All (Owns parent.old) each.now }
+    ensures ok { OnOk result (HasMerged snapshot.now.memory child.now.memory parent.old.memory each.now parent.new.memory) }
     ensures sure { IsOk result }
     ensures stays { (page : ℕ) → Owns parent.old page → Owns parent.new page }
-    ensures others { (page : ℕ) → All (λ merged. page ≡ merged → ⊥) changed.now → KeepsMarks parent.old parent.new page }
+    ensures others { (page : ℕ) → All (λ merged. page ≡ merged → ⊥) each.now → KeepsMarks parent.old parent.new page }
     ensures marks { Marks parent.old parent.new }
 {
     let mut scratch = [0; SIZE];
-    for page in changed {
-        merge_one(parent, child, snapshot, *page, agree, &mut scratch)?;
+    for page in each {
+        overlay_page(parent, child, snapshot, *page, &mut scratch)?;
     }
     Ok(())
 }
@@ -97,19 +94,18 @@ fn unmark_each(child: &mut Mem, snapshot: &Mem, each: &[u32]) -> Result<(), Allo
 }
 
 // What a merge does before it changes a byte: it finds what the child changed, marks as clean what it did not, and owns the parent's pages that
-// will be written. The error is the conflict at the least address of the range, or want of memory.
+// are merged byte by byte. The error is the conflict at the least address of the range, or want of memory.
 fn prepare(
     parent: &mut Mem,
     child: &mut Mem,
     snapshot: &Mem,
     range: Pages,
     agree: bool,
-) -> Result<Vec<u32>, MergeError>
+) -> Result<Found, MergeError>
     requires covers { Covers child.old snapshot.now.memory }
-    ensures changed { IfOk result (λ changed. AreChanged child.new.memory snapshot.now.memory range.first (range.first + range.count) changed.items) }
-    ensures sure { OnOk result (NoneInConflict agree snapshot.now.memory child.new.memory parent.new.memory (page_size * range.first) (page_size * (range.first + range.count))) }
-    ensures owned { IfOk result (λ changed. All (Owns parent.new) changed.items) }
-    ensures passed { IfOk result (λ changed. (page : ℕ) → IsPassedOver child.old snapshot.now.memory range.first (range.first + range.count) page → All (λ own. page ≡ own → ⊥) changed.items) }
+    ensures sorted { IfOk result (λ found. IsSorted parent.new child.old snapshot.now.memory range.first (range.first + range.count) (range.first + range.count) found) }
+    ensures owned { IfOk result (λ found. All (Owns parent.new) found.merged.items) }
+    ensures sure { OnOk result (first_conflict agree snapshot.now.memory child.old.memory parent.old.memory range.first range.count ≡ None) }
     ensures conflict { IfErr result (MayFail (first_conflict agree snapshot.now.memory child.old.memory parent.old.memory range.first range.count)) }
     ensures settled { OnOk result (AreSettled child.new snapshot.now.memory range.first (range.first + range.count)) }
     ensures same { parent.new.memory ≡ parent.old.memory }
@@ -119,10 +115,10 @@ fn prepare(
     ensures kept { (page : ℕ) → IsPassedOver child.old snapshot.now.memory range.first (range.first + range.count) page → KeepsMarks parent.old parent.new page }
     ensures marks { Marks parent.old parent.new }
 {
-    let Found { changed, equal } = find_changes(parent, child, snapshot, range, agree)?;
-    unmark_each(child, snapshot, &equal)?;
-    own_each(parent, &changed)?;
-    Ok(changed)
+    let found = find_changes(parent, child, snapshot, range, agree)?;
+    unmark_each(child, snapshot, &found.equal)?;
+    own_each(parent, &found.merged)?;
+    Ok(found)
 }
 
 /// Merges what a child wrote since its snapshot into its parent's memory (OSDI 2010, the kernel interface: Merge): in each page
@@ -154,8 +150,10 @@ pub fn merge(
     ensures same_child { child.new.memory ≡ child.old.memory }
     ensures covers { Covers child.new snapshot.now.memory }
 {
-    let changed = prepare(parent, child, snapshot, range, agree)?;
-    merge_each(parent, child, snapshot, range, agree, &changed)
+    let found = prepare(parent, child, snapshot, range, agree)?;
+    take_each(parent, child, &found.taken)?;
+    merge_each(parent, child, snapshot, &found.merged)?;
+    Ok(())
 }
 
 /// As `merge`, and each page of the range gets the permission, 0 to 7: 1 reads, 2 writes, 4 executes, and each sum of them allows what its parts
@@ -181,7 +179,10 @@ pub fn merge_and_permit(
     ensures same_child { child.new.memory ≡ child.old.memory }
     ensures covers { Covers child.new snapshot.now.memory }
 {
-    let changed = prepare(parent, child, snapshot, range, agree)?;
+    let found = prepare(parent, child, snapshot, range, agree)?;
+    own_each(parent, &found.taken)?;
     parent.set_perm(range, perm)?;
-    merge_each(parent, child, snapshot, range, agree, &changed)
+    merge_each(parent, child, snapshot, &found.taken)?;
+    merge_each(parent, child, snapshot, &found.merged)?;
+    Ok(())
 }

@@ -76,7 +76,7 @@ pub fn own_changed(
 }
 
 // Overlays a page that is owned, by way of `scratch`.
-fn overlay_page(
+pub fn overlay_page(
     parent: &mut Mem,
     child: &Mem,
     snapshot: &Mem,

@@ -9,3 +9,4 @@ pub mod PageEdits
 pub mod Freezes
 pub mod Copies
 pub mod Alike
+mod Taken

@@ -1,4 +1,4 @@
-ghost use Rattle.std.specs.Prelude.{◌≡◌, ℕ, ◌+◌, ◌*◌, ◌/◌, ◌%◌, ◌^◌, ◌<◌, ◌≤◌, ◌++◌, IfOk, IsOk, OnOk, OnErr, length, vec_len};
+ghost use Rattle.std.specs.Prelude.{◌≡◌, ℕ, ◌+◌, ◌*◌, ◌/◌, ◌%◌, ◌^◌, ◌<◌, ◌≤◌, ◌++◌, IfOk, IfSome, IsOk, OnOk, OnErr, length, vec_len};
 ghost use Rattle.memory_model.specs.Memory.{bytes_from, with_bytes};
 ghost use Rattle.memory_model.specs.Sizes.{page_size, pages};
 ghost use Rattle.space_mem.specs.Held.{HasNoneOf, KeepsMarksOutside, KeepsMarks, Marks, Owns};
@@ -24,6 +24,25 @@ impl Mem {
             done += part;
         }
         Ok(bytes)
+    }
+
+    /// The bytes at `count` addresses from `at` on, whatever the permissions, where the page that has them keeps them; none where it keeps none, or where
+    /// they stand in more pages than one.
+    #[inline(always)]
+    pub fn lent(&self, at: u32, count: u32) -> Option<&[u8]>
+        ensures { IfSome result (λ bytes. bytes.now ≡ bytes_from self.now.memory at count) }
+    {
+        if count == 0 {
+            return Some(&[]);
+        }
+        let place = at % PAGE_SIZE;
+        if count > PAGE_SIZE - place {
+            return None;
+        }
+        match self.page(at / PAGE_SIZE) {
+            Some(page) => Some(&page.bytes()[place as usize..(place + count) as usize]),
+            None => None,
+        }
     }
 
     // Adds the bytes at so many addresses of one page.

@@ -313,7 +313,11 @@ fn move_page(
 }
 
 // What is kept of a page: a shared one is shared, and an own one copied.
-fn share_page(source: &TreeRef, page: usize, alloc: Global) -> Result<Option<PageRef>, AllocError>
+pub fn share_page(
+    source: &TreeRef,
+    page: usize,
+    alloc: Global,
+) -> Result<Option<PageRef>, AllocError>
     requires { page < tree_pages }
     ensures byte { IfOk result (λ kept. (k : ℕ) → byte_in kept k ≡ byte_in (root_page source.now page) k) }
     ensures whole { IfOk result (λ kept. IsWhole kept) }

@@ -15,6 +15,7 @@ mod rights;
 mod same;
 mod sharing;
 mod table;
+mod taking;
 mod writing;
 
 pub use layout::Pages;

@@ -1,4 +1,4 @@
-ghost use Rattle.std.specs.Prelude.{◌≡◌, ℕ, ◌+◌, ◌*◌, ◌/◌, ◌%◌, ◌<◌, ◌≤◌, ◌^◌, length, IfOk, IfSome, IsNone, OnOk, OnErr, IsOk, IsTrue, if◌then◌else◌};
+ghost use Rattle.std.specs.Prelude.{◌≡◌, ◌↔◌, ℕ, ◌+◌, ◌*◌, ◌/◌, ◌%◌, ◌<◌, ◌≤◌, ◌^◌, length, IfOk, IfSome, IsNone, OnOk, OnErr, IsOk, IsTrue, if◌then◌else◌};
 ghost use Rattle.memory_model.specs.Memory.{byte_at, permission_at, may_read, may_fetch, width_bytes, number_from, with_byte, with_bytes, with_permissions, first_without, bytes_from};
 ghost use Rattle.memory_model.specs.Memory as memory;
 ghost use Rattle.memory_model.specs.Sizes.{greatest_permission};
@@ -312,6 +312,14 @@ impl Mem {
         self.own_page(n)?;
         self.write_in_page(4096 * n, page.bytes());
         Ok(())
+    }
+
+    /// Whether a page, below 2^20, is owned: a write to it takes no memory.
+    pub fn owns(&self, page: u32) -> bool
+        requires { page < 1048576 }
+        ensures { IsTrue result ↔ Owns self.now page }
+    {
+        self.table.owns(page)
     }
 
     /// What every memory keeps: bytes below 256 at addresses below 2^32, and permissions up to 7 of pages below 2^20.

@@ -1,4 +1,4 @@
-ghost use Rattle.std.specs.Prelude.{◌≡◌, ℕ, ◌+◌, ◌<◌, ◌≤◌, OnOk, OnErr, IsOk, false, true};
+ghost use Rattle.std.specs.Prelude.{◌≡◌, ◌↔◌, ℕ, ◌+◌, ◌<◌, ◌≤◌, OnOk, OnErr, IsOk, IsTrue, false, true};
 ghost use Rattle.memory_model.specs.Sparse.{no_values, put};
 ghost use Rattle.page_tree.specs.TreeRefs.{root_own};
 ghost use Rattle.memory_model.specs.Sizes.{pages};
@@ -11,6 +11,18 @@ use page_marks::PageMarks;
 use std::alloc::AllocError;
 
 impl PageTable {
+    // Whether a page is owned.
+    pub fn owns(&self, page: u32) -> bool
+        requires { page < pages }
+        ensures { IsTrue result ↔ Owns (held_of self.now) page }
+    {
+        let page = page as usize;
+        match self.pages.next_own(page, page + 1) {
+            Some(_) => true,
+            None => false,
+        }
+    }
+
     // Owns a page, which is dirty then. Where the page is owned, it takes no memory and changes nothing.
     pub fn own_page(&mut self, page: u32) -> Result<(), AllocError>
         requires table { IsTable self.old }
@@ -67,6 +79,7 @@ impl PageTable {
         ensures table { IsTable self.new }
         ensures ok { OnOk result (held_of self.new ≡ record (held_of self.old) { dirty = put (held_of self.old).dirty page 1 }) }
         ensures err { OnErr result (held_of self.new ≡ held_of self.old) }
+        ensures pages { self.new.pages ≡ self.old.pages }
     {
         let at = page as usize;
         self.dirty.prepare(at, at + 1, self.alloc)?;

@@ -1,10 +1,8 @@
-use Rattle.std.proofs.Common.{◌+◌, ◌*◌}
-use Rattle.std.proofs.lemmas.Result.{on_ok_weaker}
-use Rattle.merge_model.proofs.Merges.{first_conflict-none}
-use Rattle.snapshot.proofs.Permitted.{none_was}
+use Rattle.snapshot.proofs.Joined.{joined}
 use Rattle.snapshot.proofs.merging.merge.Goals as goal
 
-pub returns-clause-sure : goal.returns-clause-sure
-returns-clause-sure c =
-    let none = none_was c.args.agree c.args.snapshot.now.memory c.args.child.now.memory c.prepare.new.child.memory c.args.parent.now.memory c.prepare.new.parent.memory (4096 * c.args.range.first) (4096 * (c.args.range.first + c.args.range.count)) c.prepare.ensures.same_child c.prepare.ensures.same c.in_ok-changed.ensures.sure in
-    on_ok_weaker c.merge_each.result (λ _. first_conflict-none c.args.agree c.args.snapshot.now.memory c.args.child.now.memory c.args.parent.now.memory c.args.range.first c.args.range.count none) c.merge_each.ensures.ok
+pub returns-clause-ok : goal.returns-clause-ok
+returns-clause-ok c =
+    joined c.prepare.new.parent c.args.child.now c.args.snapshot.now.memory c.args.parent.now.memory c.prepare.new.child.memory c.take_each.new.child.memory c.take_each.new.parent.memory c.merge_each.new.parent.memory
+    c.args.range.first c.args.range.count c.in_ok-found.found c.deref.result.now c.deref-2.result.now c.in_ok-found.ensures.sorted c.prepare.ensures.same c.prepare.ensures.same_child c.take_each.ensures.same_child c.deref.ensures.value c.deref-2.ensures.value
+    c.in_ok-take_each.ensures.ok c.in_ok-merge_each.ensures.ok

@@ -1,6 +1,6 @@
 use Rattle.std.proofs.Common.{◌≡◌, ℕ, ◌+◌, arith, subst, ◌∙◌, refl}
 use Rattle.space_mem.specs.Held.{Held, IsClean, SamePage}
-use Rattle.snapshot.specs.Pages.{IsNextToMerge, SameBytes}
+use Rattle.snapshot.specs.Pages.{IsNextToMerge}
 use Rattle.snapshot.proofs.Lists.{same_join}
 use Rattle.snapshot.proofs.Overlaid.{same_of}
 use Rattle.snapshot.proofs.overlaying.next_changed.Goals as goal

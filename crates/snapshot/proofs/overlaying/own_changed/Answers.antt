@@ -1,9 +1,7 @@
-use Rattle.std.proofs.Common.{◌+◌, ◌∙◌, arith, refl, subst}
-use Rattle.space_mem.specs.Held.{Held, Owns}
+use Rattle.std.proofs.Common.{◌+◌, ◌∙◌, arith, refl}
 use Rattle.space_mem.proofs.Dirty.{marks_refl, marks_then}
 use Rattle.space_mem.proofs.Kept.{keeps_refl, keeps_then}
-use Rattle.snapshot.specs.Pages.{IsNextChanged, SameBytes}
-use Rattle.snapshot.proofs.Overlaid.{changed_of, same_of, is_outside, not_passed, owned_none, owned_rest, owned_turn, owns_changed}
+use Rattle.snapshot.proofs.Overlaid.{changed_of, same_of, is_outside, not_passed, owned_none, owned_rest, owned_turn}
 use Rattle.snapshot.proofs.overlaying.own_changed.Goals as goal
 
 pub loop-page-init : goal.loop-page-init

@@ -1,4 +1,6 @@
 use Rattle.page_tree.proofs.BlockRanges.{replaced_row, replaced_whole}
+use Rattle.std.proofs.Common.{◌/◌}
+use Rattle.page_tree.proofs.Replaced.{below_stays}
 use Rattle.page_tree.proofs.branch.Branch.replace.Goals as goal
 
 pub returns-clause-replaced : goal.returns-clause-replaced
@@ -6,3 +8,6 @@ returns-clause-replaced c = replaced_row c.args.page c.args.kept c.args.self.now
 
 pub returns-clause-whole : goal.returns-clause-whole
 returns-clause-whole c kept = replaced_whole c.args.page c.args.self.now c.replace_in_block.new.self c.replace_in_block.ensures.others (c.replace_in_block.ensures.whole kept)
+
+pub returns-clause-stays : goal.returns-clause-stays
+returns-clause-stays c other can = below_stays (c.args.page / 64) c.args.self.now c.replace_in_block.new.self c.replace_in_block.ensures.others c.replace_in_block.ensures.ready other can

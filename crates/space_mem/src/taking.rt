@@ -1,0 +1,97 @@
+ghost use Rattle.std.specs.Prelude.{◌≡◌, ℕ, ◌+◌, ◌<◌, ◌≤◌, ◌∷◌, [], All, IfOk, OnOk, OnErr, map};
+ghost use Rattle.memory_model.specs.Sizes.{pages};
+ghost use Rattle.page_marks.specs.Marks.{mark_of};
+ghost use Rattle.page_tree.specs.Replaceable.{ReplaceableRoot};
+ghost use Rattle.space_mem.specs.Held.{KeepsMarks, Marks};
+ghost use Rattle.space_mem.specs.Tables.{IsTable, held_of, memory_of};
+ghost use Rattle.space_mem.specs.Taken.{IsPrepared, IsReadyPut, IsTakenOver, put_page};
+
+use crate::copying::share_page;
+use crate::memory::Mem;
+use crate::table::PageTable;
+use page_store::PageRef;
+use std::alloc::AllocError;
+
+// What is to be kept of a page in place of what is.
+#[derive(Drop)]
+struct Put {
+    page: u32,
+    kept: Option<PageRef>,
+}
+
+impl Mem {
+    /// Gives each of these pages, below 2^20, the bytes of a source's page: one that the source does not own is shared, and an own one copied.
+    /// Permissions stay. The pages are dirty then, and all others owned and dirty where they were. Its one error is want of memory: no byte has
+    /// changed then, the same pages are owned, and some of these pages may be dirty that were not.
+    pub fn take_over(&mut self, source: &Mem, each: &[u32]) -> Result<(), AllocError>
+        requires { All (λ page. page < pages) each.now }
+        ensures ok { OnOk result (IsTakenOver self.old.memory source.now.memory each.now self.new.memory) }
+        ensures err { OnErr result (self.new.memory ≡ self.old.memory) }
+        ensures owned { OnErr result (self.new.owned ≡ self.old.owned) }
+        ensures others { (page : ℕ) → All (λ taken. page ≡ taken → ⊥) each.now → KeepsMarks self.old self.new page }
+        ensures marks { Marks self.old self.new }
+    {
+        self.table.take_over(&source.table, each)
+    }
+}
+
+impl PageTable {
+    // Gives each of these pages the bytes of a source's page; they are dirty then. What may want memory comes before the first byte changes.
+    pub fn take_over(&mut self, source: &PageTable, each: &[u32]) -> Result<(), AllocError>
+        requires table { IsTable self.old }
+        requires within { All (λ page. page < pages) each.now }
+        ensures table { IsTable self.new }
+        ensures ok { OnOk result (IsTakenOver (memory_of self.old.pages) (memory_of source.now.pages) each.now (memory_of self.new.pages)) }
+        ensures err { OnErr result (memory_of self.new.pages ≡ memory_of self.old.pages) }
+        ensures owned { OnErr result ((held_of self.new).owned ≡ (held_of self.old).owned) }
+        ensures others { (page : ℕ) → All (λ taken. page ≡ taken → ⊥) each.now → KeepsMarks (held_of self.old) (held_of self.new) page }
+        ensures marks { Marks (held_of self.old) (held_of self.new) }
+    {
+        let mut puts = self.prepare_each(source, each)?;
+        while let Some(put) = puts.pop() {
+            self.pages.replace(put.page as usize, put.kept);
+        }
+        Ok(())
+    }
+
+    // Makes each of these pages ready to be exchanged, and holds what a source keeps of each. Some of them may be dirty then that were not.
+    fn prepare_each(&mut self, source: &PageTable, each: &[u32]) -> Result<Vec<Put>, AllocError>
+        requires table { IsTable self.old }
+        requires within { All (λ page. page < pages) each.now }
+        ensures prepared { IsPrepared each.now self.old self.new }
+        ensures pages { IfOk result (λ puts. map put_page puts.items ≡ each.now) }
+        ensures ready { IfOk result (λ puts. All (IsReadyPut self.new (memory_of source.now.pages)) puts.items) }
+    {
+        let mut puts = Vec::new(self.alloc);
+        for page in each {
+            let put = self.prepare_put(source, *page)?;
+            puts.push(put)?;
+        }
+        Ok(puts)
+    }
+
+    // Makes a page ready to be exchanged, and holds what a source keeps of it.
+    fn prepare_put(&mut self, source: &PageTable, page: u32) -> Result<Put, AllocError>
+        requires table { IsTable self.old }
+        requires page { page < pages }
+        ensures prepared { IsPrepared (page ∷ []) self.old self.new }
+        ensures page { IfOk result (λ put. put_page put ≡ page) }
+        ensures ready { IfOk result (λ put. IsReadyPut self.new (memory_of source.now.pages) put) }
+    {
+        self.prepare_page(page)?;
+        let kept = share_page(&source.pages, page as usize, self.alloc)?;
+        Ok(Put { page, kept })
+    }
+
+    // Makes a page ready to be exchanged; it is dirty then.
+    fn prepare_page(&mut self, page: u32) -> Result<(), AllocError>
+        requires table { IsTable self.old }
+        requires page { page < pages }
+        ensures prepared { IsPrepared (page ∷ []) self.old self.new }
+        ensures marked { OnOk result (mark_of self.new.dirty page ≡ 1) }
+        ensures ready { OnOk result (ReplaceableRoot page self.new.pages) }
+    {
+        self.mark(page)?;
+        self.pages.own_block(page as usize, self.alloc)
+    }
+}
