@@ -9,7 +9,7 @@ ghost use Rattle.trap_ret.specs.Shapes.{items_of, Fits};
 
 use crate::options::{TREE, has};
 use crate::table::{
-    argument, kind_of, row, wrong_block, wrong_children, wrong_depth, wrong_lengths, wrong_options,
+    argument, row, wrong_block, wrong_children, wrong_depth, wrong_lengths, wrong_options,
     wrong_place, wrong_ranges,
 };
 use call_model::{Badcall, Call, FileCall, Kind, Row, Transfer};
@@ -103,6 +103,7 @@ fn file_get(x: &[u32; 32]) -> FileCall
 }
 
 // The number of the first test that a call of this row fails.
+#[inline(always)]
 fn first_failing(row: Row, x: &[u32; 32], is_root: bool, depth: u8) -> Option<u8>
     ensures { result ≡ table.first_of table.tests row x.now is_root depth }
 {
@@ -126,6 +127,7 @@ fn first_failing(row: Row, x: &[u32; 32], is_root: bool, depth: u8) -> Option<u8
 }
 
 // The call of a kind, with registers that fail no test.
+#[inline(always)]
 #[tactic(auto, unfolding(call_model::specs::Calls::wrong_children, call_model::specs::Calls::wrong_options))]
 fn call_of(kind: Kind, x: &[u32; 32]) -> Call
     requires options { table.wrong_options (table.row kind).options x.now ≡ false }
@@ -193,6 +195,20 @@ fn call_of(kind: Kind, x: &[u32; 32]) -> Call
     }
 }
 
+// The call of a kind, or the number of the first test that it fails. Written out where it is called, it has the tests of its kind alone.
+#[inline(always)]
+#[tactic(auto, using(call_model::proofs::Accepted::named_accepted, call_model::proofs::Accepted::named_options, call_model::proofs::Accepted::named_child))]
+fn read_kind(kind: Kind, x: &[u32; 32], is_root: bool, depth: u8) -> Result<AcceptedCall, Badcall>
+    ensures { result ≡ table.read_as (Some kind) x.now is_root depth }
+{
+    match first_failing(row(kind), x, is_root, depth) {
+        Some(number) => Err(Badcall(number)),
+        None => Ok(AcceptedCall {
+            call: call_of(kind, x),
+        }),
+    }
+}
+
 /// The call that registers x0 to x31 name, at the root or below it, at a depth of at most 8; where they fail a test, the
 /// number of the first. In this order:
 ///
@@ -207,18 +223,29 @@ fn call_of(kind: Kind, x: &[u32; 32]) -> Call
 /// 7. console out or console in of more than 65,536 bytes, or a file call's name, data or buffer of more;
 /// 8. Put, Fork or Tfork at depth 8, Put with Tree at depth 7 or 8;
 /// 9. a register block at no multiple of 4, or above 0xFFFFFF78.
-#[tactic(auto, using(call_model::proofs::Accepted::named_accepted, call_model::proofs::Accepted::named_options, call_model::proofs::Accepted::named_child))]
 pub fn read_call(x: &[u32; 32], is_root: bool, depth: u8) -> Result<AcceptedCall, Badcall>
     ensures { result ≡ table.read x.now is_root depth }
 {
-    let Some(kind) = kind_of(argument(x, 7)) else {
-        return Err(Badcall(1));
-    };
-    match first_failing(row(kind), x, is_root, depth) {
-        Some(number) => Err(Badcall(number)),
-        None => Ok(AcceptedCall {
-            call: call_of(kind, x),
-        }),
+    match argument(x, 7) {
+        call_model::PUT => read_kind(Kind::Put, x, is_root, depth),
+        call_model::GET => read_kind(Kind::Get, x, is_root, depth),
+        call_model::RET => read_kind(Kind::Ret, x, is_root, depth),
+        call_model::CONSOLE_OUT => read_kind(Kind::ConsoleOut, x, is_root, depth),
+        call_model::CONSOLE_IN => read_kind(Kind::ConsoleIn, x, is_root, depth),
+        call_model::CLOCK => read_kind(Kind::Clock, x, is_root, depth),
+        call_model::RANDOM => read_kind(Kind::Random, x, is_root, depth),
+        call_model::FORK => read_kind(Kind::Fork, x, is_root, depth),
+        call_model::WAIT => read_kind(Kind::Wait, x, is_root, depth),
+        call_model::TFORK => read_kind(Kind::Tfork, x, is_root, depth),
+        call_model::TJOIN => read_kind(Kind::Tjoin, x, is_root, depth),
+        call_model::QSTART => read_kind(Kind::Qstart, x, is_root, depth),
+        call_model::QCOMMIT => read_kind(Kind::Qcommit, x, is_root, depth),
+        call_model::FILE_NEW => read_kind(Kind::FileNew, x, is_root, depth),
+        call_model::FILE_PUT => read_kind(Kind::FilePut, x, is_root, depth),
+        call_model::FILE_GET => read_kind(Kind::FileGet, x, is_root, depth),
+        call_model::FILE_LENGTH => read_kind(Kind::FileLength, x, is_root, depth),
+        call_model::FILE_DELETE => read_kind(Kind::FileDelete, x, is_root, depth),
+        _ => Err(Badcall(1)),
     }
 }
 

@@ -17,34 +17,8 @@ use call_model::limits::{
 use call_model::{Children, Kind, Options, Ranges, Row};
 use memory_model::PAGE_SIZE;
 
-/// The kind of call that has this number, if there is one.
-pub(crate) fn kind_of(number: u32) -> Option<Kind>
-    ensures { result ≡ table.kind_of number }
-{
-    match number {
-        call_model::PUT => Some(Kind::Put),
-        call_model::GET => Some(Kind::Get),
-        call_model::RET => Some(Kind::Ret),
-        call_model::CONSOLE_OUT => Some(Kind::ConsoleOut),
-        call_model::CONSOLE_IN => Some(Kind::ConsoleIn),
-        call_model::CLOCK => Some(Kind::Clock),
-        call_model::RANDOM => Some(Kind::Random),
-        call_model::FORK => Some(Kind::Fork),
-        call_model::WAIT => Some(Kind::Wait),
-        call_model::TFORK => Some(Kind::Tfork),
-        call_model::TJOIN => Some(Kind::Tjoin),
-        call_model::QSTART => Some(Kind::Qstart),
-        call_model::QCOMMIT => Some(Kind::Qcommit),
-        call_model::FILE_NEW => Some(Kind::FileNew),
-        call_model::FILE_PUT => Some(Kind::FilePut),
-        call_model::FILE_GET => Some(Kind::FileGet),
-        call_model::FILE_LENGTH => Some(Kind::FileLength),
-        call_model::FILE_DELETE => Some(Kind::FileDelete),
-        _ => None,
-    }
-}
-
 // A call that takes nothing.
+#[inline(always)]
 fn plain(number: u32) -> Row
     ensures { result ≡ table.columns number asked.Nothing children_of.Nobody ranges_of.Nowhere false 0 0 }
 {
@@ -60,6 +34,7 @@ fn plain(number: u32) -> Row
 }
 
 // A call of a device.
+#[inline(always)]
 fn device(number: u32, ranges: Ranges) -> Row
     ensures { result ≡ table.columns number asked.Nothing children_of.Nobody ranges true 0 0 }
 {
@@ -71,6 +46,7 @@ fn device(number: u32, ranges: Ranges) -> Row
 }
 
 // A call on a file.
+#[inline(always)]
 fn file(number: u32, options: Options, ranges: Ranges) -> Row
     ensures { result ≡ table.columns number options children_of.Nobody ranges false 0 0 }
 {
@@ -82,6 +58,7 @@ fn file(number: u32, options: Options, ranges: Ranges) -> Row
 }
 
 // A call of a process or a thread, which names one child.
+#[inline(always)]
 fn child(number: u32, levels: u8) -> Row
     ensures { result ≡ table.columns number asked.Nothing children_of.One ranges_of.Nowhere false levels levels }
 {
@@ -94,6 +71,7 @@ fn child(number: u32, levels: u8) -> Row
 }
 
 // A call that names children in a row, and makes none.
+#[inline(always)]
 fn row_of_children(number: u32, options: Options) -> Row
     ensures { result ≡ table.columns number options children_of.Row ranges_of.Nowhere false 0 0 }
 {
@@ -105,6 +83,7 @@ fn row_of_children(number: u32, options: Options) -> Row
 }
 
 // Put or Get.
+#[inline(always)]
 fn transfer(number: u32, options: Options, levels: u8, tree_levels: u8) -> Row
     ensures { result ≡ table.columns number options children_of.Tree ranges_of.Pages false levels tree_levels }
 {
@@ -119,6 +98,7 @@ fn transfer(number: u32, options: Options, levels: u8, tree_levels: u8) -> Row
 }
 
 /// What the tests on registers are told of a kind.
+#[inline(always)]
 pub(crate) fn row(kind: Kind) -> Row
     ensures { result ≡ table.row kind }
 {
@@ -198,6 +178,7 @@ fn wrong_get_options(options: u32) -> bool
         || has(options, LIMIT)
 }
 
+#[inline(always)]
 fn passes_end(address: u32, size: u32) -> bool
     ensures { result ≡ options_of.passes_end address size }
 {
@@ -232,6 +213,7 @@ fn wrong_block_address(options: u32, block: u32) -> bool
 }
 
 // What says yes or no is neither 1 nor 0.
+#[inline(always)]
 fn wrong_choice(number: u32) -> bool
     ensures { result ≡ table.wrong_choice number }
 {
@@ -239,6 +221,7 @@ fn wrong_choice(number: u32) -> bool
 }
 
 // No number of children in a row.
+#[inline(always)]
 fn wrong_row(count: u32) -> bool
     ensures { result ≡ table.wrong_row count }
 {
@@ -246,6 +229,7 @@ fn wrong_row(count: u32) -> bool
 }
 
 // No quantum.
+#[inline(always)]
 fn wrong_quantum(quantum: u32) -> bool
     ensures { result ≡ table.wrong_quantum quantum }
 {
@@ -253,6 +237,7 @@ fn wrong_quantum(quantum: u32) -> bool
 }
 
 /// Test 2: options that do not stand, or do not stand together; a choice that is none; a row that is empty or too long; or no quantum.
+#[inline(always)]
 #[tactic(auto, unfolding(call_model::specs::Calls::wrong_options))]
 pub(crate) fn wrong_options(options: Options, x: &[u32; 32]) -> bool
     ensures { result ≡ table.wrong_options options x.now }
@@ -268,6 +253,7 @@ pub(crate) fn wrong_options(options: Options, x: &[u32; 32]) -> bool
     }
 }
 
+#[inline(always)]
 fn wrong_child(number: u32) -> bool
     ensures { result ≡ table.wrong_child number }
 {
@@ -275,6 +261,7 @@ fn wrong_child(number: u32) -> bool
 }
 
 // A row of children with a number above the greatest.
+#[inline(always)]
 fn wrong_end(first: u32, count: u32) -> bool
     ensures { result ≡ (table.wrong_child first || nat_lt (greatest_child + 1) (first + count)) }
 {
@@ -282,6 +269,7 @@ fn wrong_end(first: u32, count: u32) -> bool
 }
 
 /// Test 3: a child number above the greatest.
+#[inline(always)]
 #[tactic(auto, unfolding(call_model::specs::Calls::wrong_children))]
 pub(crate) fn wrong_children(children: Children, x: &[u32; 32]) -> bool
     ensures { result ≡ table.wrong_children children x.now }
@@ -299,6 +287,7 @@ pub(crate) fn wrong_children(children: Children, x: &[u32; 32]) -> bool
 }
 
 /// Test 4: bytes that pass the end of memory, or ranges that do not suit the options.
+#[inline(always)]
 #[tactic(auto, unfolding(call_model::specs::Calls::wrong_ranges))]
 pub(crate) fn wrong_ranges(ranges: Ranges, x: &[u32; 32]) -> bool
     ensures { result ≡ table.wrong_ranges ranges x.now }
@@ -319,6 +308,7 @@ pub(crate) fn wrong_ranges(ranges: Ranges, x: &[u32; 32]) -> bool
 }
 
 /// Test 6: a call of a device outside the root.
+#[inline(always)]
 #[tactic(auto, unfolding(call_model::specs::Calls::wrong_place))]
 pub(crate) fn wrong_place(device: bool, is_root: bool) -> bool
     ensures { result ≡ table.wrong_place device is_root }
@@ -326,6 +316,7 @@ pub(crate) fn wrong_place(device: bool, is_root: bool) -> bool
     device && !is_root
 }
 
+#[inline(always)]
 fn wrong_length(length: u32) -> bool
     ensures { result ≡ table.wrong_length length }
 {
@@ -333,6 +324,7 @@ fn wrong_length(length: u32) -> bool
 }
 
 /// Test 7: a length above the greatest.
+#[inline(always)]
 #[tactic(auto, unfolding(call_model::specs::Calls::wrong_lengths))]
 pub(crate) fn wrong_lengths(ranges: Ranges, x: &[u32; 32]) -> bool
     ensures { result ≡ table.wrong_lengths ranges x.now }
@@ -345,6 +337,7 @@ pub(crate) fn wrong_lengths(ranges: Ranges, x: &[u32; 32]) -> bool
 }
 
 // The deepest level below its caller at which a call makes a space.
+#[inline(always)]
 fn new_levels(row: Row, x: &[u32; 32]) -> u8
     ensures { result ≡ table.new_levels row x.now }
 {
@@ -356,6 +349,7 @@ fn new_levels(row: Row, x: &[u32; 32]) -> u8
 }
 
 /// Test 8: a space that would be deeper than the deepest.
+#[inline(always)]
 #[tactic(auto, unfolding(call_model::specs::Calls::wrong_depth))]
 pub(crate) fn wrong_depth(row: Row, x: &[u32; 32], depth: u8) -> bool
     ensures { result ≡ table.wrong_depth row x.now depth }
@@ -364,6 +358,7 @@ pub(crate) fn wrong_depth(row: Row, x: &[u32; 32], depth: u8) -> bool
 }
 
 /// Test 9: a register block of Put or Get that does not stand in memory.
+#[inline(always)]
 #[tactic(auto, unfolding(call_model::specs::Calls::wrong_block))]
 pub(crate) fn wrong_block(options: Options, x: &[u32; 32]) -> bool
     ensures { result ≡ table.wrong_block options x.now }
