@@ -32,25 +32,13 @@ pub(crate) fn read_run(memory: &Mem, offset: u32, out: &mut [u8])
     copy_run(memory, FIRST_ADDRESS + offset, out);
 }
 
-// So many bytes at the addresses from one on, as the page keeps them; none where none are kept. They stand in one page.
-fn page_run(memory: &Mem, at: u32, count: u32) -> Option<&[u8]>
-    requires { at % page_size + count ≤ page_size }
-    ensures { IfSome result (λ run. run.now ≡ bytes_from memory.now.memory at count) }
-{
-    let place = (at % PAGE_SIZE) as usize;
-    match memory.page(at / PAGE_SIZE) {
-        Some(page) => Some(&page.bytes()[place..place + count as usize]),
-        None => None,
-    }
-}
-
 // So many bytes of the slots of files from an offset on, as the page keeps them; none where none are kept. They stand in one page.
 pub(crate) fn lent_run(memory: &Mem, offset: u32, count: u32) -> Option<&[u8]>
     requires within { offset < all_slots_size }
     requires page { offset % page_size + count ≤ page_size }
     ensures { IfSome result (λ run. run.now ≡ slots.bytes_from (file_bytes memory.now.memory) offset count) }
 {
-    page_run(memory, FIRST_ADDRESS + offset, count)
+    memory.lent(FIRST_ADDRESS + offset, count)
 }
 
 // Writes a byte of a page that is owned.

@@ -33,11 +33,14 @@ fn write_console(top: &mut Top, addr: u32, len: u32) -> Result<(), AllocError>
     ensures ok { OnOk result (IfSome top.old.devices (λ d. top.new ≡ event.with_output top.old d (bytes_from top.old.memory addr len))) }
     ensures err { OnErr result (top.new ≡ top.old) }
 {
-    let bytes = top.memory.bytes(top.memory.allocator(), addr, len)?;
-    if let Some(devices) = &mut top.devices {
-        devices.console.extend_from_slice(&bytes)?;
+    let Some(devices) = &mut top.devices else {
+        return Ok(());
+    };
+    if let Some(bytes) = top.memory.lent(addr, len) {
+        return devices.console.extend_from_slice(bytes);
     }
-    Ok(())
+    let bytes = top.memory.bytes(top.memory.allocator(), addr, len)?;
+    devices.console.extend_from_slice(&bytes)
 }
 
 // Console out of a range of memory, which is paid for. At an error nothing has changed.
