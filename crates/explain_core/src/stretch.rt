@@ -141,7 +141,7 @@ fn does<S: Source, W>(
     ensures agrees { S.agrees source.new (view_of memory.new.memory) }
     ensures marks { Marks memory.old memory.new }
 {
-    forget_stored(source, x, instruction);
+    forget_stored(source, x, &instruction);
     perform(pc, x, memory, instruction)
 }
 
@@ -169,7 +169,7 @@ fn step<S: Source, W: Watch>(
     let Ok(instruction) = source.instruction_at(memory.memory(), at) else {
         return false;
     };
-    let seen = watch.may_change(instruction, x);
+    let seen = watch.may_change(&instruction, x);
     let word = word_if(seen, memory.memory(), at);
     let Ok(Stepped::Next) = does(source, pc, x, memory, instruction) else {
         return false;

@@ -19,11 +19,11 @@ pub(crate) trait Watch: Copy {
         ensures { result ≡ value_in (what self) x.now memory.now.memory };
 
     /// Whether an instruction may change what is watched. One that may changes no register besides.
-    fn may_change(self, instruction: FlatInstruction, x: &RegisterFile) -> bool
+    fn may_change(self, instruction: &FlatInstruction, x: &RegisterFile) -> bool
         requires watchable { IsWatchable (what self) }
-        requires fields { HasFields (meaning instruction) }
-        ensures alone { result ≡ true → GivesBack (what self) (meaning instruction) x.now }
-        ensures leaves { result ≡ false → Leaves (what self) (meaning instruction) x.now };
+        requires fields { HasFields (meaning instruction.now) }
+        ensures alone { result ≡ true → GivesBack (what self) (meaning instruction.now) x.now }
+        ensures leaves { result ≡ false → Leaves (what self) (meaning instruction.now) x.now };
 
     /// The registers before an instruction that may change what is watched, by those behind it and by what was watched before it.
     fn given_back(self, after: RegisterFile, value: u32) -> RegisterFile
@@ -45,10 +45,10 @@ pub(crate) struct RegisterWatch {
 
 // The register that an instruction has for its result; x0, which stays 0, of one that has none.
 #[inline(always)]
-fn result_register(instruction: FlatInstruction) -> u8
-    ensures { result ≡ result_register (meaning instruction) }
+fn result_register(instruction: &FlatInstruction) -> u8
+    ensures { result ≡ result_register (meaning instruction.now) }
 {
-    match instruction {
+    match *instruction {
         FlatInstruction::Lui { rd, .. }
         | FlatInstruction::Auipc { rd, .. }
         | FlatInstruction::Jal { rd, .. }
@@ -76,18 +76,18 @@ fn result_register(instruction: FlatInstruction) -> u8
         | FlatInstruction::Srl { rd, .. }
         | FlatInstruction::Sra { rd, .. }
         | FlatInstruction::Or { rd, .. }
-        | FlatInstruction::And { rd, .. } => rd,
+        | FlatInstruction::And { rd, .. } => rd.number(),
         _ => 0,
     }
 }
 
 // Whether an instruction stores into the aligned word of an address.
 #[inline(always)]
-fn stores_into(instruction: FlatInstruction, x: &RegisterFile, address: u32) -> bool
-    requires { HasFields (meaning instruction) }
-    ensures { result ≡ stores_into (meaning instruction) x.now address }
+fn stores_into(instruction: &FlatInstruction, x: &RegisterFile, address: u32) -> bool
+    requires { HasFields (meaning instruction.now) }
+    ensures { result ≡ stores_into (meaning instruction.now) x.now address }
 {
-    match instruction {
+    match *instruction {
         FlatInstruction::Store { rs1, immediate, .. } => {
             x.register(rs1).wrapping_add(immediate) / 4 == address / 4
         }
@@ -107,7 +107,7 @@ impl Watch for ByteWatch {
 
     #[inline(always)]
     #[tactic(auto, using(crate::proofs::Leaving::leaves_byte, crate::proofs::Leaving::gives_back_byte))]
-    fn may_change(self, instruction: FlatInstruction, x: &RegisterFile) -> bool {
+    fn may_change(self, instruction: &FlatInstruction, x: &RegisterFile) -> bool {
         stores_into(instruction, x, self.address)
     }
 
@@ -129,7 +129,7 @@ impl Watch for RegisterWatch {
 
     #[inline(always)]
     #[tactic(auto, using(crate::proofs::Leaving::leaves_register, crate::proofs::Leaving::gives_back_register))]
-    fn may_change(self, instruction: FlatInstruction, _x: &RegisterFile) -> bool {
+    fn may_change(self, instruction: &FlatInstruction, _x: &RegisterFile) -> bool {
         result_register(instruction) == self.number
     }
 

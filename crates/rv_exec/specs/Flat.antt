@@ -1,5 +1,6 @@
 -- What a flat instruction means.
--- Our choice: one name for each instruction that computes, branches or loads, in place of one for a format and another for what it does.
+-- Our choice: one name for each instruction that computes, branches or loads, in place of one for a format and another for what it does; and names of their
+-- own for those whose result goes to x0, so nowhere.
 use Rattle.instruction_model.specs.declared.Comparison.TheVariants as comparison
 use Rattle.instruction_model.specs.declared.LoadKind.TheVariants as kind
 use Rattle.instruction_model.specs.declared.Operation.TheVariants as operation
@@ -12,7 +13,9 @@ abbrev pub meaning : FlatInstruction → Instruction
 meaning (flat.Lui r v) = plain.Lui r v
 meaning (flat.Auipc r v) = plain.Auipc r v
 meaning (flat.Jal r v) = plain.Jal r v
+meaning (flat.J v) = plain.Jal 0 v
 meaning (flat.Jalr r a v) = plain.Jalr r a v
+meaning (flat.Jr a v) = plain.Jalr 0 a v
 meaning (flat.Beq a b v) = plain.Branch comparison.Beq a b v
 meaning (flat.Bne a b v) = plain.Branch comparison.Bne a b v
 meaning (flat.Blt a b v) = plain.Branch comparison.Blt a b v
@@ -44,6 +47,11 @@ meaning (flat.Srl r a b) = plain.Operate operation.Srl r a b
 meaning (flat.Sra r a b) = plain.Operate operation.Sra r a b
 meaning (flat.Or r a b) = plain.Operate operation.Or r a b
 meaning (flat.And r a b) = plain.Operate operation.And r a b
+meaning (flat.DiscardLui v) = plain.Lui 0 v
+meaning (flat.DiscardAuipc v) = plain.Auipc 0 v
+meaning (flat.DiscardLoad k a v) = plain.Load k 0 a v
+meaning (flat.DiscardImmediate o a v) = plain.OperateImmediate o 0 a v
+meaning (flat.DiscardOperation o a b) = plain.Operate o 0 a b
 meaning flat.Fence = plain.Fence
 meaning flat.Ecall = plain.Ecall
 meaning flat.Ebreak = plain.Ebreak

@@ -3,29 +3,15 @@ ghost use Rattle.instruction_model.specs.Form.{HasFields};
 ghost use Rattle.instruction_model.specs.declared.Instruction.TheVariants as plain;
 ghost use Rattle.rv_exec.specs.Flat.{meaning};
 
+use crate::regs::Destination;
 use rv_decode::{Comparison, Instr, Instruction, LoadKind, Operation, Width};
 
 /// An instruction by its own name where its format has several that compute, branch or load, so that one look says what is to be done (RISC-V
-/// Unprivileged ISA, RV32I instruction set listing). Registers are 0 to 31.
+/// Unprivileged ISA, RV32I instruction set listing). Sources are registers 0 to 31. One whose result goes nowhere, since it names x0, has a name of its own,
+/// so that no write of a register asks which one it is: `J` and `Jr` keep no link, and of what discards its result the next instruction is left, or the
+/// fault of a load.
 #[derive(Clone, Copy)]
 pub enum FlatInstruction {
-    Lui {
-        rd: u8,
-        immediate: u32,
-    },
-    Auipc {
-        rd: u8,
-        immediate: u32,
-    },
-    Jal {
-        rd: u8,
-        immediate: u32,
-    },
-    Jalr {
-        rd: u8,
-        rs1: u8,
-        immediate: u32,
-    },
     Beq {
         rs1: u8,
         rs2: u8,
@@ -56,28 +42,52 @@ pub enum FlatInstruction {
         rs2: u8,
         immediate: u32,
     },
+    Lui {
+        rd: Destination,
+        immediate: u32,
+    },
+    Auipc {
+        rd: Destination,
+        immediate: u32,
+    },
+    Jal {
+        rd: Destination,
+        immediate: u32,
+    },
+    J {
+        immediate: u32,
+    },
+    Jalr {
+        rd: Destination,
+        rs1: u8,
+        immediate: u32,
+    },
+    Jr {
+        rs1: u8,
+        immediate: u32,
+    },
     Lb {
-        rd: u8,
+        rd: Destination,
         rs1: u8,
         immediate: u32,
     },
     Lh {
-        rd: u8,
+        rd: Destination,
         rs1: u8,
         immediate: u32,
     },
     Lw {
-        rd: u8,
+        rd: Destination,
         rs1: u8,
         immediate: u32,
     },
     Lbu {
-        rd: u8,
+        rd: Destination,
         rs1: u8,
         immediate: u32,
     },
     Lhu {
-        rd: u8,
+        rd: Destination,
         rs1: u8,
         immediate: u32,
     },
@@ -88,97 +98,118 @@ pub enum FlatInstruction {
         immediate: u32,
     },
     Addi {
-        rd: u8,
+        rd: Destination,
         rs1: u8,
         immediate: u32,
     },
     Slli {
-        rd: u8,
+        rd: Destination,
         rs1: u8,
         immediate: u32,
     },
     Slti {
-        rd: u8,
+        rd: Destination,
         rs1: u8,
         immediate: u32,
     },
     Sltiu {
-        rd: u8,
+        rd: Destination,
         rs1: u8,
         immediate: u32,
     },
     Xori {
-        rd: u8,
+        rd: Destination,
         rs1: u8,
         immediate: u32,
     },
     Srli {
-        rd: u8,
+        rd: Destination,
         rs1: u8,
         immediate: u32,
     },
     Srai {
-        rd: u8,
+        rd: Destination,
         rs1: u8,
         immediate: u32,
     },
     Ori {
-        rd: u8,
+        rd: Destination,
         rs1: u8,
         immediate: u32,
     },
     Andi {
-        rd: u8,
+        rd: Destination,
         rs1: u8,
         immediate: u32,
     },
     Add {
-        rd: u8,
+        rd: Destination,
         rs1: u8,
         rs2: u8,
     },
     Sub {
-        rd: u8,
+        rd: Destination,
         rs1: u8,
         rs2: u8,
     },
     Sll {
-        rd: u8,
+        rd: Destination,
         rs1: u8,
         rs2: u8,
     },
     Slt {
-        rd: u8,
+        rd: Destination,
         rs1: u8,
         rs2: u8,
     },
     Sltu {
-        rd: u8,
+        rd: Destination,
         rs1: u8,
         rs2: u8,
     },
     Xor {
-        rd: u8,
+        rd: Destination,
         rs1: u8,
         rs2: u8,
     },
     Srl {
-        rd: u8,
+        rd: Destination,
         rs1: u8,
         rs2: u8,
     },
     Sra {
-        rd: u8,
+        rd: Destination,
         rs1: u8,
         rs2: u8,
     },
     Or {
-        rd: u8,
+        rd: Destination,
         rs1: u8,
         rs2: u8,
     },
     And {
-        rd: u8,
+        rd: Destination,
+        rs1: u8,
+        rs2: u8,
+    },
+    DiscardLui {
+        immediate: u32,
+    },
+    DiscardAuipc {
+        immediate: u32,
+    },
+    DiscardLoad {
+        kind: LoadKind,
+        rs1: u8,
+        immediate: u32,
+    },
+    DiscardImmediate {
+        operation: Operation,
+        rs1: u8,
+        immediate: u32,
+    },
+    DiscardOperation {
+        operation: Operation,
         rs1: u8,
         rs2: u8,
     },
@@ -224,7 +255,7 @@ fn flat_branch(comparison: Comparison, rs1: u8, rs2: u8, immediate: u32) -> Flat
     }
 }
 
-fn flat_load(kind: LoadKind, rd: u8, rs1: u8, immediate: u32) -> FlatInstruction
+fn load_into(kind: LoadKind, rd: Destination, rs1: u8, immediate: u32) -> FlatInstruction
     ensures { meaning result ≡ plain.Load kind rd rs1 immediate }
 {
     match kind {
@@ -236,7 +267,7 @@ fn flat_load(kind: LoadKind, rd: u8, rs1: u8, immediate: u32) -> FlatInstruction
     }
 }
 
-fn flat_immediate(operation: Operation, rd: u8, rs1: u8, immediate: u32) -> FlatInstruction
+fn immediate_into(operation: Operation, rd: Destination, rs1: u8, immediate: u32) -> FlatInstruction
     requires { HasFields (plain.OperateImmediate operation rd rs1 immediate) }
     ensures { meaning result ≡ plain.OperateImmediate operation rd rs1 immediate }
 {
@@ -255,7 +286,7 @@ fn flat_immediate(operation: Operation, rd: u8, rs1: u8, immediate: u32) -> Flat
     }
 }
 
-fn flat_operation(operation: Operation, rd: u8, rs1: u8, rs2: u8) -> FlatInstruction
+fn operation_into(operation: Operation, rd: Destination, rs1: u8, rs2: u8) -> FlatInstruction
     ensures { meaning result ≡ plain.Operate operation rd rs1 rs2 }
 {
     match operation {
@@ -272,16 +303,98 @@ fn flat_operation(operation: Operation, rd: u8, rs1: u8, rs2: u8) -> FlatInstruc
     }
 }
 
+fn flat_lui(rd: u8, immediate: u32) -> FlatInstruction
+    requires { HasFields (plain.Lui rd immediate) }
+    ensures { meaning result ≡ plain.Lui rd immediate }
+{
+    match Destination::of(rd) {
+        Some(rd) => FlatInstruction::Lui { rd, immediate },
+        None => FlatInstruction::DiscardLui { immediate },
+    }
+}
+
+fn flat_auipc(rd: u8, immediate: u32) -> FlatInstruction
+    requires { HasFields (plain.Auipc rd immediate) }
+    ensures { meaning result ≡ plain.Auipc rd immediate }
+{
+    match Destination::of(rd) {
+        Some(rd) => FlatInstruction::Auipc { rd, immediate },
+        None => FlatInstruction::DiscardAuipc { immediate },
+    }
+}
+
+fn flat_jal(rd: u8, immediate: u32) -> FlatInstruction
+    requires { HasFields (plain.Jal rd immediate) }
+    ensures { meaning result ≡ plain.Jal rd immediate }
+{
+    match Destination::of(rd) {
+        Some(rd) => FlatInstruction::Jal { rd, immediate },
+        None => FlatInstruction::J { immediate },
+    }
+}
+
+fn flat_jalr(rd: u8, rs1: u8, immediate: u32) -> FlatInstruction
+    requires { HasFields (plain.Jalr rd rs1 immediate) }
+    ensures { meaning result ≡ plain.Jalr rd rs1 immediate }
+{
+    match Destination::of(rd) {
+        Some(rd) => FlatInstruction::Jalr { rd, rs1, immediate },
+        None => FlatInstruction::Jr { rs1, immediate },
+    }
+}
+
+fn flat_load(kind: LoadKind, rd: u8, rs1: u8, immediate: u32) -> FlatInstruction
+    requires { HasFields (plain.Load kind rd rs1 immediate) }
+    ensures { meaning result ≡ plain.Load kind rd rs1 immediate }
+{
+    match Destination::of(rd) {
+        Some(rd) => load_into(kind, rd, rs1, immediate),
+        None => FlatInstruction::DiscardLoad {
+            kind,
+            rs1,
+            immediate,
+        },
+    }
+}
+
+fn flat_immediate(operation: Operation, rd: u8, rs1: u8, immediate: u32) -> FlatInstruction
+    requires { HasFields (plain.OperateImmediate operation rd rs1 immediate) }
+    ensures { meaning result ≡ plain.OperateImmediate operation rd rs1 immediate }
+{
+    match Destination::of(rd) {
+        Some(rd) => immediate_into(operation, rd, rs1, immediate),
+        None => FlatInstruction::DiscardImmediate {
+            operation,
+            rs1,
+            immediate,
+        },
+    }
+}
+
+fn flat_operation(operation: Operation, rd: u8, rs1: u8, rs2: u8) -> FlatInstruction
+    requires { HasFields (plain.Operate operation rd rs1 rs2) }
+    ensures { meaning result ≡ plain.Operate operation rd rs1 rs2 }
+{
+    match Destination::of(rd) {
+        Some(rd) => operation_into(operation, rd, rs1, rs2),
+        None => FlatInstruction::DiscardOperation {
+            operation,
+            rs1,
+            rs2,
+        },
+    }
+}
+
 /// The flat instruction of an instruction.
 pub fn flat_of(instr: Instr) -> FlatInstruction
     ensures meaning { meaning result ≡ instr }
     ensures fields { HasFields (meaning result) }
 {
     match instr.instruction() {
-        Instruction::Lui { rd, immediate } => FlatInstruction::Lui { rd, immediate },
-        Instruction::Auipc { rd, immediate } => FlatInstruction::Auipc { rd, immediate },
-        Instruction::Jal { rd, immediate } => FlatInstruction::Jal { rd, immediate },
-        Instruction::Jalr { rd, rs1, immediate } => FlatInstruction::Jalr { rd, rs1, immediate },
+        Instruction::Lui { rd, immediate } => flat_lui(rd, immediate),
+        Instruction::Auipc { rd, immediate } => flat_auipc(rd, immediate),
+        Instruction::Jal { rd, immediate } => flat_jal(rd, immediate),
+        Instruction::Jalr { rd, rs1, immediate } => flat_jalr(rd, rs1, immediate),
         Instruction::Branch {
             comparison,
             rs1,

@@ -9,6 +9,6 @@ mod stepping;
 
 pub use bus::{Bus, Fault, StoreFault};
 pub use flat::{FlatInstruction, flat_of};
-pub use regs::{RegisterFile, Regs};
+pub use regs::{Destination, RegisterFile, Regs};
 pub use rv_decode::Width;
 pub use stepping::{Stepped, perform, step};

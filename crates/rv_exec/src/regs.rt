@@ -1,4 +1,4 @@
-ghost use Rattle.std.specs.Prelude.{◌≡◌, ℕ, ◌<◌, ◌==◌, ◌^◌, if◌then◌else◌, replicate, slice_index, slice_set};
+ghost use Rattle.std.specs.Prelude.{◌≡◌, ℕ, ◌<◌, ◌≤◌, ◌==◌, ◌^◌, IfSome, IsNone, if◌then◌else◌, replicate, slice_index, slice_set};
 ghost use Rattle.instruction_model.specs.Outcome as outcome;
 
 use std::marker::Model;
@@ -70,6 +70,50 @@ impl Regs {
     }
 }
 
+/// A register that a result goes to, x1 to x31; what is written to x0 goes nowhere (RISC-V Unprivileged ISA, RV32I, programmers' model). Contracts see its
+/// number.
+#[derive(Clone, Copy)]
+pub struct Destination {
+    number: u8,
+}
+
+impl Model for Destination {
+    ghost use Rattle.std.specs.Prelude.{◌≤◌, ◌<◌, ℕ};
+
+    ghost Value = { ℕ };
+
+    ghost view = { λ d. d.number };
+
+    ghost invariant = { λ d. (1 ≤ d.number) × (d.number < 32) };
+
+    ghost inverse = { λ n. record { number = n } };
+}
+
+impl Destination {
+    /// The register of a number, 0 to 31; none for x0.
+    #[inline(always)]
+    pub fn of(number: u8) -> Option<Destination>
+        requires { number < 32 }
+        ensures some { IfSome result (λ d. d ≡ number) }
+        ensures none { IsNone result → number ≡ 0 }
+    {
+        if number == 0 {
+            return None;
+        }
+        Some(Destination { number })
+    }
+
+    /// Its number, 1 to 31.
+    #[inline(always)]
+    pub fn number(self) -> u8
+        ensures value { result ≡ self }
+        ensures some { 1 ≤ result }
+        ensures register { result < 32 }
+    {
+        self.number
+    }
+}
+
 /// x0 to x31, while pc stands apart (RISC-V Unprivileged ISA, RV32I, programmers' model). x0 is 0.
 #[derive(Clone, Copy)]
 pub struct RegisterFile {
@@ -98,7 +142,16 @@ impl RegisterFile {
         self.x[number as usize]
     }
 
-    /// Writes register 0 to 31; x0 stays 0, since it is written behind each. So a write asks for no test.
+    /// Writes a register that a result goes to. It asks for no test, since that is not x0.
+    #[inline(always)]
+    #[tactic(auto, using(crate::proofs::Registers::first_stays, crate::proofs::Registers::other_written))]
+    pub fn write(&mut self, rd: Destination, value: u32)
+        ensures { self.new ≡ (if rd == 0 then self.old else slice_set self.old rd value) }
+    {
+        self.x[rd.number as usize] = value;
+    }
+
+    /// Writes register 0 to 31; x0 stays 0, since it is written behind each.
     #[inline(always)]
     #[tactic(auto, using(crate::proofs::Registers::zero_stays))]
     pub fn set_register(&mut self, number: u8, value: u32)

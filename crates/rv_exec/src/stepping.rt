@@ -9,7 +9,7 @@ ghost use Rattle.rv_exec.specs.Steps.{Moves, Steps, registers_at};
 use crate::arithmetic::{compares, extension_of, loaded_width, operation_result, width_bytes};
 use crate::bus::{Bus, StoreFault};
 use crate::flat::{FlatInstruction, flat_of};
-use crate::regs::{RegisterFile, Regs};
+use crate::regs::{Destination, RegisterFile, Regs};
 use rv_decode::{Comparison, LoadKind, Operation, Width, decode};
 use std::alloc::AllocError;
 
@@ -45,10 +45,9 @@ fn load<B: Bus>(
     x: &mut RegisterFile,
     bus: &mut B,
     kind: LoadKind,
-    rd: u8,
+    rd: Destination,
     at: u32,
 ) -> Result<Stepped, AllocError>
-    requires { rd < 32 }
     ensures { Steps B.stored (B.takes_memory bus.old) (outcome.loads kind (B.view bus.old) (registers_at pc.old x.old) rd at) result (registers_at pc.old x.old) bus.old (registers_at pc.new x.new) bus.new }
 {
     let width = loaded_width(kind);
@@ -57,6 +56,30 @@ fn load<B: Bus>(
     }
     match bus.load(at, width) {
         Ok(value) => finish(pc, x, rd, extension_of(kind, value)),
+        Err(fault) => trap(fault.cause, fault.addr),
+    }
+}
+
+// A load whose value goes nowhere: its fault alone is left.
+#[inline(always)]
+fn probe<B: Bus>(
+    pc: &mut u32,
+    x: &RegisterFile,
+    bus: &mut B,
+    kind: LoadKind,
+    at: u32,
+) -> Result<Stepped, AllocError>
+    ensures { Steps B.stored (B.takes_memory bus.old) (outcome.loads kind (B.view bus.old) (registers_at pc.old x.now) 0 at) result (registers_at pc.old x.now) bus.old (registers_at pc.new x.now) bus.new }
+{
+    let width = loaded_width(kind);
+    if at % width_bytes(width) != 0 {
+        return trap(4, at);
+    }
+    match bus.load(at, width) {
+        Ok(_) => {
+            advance(pc);
+            Ok(Stepped::Next)
+        }
         Err(fault) => trap(fault.cause, fault.addr),
     }
 }
@@ -87,26 +110,46 @@ fn store<B: Bus>(
 
 // A jump, which writes its link only where it is made.
 #[inline(always)]
-fn jump(pc: &mut u32, x: &mut RegisterFile, rd: u8, target: u32) -> Result<Stepped, AllocError>
-    requires { rd < 32 }
+fn jump(
+    pc: &mut u32,
+    x: &mut RegisterFile,
+    rd: Destination,
+    target: u32,
+) -> Result<Stepped, AllocError>
     ensures { Moves (outcome.jumps (outcome.with_link (registers_at pc.old x.old) rd) target) result (registers_at pc.old x.old) (registers_at pc.new x.new) }
 {
     if target % 4 != 0 {
         return trap(0, target);
     }
-    x.set_register(rd, pc.wrapping_add(4));
+    x.write(rd, pc.wrapping_add(4));
+    *pc = target;
+    Ok(Stepped::Next)
+}
+
+// A jump that keeps no link.
+#[inline(always)]
+fn go(pc: &mut u32, x: &RegisterFile, target: u32) -> Result<Stepped, AllocError>
+    ensures { Moves (outcome.jumps (outcome.with_link (registers_at pc.old x.now) 0) target) result (registers_at pc.old x.now) (registers_at pc.new x.now) }
+{
+    if target % 4 != 0 {
+        return trap(0, target);
+    }
     *pc = target;
     Ok(Stepped::Next)
 }
 
 // A result, and the next instruction.
 #[inline(always)]
-fn finish(pc: &mut u32, x: &mut RegisterFile, rd: u8, value: u32) -> Result<Stepped, AllocError>
-    requires { rd < 32 }
+fn finish(
+    pc: &mut u32,
+    x: &mut RegisterFile,
+    rd: Destination,
+    value: u32,
+) -> Result<Stepped, AllocError>
     ensures { Moves (goes (outcome.results (registers_at pc.old x.old) rd value)) result (registers_at pc.old x.old) (registers_at pc.new x.new) }
 {
     advance(pc);
-    x.set_register(rd, value);
+    x.write(rd, value);
     Ok(Stepped::Next)
 }
 
@@ -143,12 +186,11 @@ fn load_by<B: Bus>(
     x: &mut RegisterFile,
     bus: &mut B,
     kind: LoadKind,
-    rd: u8,
+    rd: Destination,
     rs1: u8,
     immediate: u32,
 ) -> Result<Stepped, AllocError>
-    requires result { rd < 32 }
-    requires first { rs1 < 32 }
+    requires { rs1 < 32 }
     ensures { Steps B.stored (B.takes_memory bus.old) (outcome.loads kind (B.view bus.old) (registers_at pc.old x.old) rd (outcome.offset (slice_index x.old rs1) immediate)) result (registers_at pc.old x.old) bus.old (registers_at pc.new x.new) bus.new }
 {
     let at = x.register(rs1).wrapping_add(immediate);
@@ -161,12 +203,11 @@ fn operate_immediate(
     pc: &mut u32,
     x: &mut RegisterFile,
     operation: Operation,
-    rd: u8,
+    rd: Destination,
     rs1: u8,
     immediate: u32,
 ) -> Result<Stepped, AllocError>
-    requires result { rd < 32 }
-    requires first { rs1 < 32 }
+    requires { rs1 < 32 }
     ensures { Moves (goes (outcome.results (registers_at pc.old x.old) rd (arithmetic.operation_result operation (slice_index x.old rs1) immediate))) result (registers_at pc.old x.old) (registers_at pc.new x.new) }
 {
     let value = operation_result(operation, x.register(rs1), immediate);
@@ -179,11 +220,10 @@ fn operate(
     pc: &mut u32,
     x: &mut RegisterFile,
     operation: Operation,
-    rd: u8,
+    rd: Destination,
     rs1: u8,
     rs2: u8,
 ) -> Result<Stepped, AllocError>
-    requires result { rd < 32 }
     requires first { rs1 < 32 }
     requires second { rs2 < 32 }
     ensures { Moves (goes (outcome.results (registers_at pc.old x.old) rd (arithmetic.operation_result operation (slice_index x.old rs1) (slice_index x.old rs2)))) result (registers_at pc.old x.old) (registers_at pc.new x.new) }
@@ -214,9 +254,17 @@ pub fn perform<B: Bus>(
             let target = pc.wrapping_add(immediate);
             jump(pc, x, rd, target)
         }
+        FlatInstruction::J { immediate } => {
+            let target = pc.wrapping_add(immediate);
+            go(pc, x, target)
+        }
         FlatInstruction::Jalr { rd, rs1, immediate } => {
             let target = x.register(rs1).wrapping_add(immediate);
             jump(pc, x, rd, target - target % 2)
+        }
+        FlatInstruction::Jr { rs1, immediate } => {
+            let target = x.register(rs1).wrapping_add(immediate);
+            go(pc, x, target - target % 2)
         }
         FlatInstruction::Beq {
             rs1,
@@ -385,7 +433,19 @@ pub fn perform<B: Bus>(
         FlatInstruction::Sra { rd, rs1, rs2 } => operate(pc, x, Operation::Sra, rd, rs1, rs2),
         FlatInstruction::Or { rd, rs1, rs2 } => operate(pc, x, Operation::Or, rd, rs1, rs2),
         FlatInstruction::And { rd, rs1, rs2 } => operate(pc, x, Operation::And, rd, rs1, rs2),
-        FlatInstruction::Fence => {
+        FlatInstruction::DiscardLoad {
+            kind,
+            rs1,
+            immediate,
+        } => {
+            let at = x.register(rs1).wrapping_add(immediate);
+            probe(pc, x, bus, kind, at)
+        }
+        FlatInstruction::DiscardLui { .. }
+        | FlatInstruction::DiscardAuipc { .. }
+        | FlatInstruction::DiscardImmediate { .. }
+        | FlatInstruction::DiscardOperation { .. }
+        | FlatInstruction::Fence => {
             advance(pc);
             Ok(Stepped::Next)
         }

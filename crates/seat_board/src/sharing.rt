@@ -13,6 +13,7 @@ use crate::desk::Desk;
 use crate::known::Known;
 use crate::pass::Pass;
 use crate::seat_board::SeatBoard;
+use crate::seat_turn::SeatTurn;
 use crate::seats::Seats;
 use board::Board;
 use std::alloc::AllocError;
@@ -49,6 +50,7 @@ pub(crate) fn boards_may_be_shared()
     ensures { IsSync board.the_row }
 {
     may_be_sent::<Board>();
+    may_be_sent::<Vec<SeatTurn>>();
     may_be_sent::<Desk>();
     may_be_shared::<TicketLock<Desk, Known, Beginning, Seats>>();
     may_be_shared::<SeatBoard>();

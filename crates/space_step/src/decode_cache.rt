@@ -35,8 +35,9 @@ impl Entry {
     {
         Entry {
             key: EMPTY,
-            instruction: FlatInstruction::Lui {
-                rd: 0,
+            instruction: FlatInstruction::Beq {
+                rs1: 0,
+                rs2: 0,
                 immediate: 0,
             },
         }
@@ -48,6 +49,14 @@ impl Entry {
 pub struct Table {
     first: u64,
     entries: [Entry; ENTRIES],
+}
+
+// As many entries as a cache has, of which each keeps nothing.
+#[inline(always)]
+fn empty_entries() -> [Entry; ENTRIES]
+    ensures { (e : Entry) × (e.key ≡ 0) × (result ≡ replicate ENTRIES e) }
+{
+    [Entry::empty(); ENTRIES]
 }
 
 // The place of the entry for the word of an address.
@@ -159,7 +168,7 @@ impl Table {
     fn clear(&mut self)
         ensures { (v : View) → Agrees v self.new }
     {
-        self.entries = [Entry::empty(); ENTRIES];
+        self.entries = empty_entries();
         self.begin();
     }
 

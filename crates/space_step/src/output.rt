@@ -1,5 +1,4 @@
 ghost use Rattle.std.specs.Prelude.{◌≡◌, ℕ, Bool, ◌+◌, ◌-◌, ◌^◌, ◌≤◌, ◌<◌, ◌++◌, length, IfOk, IfSome};
-ghost use Rattle.memory_model.specs.Memory.{bytes_from};
 ghost use Rattle.call_model.specs.Limits.{greatest_depth, levels_below};
 ghost use Rattle.instruction_model.specs.Outcome.{view_of};
 ghost use Rattle.space_model.specs.Sound.{IsSoundTop};
@@ -10,8 +9,6 @@ use crate::decode_cache::DecodeCache;
 use crate::event::{Advance, Next};
 use crate::running::{Progress, proceed};
 use crate::source::Source;
-use memory_model::PAGE_SIZE;
-use space_mem::Mem;
 use space_tree::Top;
 use std::alloc::AllocError;
 
@@ -20,27 +17,13 @@ const A1: usize = 11;
 
 const A2: usize = 12;
 
-// The bytes at so many addresses, where they stand in one page, one that has bytes of its own.
-fn lent_run(memory: &Mem, at: u32, count: u32) -> Option<&[u8]>
-    ensures { IfSome result (λ bytes. bytes.now ≡ bytes_from memory.now.memory at count) }
-{
-    let place = at % PAGE_SIZE;
-    if count > PAGE_SIZE - place {
-        return None;
-    }
-    match memory.page(at / PAGE_SIZE) {
-        Some(page) => Some(&page.bytes()[place as usize..(place + count) as usize]),
-        None => None,
-    }
-}
-
 /// The bytes that a1 and a2 name, where they stand in one page, one that has bytes of its own.
 pub(crate) fn lent_named(top: &Top) -> Option<&[u8]>
     ensures { IfSome result (λ bytes. bytes.now ≡ named_bytes top.now) }
 {
     let from = top.registers.x[A1];
     let length = top.registers.x[A2];
-    lent_run(&top.memory, from, length)
+    top.memory.lent(from, length)
 }
 
 /// The bytes that a1 and a2 name.

@@ -14,12 +14,12 @@ use std::alloc::AllocError;
 
 /// Has a source forget the word that an instruction stores to, if it is a store.
 #[inline(always)]
-pub fn forget_stored<S: Source>(source: &mut S, x: &RegisterFile, instruction: FlatInstruction)
-    requires { HasFields (meaning instruction) }
+pub fn forget_stored<S: Source>(source: &mut S, x: &RegisterFile, instruction: &FlatInstruction)
+    requires { HasFields (meaning instruction.now) }
     ensures before { (v : View) → S.agrees source.old v → S.agrees source.new v }
-    ensures after { (m : Memory) → S.agrees source.old (view_of m) → Outlives (S.agrees source.new) m x.now (meaning instruction) }
+    ensures after { (m : Memory) → S.agrees source.old (view_of m) → Outlives (S.agrees source.new) m x.now (meaning instruction.now) }
 {
-    if let FlatInstruction::Store { rs1, immediate, .. } = instruction {
+    if let FlatInstruction::Store { rs1, immediate, .. } = *instruction {
         source.forget(x.register(rs1).wrapping_add(immediate));
     }
 }
@@ -41,7 +41,7 @@ pub(crate) fn step_from<S: Source>(
 {
     match source.instruction_at(memory, *pc) {
         Ok(instruction) => {
-            forget_stored(source, x, instruction);
+            forget_stored(source, x, &instruction);
             perform(pc, x, memory, instruction)
         }
         Err(trap) => Ok(Stepped::Trap {

@@ -1,11 +1,12 @@
 ghost use Rattle.std.specs.Prelude.{◌≡◌, ◌≤◌};
 ghost use Rattle.instruction_model.specs.Outcome.{view_of, outcome};
+ghost use Rattle.rv_exec.specs.Steps.{registers_at};
 ghost use Rattle.space_mem.specs.Held.{Marks};
 ghost use Rattle.space_step.specs.Stretch.{Executes, Ends};
 
 use crate::source::Source;
 use crate::stepping::step_from;
-use rv_exec::{Regs, Stepped};
+use rv_exec::{RegisterFile, Regs, Stepped};
 use space_mem::Mem;
 
 /// Why a stretch of instructions has ended.
@@ -28,6 +29,18 @@ pub(crate) struct Stretch {
     pub(crate) end: End,
 }
 
+// Ends a stretch: pc and the other registers stand together again. Each end of the loop calls it by itself, so that no event before has to say which
+// end it would be.
+#[inline(always)]
+fn end_stretch(registers: &mut Regs, pc: u32, file: RegisterFile, count: u32, end: End) -> Stretch
+    ensures registers { registers.new ≡ registers_at pc file }
+    ensures count { result.count ≡ count }
+    ensures end { result.end ≡ end }
+{
+    *registers = Regs::from_parts(pc, file);
+    Stretch { count, end }
+}
+
 /// Executes instructions from a source, at most as many as the budget, up to a call or a trap.
 #[inline(never)]
 #[tactic(auto, using(crate::proofs::Stretches::wants_memory, space_mem::proofs::Dirty::marks_then))]
@@ -48,21 +61,18 @@ pub(crate) fn execute<S: Source>(
     let mut pc = registers.pc;
     let mut file = registers.file();
     for count in 0..budget {
-        let end = match step_from(source, &mut pc, &mut file, memory) {
-            Ok(Stepped::Next) => continue,
-            Ok(Stepped::Call) => End::Call,
-            Ok(Stepped::Trap { cause, value }) => End::Trap {
-                number: cause,
-                value,
-            },
-            Err(_) => End::Memory,
-        };
-        *registers = Regs::from_parts(pc, file);
-        return Stretch { count, end };
+        match step_from(source, &mut pc, &mut file, memory) {
+            Ok(Stepped::Next) => {}
+            Ok(Stepped::Call) => return end_stretch(registers, pc, file, count, End::Call),
+            Ok(Stepped::Trap { cause, value }) => {
+                let end = End::Trap {
+                    number: cause,
+                    value,
+                };
+                return end_stretch(registers, pc, file, count, end);
+            }
+            Err(_) => return end_stretch(registers, pc, file, count, End::Memory),
+        }
     }
-    *registers = Regs::from_parts(pc, file);
-    Stretch {
-        count: budget,
-        end: End::Budget,
-    }
+    end_stretch(registers, pc, file, budget, End::Budget)
 }

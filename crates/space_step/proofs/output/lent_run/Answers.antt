@@ -1,6 +1,0 @@
-use Rattle.std.proofs.Common.{[], refl, arith}
-use Rattle.space_mem.proofs.Strings.{page_string}
-use Rattle.space_step.proofs.output.lent_run.Goals as goal
-
-pub returns-in-Some : goal.returns-in-Some
-returns-in-Some c = page_string c.args.memory.now.memory c.args.at c.args.count _ _ [] _ c.in-Some.ensures.some (omega (arith, c.if-count-place.false)) c.bytes.ensures.bytes refl
