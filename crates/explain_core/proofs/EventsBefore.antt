@@ -35,14 +35,14 @@ ended s sound =
     (rest.0, λ q may. settled_rests q 8 (settle 8 s) (settle-settled 8 true sound.0 s sound.1.2) (ap (λ x. is_enabled q 8 x) (sym end) ∙ may))
 
 -- a schedule keeps it sound
-still_sound : (start now : Space) (ps : List (List ℕ)) → IsSound start → after_all ps start ≡ now → IsSound now
+pub still_sound : (start now : Space) (ps : List (List ℕ)) → IsSound start → after_all ps start ≡ now → IsSound now
 still_sound start now ps sound leads = (sound.0, (sound.1.0, sound.1.1, subst (IsSoundAt 8 true sound.0) leads (replay_sound ps 8 true sound.0 start sound.1.2)))
 
 -- one schedule, and another that goes on to an end
 ended_then : (start now : Space) (ps rest : List (List ℕ)) → after_all ps start ≡ now → NoneMayHappen (after_all rest now) → NoneMayHappen (after_all (ps ++ rest) start)
 ended_then start now ps rest leads none q may = none q (ap (λ x. is_enabled q 8 x) (sym (replay_parts ps rest 8 start ∙ ap (replay rest 8) leads)) ∙ may)
 
-own_both : (q : List ℕ) (ps rest : List (List ℕ)) (start now : Space) → after_all ps start ≡ now → own_events q (ps ++ rest) start ≡ own_events q ps start ++ own_events q rest now
+pub own_both : (q : List ℕ) (ps rest : List (List ℕ)) (start now : Space) → after_all ps start ≡ now → own_events q (ps ++ rest) start ≡ own_events q ps start ++ own_events q rest now
 own_both q ps rest start now leads =
     sym (whole q (ps ++ rest) start) ∙ own_parts 8 q ps rest start ∙ ap₂ (λ xs ys. xs ++ ys) (whole q ps start) (whole q rest (replay ps 8 start) ∙ ap (own_events q rest) leads)
 

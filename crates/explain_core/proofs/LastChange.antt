@@ -21,7 +21,7 @@ one : {X : Type 0} (x y : X) → Some x ≡ Some y → x ≡ y
 one x y e = cc
 
 -- what is kept of own events that are the first of a schedule
-abbrev Tells : Watched → List OwnEvent → Option Moment → Type 0
+abbrev pub Tells : Watched → List OwnEvent → Option Moment → Type 0
 Tells w es None = NoneChanges w es
 Tells w es (Some m) = (k : ℕ) × (e : OwnEvent) × IsLastChange w es k e × (m ≡ moment_at w (suc k) e)
 
@@ -40,7 +40,7 @@ tells_last a w k es new first watched from kept = go (keep_last a w k es nothing
     go (inl l) = last_of_some w es l.number (suc (k + l.number)) l.event new.last l.is_last (omega (arith, first)) (ap (λ (x : Kept). x.last) kept ∙ l.kept)
     go (inr r) = last_of_none w es new.last r.0 (ap (λ (x : Kept). x.last) (kept ∙ r.1))
 
-in_every : (start : Space) (p : List ℕ) (to : ℕ) (w : Watched) (es : List OwnEvent) (o : Option Moment) → ((ps : List (List ℕ)) → NoneMayHappen (after_all ps start) → take to (own_events p ps start) ≡ es) → Tells w es o → TellsMoment start p to w o
+pub in_every : (start : Space) (p : List ℕ) (to : ℕ) (w : Watched) (es : List OwnEvent) (o : Option Moment) → ((ps : List (List ℕ)) → NoneMayHappen (after_all ps start) → take to (own_events p ps start) ≡ es) → Tells w es o → TellsMoment start p to w o
 in_every start p to w es None same tells = λ ps ended. subst (NoneChanges w) (sym (same ps ended)) tells
 in_every start p to w es (Some m) same (k, e, last, is) = λ ps ended. (k, e, subst (λ xs. IsLastChange w xs k e) (sym (same ps ended)) last, is)
 

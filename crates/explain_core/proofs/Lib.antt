@@ -5,11 +5,15 @@ pub mod Turns
 pub mod Traces
 pub mod Coming
 pub mod LastChange
+pub mod LinksTell
+pub mod TurnsAt
 pub mod Endings
 pub mod WatchedEvents
 pub mod Leaving
 pub mod BothSides
 pub mod EventsBefore
+pub mod Walked
+pub mod NotedPaths
 pub mod Lines
 pub mod Names
 pub mod Rows

@@ -6,9 +6,13 @@ pub mod Going
 pub mod Headers
 pub mod Hex
 pub mod Instructions
+pub mod Joins
+pub mod Lineage
+pub mod Notes
 pub mod Pages
 pub mod Reached
 pub mod Stretch
 pub mod Text
 pub mod Trace
+pub mod TurnsAt
 pub mod Watch

@@ -113,8 +113,8 @@ fn take_noticed_turn(
     Ok(turn)
 }
 
-// Whether this can be watched: a byte, or one of the 32 registers.
-fn is_watchable(watched: Watched) -> bool
+/// Whether this can be watched: a byte, or one of the 32 registers.
+pub(crate) fn is_watchable(watched: Watched) -> bool
     ensures { result ≡ true → IsWatchable watched }
 {
     match watched {

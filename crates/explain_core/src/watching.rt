@@ -103,7 +103,7 @@ pub(crate) struct Before {
     pub(crate) memory: Option<Mem>,
 }
 
-fn registers_of(top: &Top) -> Regs
+pub(crate) fn registers_of(top: &Top) -> Regs
     ensures { result ≡ top.now.registers }
 {
     top.registers
@@ -157,7 +157,7 @@ fn memory_before(noticing: Noticing, top: &mut Top) -> Result<Option<Mem>, Alloc
 }
 
 // What the next event of a space finds.
-fn found_by(noticing: Noticing, top: &Top) -> Found
+pub(crate) fn found_by(noticing: Noticing, top: &Top) -> Found
     ensures { result ≡ found_by noticing top.now }
 {
     Found {
@@ -252,7 +252,21 @@ fn told(alloc: Global, path: &Path, moment: &Moment) -> Result<Change, AllocErro
     })
 }
 
-/// What is told of the last event at a path that changed what is watched, where one is kept.
+/// What is told of the last event at a path that changed what is watched, where one did.
+pub(crate) fn told_change(
+    alloc: Global,
+    path: &Path,
+    last: &Option<Moment>,
+) -> Result<Option<Change>, AllocError>
+    ensures { IfOk result (λ o. option_map noted_of o ≡ option_map (told path.now.items) last.now) }
+{
+    match last {
+        Some(moment) => Ok(Some(told(alloc, path, moment)?)),
+        None => Ok(None),
+    }
+}
+
+/// The same of what is kept.
 pub(crate) fn told_last(
     alloc: Global,
     path: &Path,
@@ -260,8 +274,5 @@ pub(crate) fn told_last(
 ) -> Result<Option<Change>, AllocError>
     ensures { IfOk result (λ o. option_map noted_of o ≡ option_map (told path.now.items) kept.now.last) }
 {
-    match &kept.last {
-        Some(moment) => Ok(Some(told(alloc, path, moment)?)),
-        None => Ok(None),
-    }
+    told_change(alloc, path, &kept.last)
 }

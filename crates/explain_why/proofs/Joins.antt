@@ -9,7 +9,8 @@ use Rattle.explain_core.specs.Beside.{child_of}
 use Rattle.explain_core.specs.declared.watching.Watched.{Watched}
 use Rattle.explain_core.specs.declared.watching.Watched.TheVariants.{Byte}
 use Rattle.explain_core.specs.Watch.{Noted}
-use Rattle.explain_why.specs.Origin.{TellsOrigin, child_path, is_join, joined_path}
+use Rattle.explain_core.specs.Joins.{child_path, is_join, joined_path}
+use Rattle.explain_why.specs.Origin.{TellsOrigin}
 use Rattle.explain_why.specs.Texts.{bytes_text, conflict_text}
 use Rattle.explain_why.specs.Why.{ExplainsConflict, StandsAt, TellsConflict, all_events}
 use Rattle.explain_why.proofs.Parts.{four_parts}

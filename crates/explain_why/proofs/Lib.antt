@@ -1,6 +1,7 @@
 pub mod TreePaths
 pub mod Parts
 pub mod Origins
+pub mod ByLineage
 pub mod Joins
 pub mod Slots
 pub mod Spaces

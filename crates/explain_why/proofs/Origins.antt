@@ -12,7 +12,8 @@ use Rattle.explain_core.specs.Reached.{HasAtLeast, HasSoMany, NeverHappens, Tell
 use Rattle.explain_core.specs.Watch.{Noted}
 use Rattle.explain_core.proofs.EventsBefore.{ended}
 use Rattle.explain_why.specs.declared.origin.Sought.{Sought}
-use Rattle.explain_why.specs.Origin.{IsLeft, IsLeftBy, IsLeftByNone, TellsOrigin, by_join, by_none, by_own, joined_path, where_left}
+use Rattle.explain_core.specs.Joins.{joined_path}
+use Rattle.explain_why.specs.Origin.{IsLeft, IsLeftBy, IsLeftByNone, TellsOrigin, by_join, by_none, by_own, where_left}
 use Rattle.explain_why.specs.Sought.{IsSoughtBelow}
 use Rattle.explain_why.specs.Why.{all_events}
 

@@ -1,14 +1,9 @@
 -- Who changed what is watched of a space: the last own event that did, and where that is a join, on through it to the one who stored.
 -- Our choice: that a join is followed into the child that it names, and a call on files is not.
-use Rattle.std.specs.Prelude.{◌≡◌, ◌⊎◌, ℕ, ◌-◌, ◌^◌, ◌==◌, ◌&&◌, ◌||◌, nat_lt, Bool, false, List, [], ◌∷◌, ◌++◌, length, Option, Some, None, codes, slice_index, if◌then◌else◌}
-use Rattle.instruction_model.specs.Outcome.{Registers}
-use Rattle.call_model.specs.declared.TheConstants.{GET, TJOIN}
-use Rattle.call_model.specs.Limits.{greatest_depth}
-use Rattle.call_model.specs.Options.{has, merging}
+use Rattle.std.specs.Prelude.{◌≡◌, ◌⊎◌, ℕ, ◌-◌, ◌^◌, ◌==◌, List, ◌∷◌, ◌++◌, Option, Some, None, codes, if◌then◌else◌}
 use Rattle.space_model.specs.Space.{Space}
 use Rattle.explain_core.specs.declared.watching.Watched.{Watched}
-use Rattle.explain_core.specs.declared.watching.Watched.TheVariants.{Byte, Register}
-use Rattle.explain_core.specs.Instructions.{is_call}
+use Rattle.explain_core.specs.Joins.{joined_path}
 use Rattle.explain_core.specs.Watch.{Noted}
 use Rattle.explain_core.specs.Reached.{HasBefore, HasSoMany, NeverChanges, TellsLastChange}
 
@@ -30,23 +25,6 @@ IsLeft root p to w value (Some c) = IsLeftBy root p to w value c
 abbrev pub where_left : ℕ → Option Noted → Option Noted
 where_left value None = None
 where_left value (Some c) = if c.value == value then Some c else None
-
--- a call that merges a child's memory, each byte at its own address: TJOIN, and Get with Merge
-abbrev pub merges : Registers → Bool
-merges r = (slice_index r.x 17 == TJOIN) || ((slice_index r.x 17 == GET) && has merging (slice_index r.x 10))
-
--- an event joins a child, where bytes are watched
-abbrev pub is_join : Watched → Noted → Bool
-is_join (Byte a) c = is_call c.instruction && merges c.registers
-is_join (Register r) c = false
-
--- the path of a child by its number, where a space can stand there
-abbrev pub child_path : List ℕ → ℕ → Option (List ℕ)
-child_path p n = if nat_lt n (2 ^ 16) && nat_lt (length p) greatest_depth then Some (p ++ n ∷ []) else None
-
--- the path of the child that an event joins: a1 names it
-abbrev pub joined_path : List ℕ → Watched → Noted → Option (List ℕ)
-joined_path p w c = let r = c.registers in if is_join w c then child_path p (slice_index r.x 11) else None
 
 -- before the own event of a number at p has happened, so many at q have; where there are more at q than a number of 64 bits can count, nothing is said
 abbrev pub IsBefore : Space → List ℕ → ℕ → List ℕ → ℕ → Type 0

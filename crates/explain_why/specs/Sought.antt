@@ -2,9 +2,10 @@
 -- Our choice: a restatement for proofs.
 use Rattle.std.specs.Prelude.{◌≡◌, Some}
 use Rattle.space_model.specs.Space.{Space}
+use Rattle.explain_core.specs.Joins.{joined_path}
 use Rattle.explain_core.specs.Watch.{Noted}
 use Rattle.explain_why.specs.declared.origin.Sought.{Sought}
-use Rattle.explain_why.specs.Origin.{IsBefore, joined_path}
+use Rattle.explain_why.specs.Origin.{IsBefore}
 
 -- who of the child's own events before the event that joined it left the same value
 pub record IsSoughtBelow (root : Space) (s : Sought) (c : Noted) (below : Sought) : Type 0 where

@@ -15,10 +15,11 @@ use Rattle.run_model.specs.Demand.{settle_tree}
 use Rattle.det_laws.specs.Tops.{top_at}
 use Rattle.explain_core.specs.declared.watching.Watched.TheVariants.{Byte, Register}
 use Rattle.explain_core.specs.Instructions.{instruction_at_pc}
+use Rattle.explain_core.specs.Joins.{child_path}
 use Rattle.explain_core.specs.Reached.{HasSoMany, IsTrace}
 use Rattle.explain_why.specs.declared.telling.Ending.{Ending}
 use Rattle.explain_why.specs.declared.telling.Ending.TheVariants.{Quiet, Conflicting, Trapped}
-use Rattle.explain_why.specs.Origin.{TellsOrigin, child_path}
+use Rattle.explain_why.specs.Origin.{TellsOrigin}
 use Rattle.explain_why.specs.Parts.{HasParts, numbers_below, paths_from}
 use Rattle.explain_why.specs.Texts.{bytes_text, conflict_text, file_text, lone_conflict_text, register_word, trap_text}
 

@@ -8,12 +8,17 @@ ghost use Rattle.explain_why.specs.Origin.{TellsOrigin};
 ghost use Rattle.explain_why.specs.Texts.{lone_conflict_text};
 ghost use Rattle.explain_why.specs.Why.{ExplainsConflict, StandsAt, TellsConflict, all_events};
 
-use crate::origin::{byte_origin, changed_byte};
+use crate::origin::{byte_origin, changed_byte, lineage_byte};
 use crate::paths::child_path;
 use crate::texts::{bytes_text, conflict_text, lone_conflict_text};
-use explain_core::{Watched, last_changes};
+use explain_core::{Watched, last_changes, lineages};
 use space_tree::{Mem, Path, Space, Top, at, copy_tree};
 use std::alloc::{AllocError, Global};
+
+// The words before who changed the child's byte, and the parent's.
+const CHILD: &str = "child changed by";
+
+const PARENT: &str = "parent changed by";
 
 // The tops of a space and of the child that it joined, and the child's snapshot.
 #[derive(Drop)]
@@ -23,8 +28,55 @@ struct Sides<'a> {
     snapshot: &'a Mem,
 }
 
-// Who changed the byte at an address, on the side of a child and on that of the space at a path that joined it: one run tells of both, unless one of them has more
-// events than it counts.
+// Who changed the byte at an address, on the side of a child and on that of the space at a path that joined it, each asked for apart.
+fn origins_apart(
+    alloc: Global,
+    root: &mut Space,
+    path: &Path,
+    below: &Path,
+    child: &Mem,
+    parent: &Mem,
+    address: u32,
+) -> Result<(Vec<u8>, Vec<u8>), AllocError>
+    requires { IsSound root.old }
+    ensures child { IfOk result (λ v. TellsOrigin root.old (Byte address) below.now.items all_events (byte_at child.now.memory address) (codes "child changed by") v.0.items) }
+    ensures parent { IfOk result (λ v. TellsOrigin root.old (Byte address) path.now.items all_events (byte_at parent.now.memory address) (codes "parent changed by") v.1.items) }
+    ensures same { root.new ≡ root.old }
+{
+    let by_child = byte_origin(alloc, root, below, address, child, CHILD)?;
+    let by_parent = byte_origin(alloc, root, path, address, parent, PARENT)?;
+    Ok((by_child, by_parent))
+}
+
+// The same, of which one run tells the last changes, unless one of the two has more events than it counts.
+fn origins_beside(
+    alloc: Global,
+    root: &mut Space,
+    path: &Path,
+    below: &Path,
+    number: u16,
+    child: &Mem,
+    parent: &Mem,
+    address: u32,
+) -> Result<(Vec<u8>, Vec<u8>), AllocError>
+    requires sound { IsSound root.old }
+    requires child { below.now.items ≡ child_of path.now.items number }
+    ensures child { IfOk result (λ v. TellsOrigin root.old (Byte address) below.now.items all_events (byte_at child.now.memory address) (codes "child changed by") v.0.items) }
+    ensures parent { IfOk result (λ v. TellsOrigin root.old (Byte address) path.now.items all_events (byte_at parent.now.memory address) (codes "parent changed by") v.1.items) }
+    ensures same { root.new ≡ root.old }
+{
+    let tree = copy_tree(alloc, root)?;
+    match last_changes(alloc, tree, path, below, number, Watched::Byte(address))? {
+        Some((by_child, by_parent)) => {
+            let of_child = changed_byte(alloc, root, below, address, child, by_child, CHILD)?;
+            let of_parent = changed_byte(alloc, root, path, address, parent, by_parent, PARENT)?;
+            Ok((of_child, of_parent))
+        }
+        None => origins_apart(alloc, root, path, below, child, parent, address),
+    }
+}
+
+// The same, of which one run tells through all joins, unless it gives no answer.
 fn both_origins(
     alloc: Global,
     root: &mut Space,
@@ -41,28 +93,14 @@ fn both_origins(
     ensures parent { IfOk result (λ v. TellsOrigin root.old (Byte address) path.now.items all_events (byte_at parent.now.memory address) (codes "parent changed by") v.1.items) }
     ensures same { root.new ≡ root.old }
 {
-    let child_word = "child changed by";
-    let parent_word = "parent changed by";
     let tree = copy_tree(alloc, root)?;
-    match last_changes(alloc, tree, path, below, number, Watched::Byte(address))? {
-        Some((by_child, by_parent)) => {
-            let of_child = changed_byte(alloc, root, below, address, child, by_child, child_word)?;
-            let of_parent = changed_byte(
-                alloc,
-                root,
-                path,
-                address,
-                parent,
-                by_parent,
-                parent_word,
-            )?;
-            Ok((of_child, of_parent))
+    match lineages(alloc, tree, path, below, Watched::Byte(address))? {
+        Some((of_child, of_parent)) => {
+            let by_child = lineage_byte(alloc, below, address, child, &of_child, CHILD)?;
+            let by_parent = lineage_byte(alloc, path, address, parent, &of_parent, PARENT)?;
+            Ok((by_child, by_parent))
         }
-        None => {
-            let of_child = byte_origin(alloc, root, below, address, child, child_word)?;
-            let of_parent = byte_origin(alloc, root, path, address, parent, parent_word)?;
-            Ok((of_child, of_parent))
-        }
+        None => origins_beside(alloc, root, path, below, number, child, parent, address),
     }
 }
 

@@ -1,16 +1,21 @@
-ghost use Rattle.std.specs.Prelude.{◌≡◌, ◌++◌, ◌∷◌, None, Some, IfOk, IfSome, IsNone, codes, option_map};
+ghost use Rattle.std.specs.Prelude.{◌≡◌, ℕ, ◌++◌, ◌∷◌, None, Some, IfOk, IfSome, IsNone, codes, map, option_map};
 ghost use Rattle.memory_model.specs.Memory.{byte_at};
 ghost use Rattle.space_model.specs.Sound.{IsSound};
+ghost use Rattle.space_model.specs.Space.{Space};
 ghost use Rattle.explain_core.specs.declared.watching.Watched.TheVariants.{Byte};
 ghost use Rattle.explain_core.specs.Watch.{noted_of};
 ghost use Rattle.explain_core.specs.Reached.{TellsLast};
-ghost use Rattle.explain_why.specs.Origin.{IsLeft, IsLeftBy, TellsOrigin, is_join, joined_path, merges, where_left};
+ghost use Rattle.explain_core.specs.Joins.{is_join, joined_path, merges};
+ghost use Rattle.explain_core.specs.Lineage.{TellsLineage, noted_link};
+ghost use Rattle.explain_why.specs.Origin.{IsLeft, IsLeftBy, TellsOrigin, where_left};
 ghost use Rattle.explain_why.specs.Sought.{IsSoughtBelow};
 ghost use Rattle.explain_why.specs.Why.{all_events};
 
 use crate::paths::{child_path, copy_path};
 use call_model::{GET, TJOIN};
-use explain_core::{Change, ChangeBefore, Watched, change_before, is_call, last_change};
+use explain_core::{
+    Change, ChangeBefore, LineageLink, Watched, change_before, is_call, last_change,
+};
 use space_tree::{Mem, Path, Regs, Space, copy_tree};
 use std::alloc::{AllocError, Global};
 use trap_ret::options::{MERGE, has};
@@ -69,14 +74,14 @@ fn is_join(watched: Watched, change: &Change) -> bool
     }
 }
 
-// The path of the child that an event joined.
-fn joined_path(sought: &Sought, change: &Change) -> Result<Option<Path>, AllocError>
-    ensures { IfOk result (λ o. option_map (λ p. p.items) o ≡ joined_path sought.now.path.items sought.now.watched (noted_of change.now)) }
+// The path of the child that an event at a path joined.
+fn joined_path(path: &Path, watched: Watched, change: &Change) -> Result<Option<Path>, AllocError>
+    ensures { IfOk result (λ o. option_map (λ p. p.items) o ≡ joined_path path.now.items watched (noted_of change.now)) }
 {
-    if !is_join(sought.watched, change) {
+    if !is_join(watched, change) {
         return Ok(None);
     }
-    child_path(&sought.path, change.registers.register(11))
+    child_path(path, change.registers.register(11))
 }
 
 // A word, and that no own event changed what is watched.
@@ -164,7 +169,7 @@ fn joined(
     ensures none { IfOk result (λ o. IsNone o → joined_path sought.now.path.items sought.now.watched (noted_of change.now) ≡ None) }
     ensures same { root.new ≡ root.old }
 {
-    match joined_path(sought, change)? {
+    match joined_path(&sought.path, sought.watched, change)? {
         None => Ok(None),
         Some(path) => {
             let below = sought_below(alloc, root, sought, change, path)?;
@@ -245,6 +250,61 @@ pub(crate) fn last_origin(
     let sought = all_sought(path, watched, value)?;
     let left = left_by(alloc, root, &sought)?;
     origin_of(alloc, root, &sought, left, word)
+}
+
+// The event of a link that left a value, if it did.
+fn left_in(link: &LineageLink, value: u32) -> Option<&Change>
+    ensures { option_map (λ c. noted_of c.now) result ≡ where_left value (let l = noted_link link.now in l.change) }
+{
+    match &link.change {
+        None => None,
+        Some(change) => {
+            if change.value == value {
+                Some(change)
+            } else {
+                None
+            }
+        }
+    }
+}
+
+/// A line for the event that left a value of what is watched, by the lineage of a path; and behind one that joined a child, on by the child's.
+pub(crate) fn lineage_origin(
+    alloc: Global,
+    path: &Path,
+    watched: Watched,
+    value: u32,
+    lineage: &[LineageLink],
+    word: &str,
+) -> Result<Vec<u8>, AllocError>
+    ensures { (root : Space) (to : ℕ) → TellsLineage root watched path.now.items to (map noted_link lineage.now) → IfOk result (λ v. TellsOrigin root watched path.now.items to value word.now v.items) }
+{
+    let [link, below @ ..] = lineage else {
+        return line_of_none(alloc, word);
+    };
+    let Some(change) = left_in(link, value) else {
+        return line_of_none(alloc, word);
+    };
+    let Some(child) = joined_path(path, watched, change)? else {
+        return line_of_change(alloc, word, &change.line, b"");
+    };
+    let rest = lineage_origin(alloc, &child, watched, value, below, "through")?;
+    line_of_change(alloc, word, &change.line, &rest)
+}
+
+/// A line for the event that left the byte at an address of a memory, by the lineage of a path.
+pub(crate) fn lineage_byte(
+    alloc: Global,
+    path: &Path,
+    address: u32,
+    memory: &Mem,
+    lineage: &[LineageLink],
+    word: &str,
+) -> Result<Vec<u8>, AllocError>
+    ensures { (root : Space) → TellsLineage root (Byte address) path.now.items all_events (map noted_link lineage.now) → IfOk result (λ v. TellsOrigin root (Byte address) path.now.items all_events (byte_at memory.now.memory address) word.now v.items) }
+{
+    let byte = u32::from(memory.byte(address));
+    lineage_origin(alloc, path, Watched::Byte(address), byte, lineage, word)
 }
 
 /// A line for the event that left the byte at an address of a memory, where the last of all own events of a path that changed it is known.

@@ -2,7 +2,7 @@ ghost use Rattle.std.specs.Prelude.{◌≡◌, ◌++◌, [], IfOk, OnOk, length,
 ghost use Rattle.call_model.specs.Limits.{levels_below};
 ghost use Rattle.space_model.specs.Sound.{IsSound};
 ghost use Rattle.demand_eval.specs.Turns.{IsSoundBelow};
-ghost use Rattle.explain_why.specs.Origin.{child_path};
+ghost use Rattle.explain_core.specs.Joins.{child_path};
 ghost use Rattle.explain_why.specs.Parts.{paths_from};
 
 use space_tree::{Path, Space};

@@ -1,4 +1,4 @@
-use Rattle.std.proofs.Common.{◌-◌, subst}
+use Rattle.std.proofs.Common.{subst}
 use Rattle.explain_core.specs.Ending.{AsksChange}
 use Rattle.explain_core.specs.Watch.{kept_of}
 use Rattle.explain_core.proofs.Endings.{too_few}

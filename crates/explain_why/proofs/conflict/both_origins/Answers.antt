@@ -1,12 +1,13 @@
-use Rattle.std.proofs.Common.{codes, subst}
-use Rattle.memory_model.specs.Memory.{byte_at}
+use Rattle.std.proofs.Common.{IfSome, map, sym, subst}
 use Rattle.explain_core.specs.declared.watching.Watched.TheVariants.{Byte}
-use Rattle.explain_why.specs.Origin.{TellsOrigin}
-use Rattle.explain_why.specs.Why.{all_events}
+use Rattle.explain_core.specs.Beside.{all}
+use Rattle.explain_core.specs.Lineage.{TellsLineage, noted_link}
 use Rattle.explain_why.proofs.conflict.both_origins.Goals as goal
 
-pub returns-in_ok-of_parent-in-Some-clause-child : goal.returns-in_ok-of_parent-in-Some-clause-child
-returns-in_ok-of_parent-in-Some-clause-child c = subst (λ r. TellsOrigin r (Byte c.args.address) c.args.below.now.items all_events (byte_at c.args.child.now.memory c.args.address) (codes "child changed by") c.in_ok-of_child-in-Some.of_child.items) c.copy_tree.ensures.same c.in_ok-of_child-in-Some.ensures.told
-
-pub returns-in_ok-of_parent-in-None-clause-child : goal.returns-in_ok-of_parent-in-None-clause-child
-returns-in_ok-of_parent-in-None-clause-child c = subst (λ r. TellsOrigin r (Byte c.args.address) c.args.below.now.items all_events (byte_at c.args.child.now.memory c.args.address) (codes "child changed by") c.in_ok-of_child-in-None.of_child.items) c.copy_tree.ensures.same c.in_ok-of_child-in-None.ensures.told
+pub returns-in_ok-by_parent-in-Some-clause-child : goal.returns-in_ok-by_parent-in-Some-clause-child
+returns-in_ok-by_parent-in-Some-clause-child c =
+    let w = Byte c.args.address in
+    let q = c.args.below.now.items in
+    let tells = subst (λ o. IfSome o (λ l. TellsLineage c.in_ok-tree.tree w q all (map noted_link l.0.items))) c.in-Some.is c.in_ok-of_child.ensures.child in
+    let here = subst (λ r. TellsLineage r w q all (map noted_link c.in-Some.of_child.items)) c.in_ok-tree.ensures.equal tells in
+    c.in_ok-by_child-in-Some.ensures c.args.root.now (subst (λ ls. TellsLineage c.args.root.now w q all (map noted_link ls)) (sym c.deref.ensures.value) here)

@@ -2,7 +2,7 @@ use Rattle.std.proofs.Common.{◌≡◌, ap, ◌∙◌, subst}
 use Rattle.std.specs.Prelude.{option_map, slice_index}
 use Rattle.std.proofs.lemmas.Result.{IfOk-weaker}
 use Rattle.space_model.specs.Space.{Top}
-use Rattle.explain_why.specs.Origin.{child_path}
+use Rattle.explain_core.specs.Joins.{child_path}
 use Rattle.explain_why.proofs.Joins.{child_named, joined}
 use Rattle.explain_why.proofs.conflict.explain_conflict.Goals as goal
 

@@ -1,0 +1,87 @@
+ghost use Rattle.std.specs.Prelude.{◌≡◌, ◌∷◌, true, IfOk, IfSome};
+ghost use Rattle.space_model.specs.Space.{Space, children_of};
+ghost use Rattle.explain_core.specs.Notes.{TellsAll};
+ghost use Rattle.explain_core.specs.Stretch.{IsWatchable};
+ghost use Rattle.explain_core.specs.Going.{BelowStopped, WayStopped};
+
+use crate::choosing::next_path;
+use crate::lineage::Notes;
+use crate::turning::turn_at;
+use crate::watching::Watched;
+use space_step::DecodeCache;
+use space_tree::{Path, Space};
+use std::alloc::{AllocError, Global};
+
+/// Whether every space on the way to a path, and the one there, has stopped, where it is there.
+#[cycle(way_stopped)]
+pub(crate) fn way_stopped(space: &Space, path: &[u16]) -> bool
+    ensures { result ≡ true → WayStopped path.now space.now }
+{
+    match path {
+        [] => space.top.is_stopped(),
+        [number, rest @ ..] => space.top.is_stopped() && below_stopped(space, *number, rest),
+    }
+}
+
+// The same of the spaces below one.
+#[cycle(way_stopped)]
+fn below_stopped(space: &Space, number: u16, rest: &[u16]) -> bool
+    ensures { result ≡ true → BelowStopped (number ∷ rest.now) (children_of space.now) }
+{
+    match space.children.get(number) {
+        Some(child) => way_stopped(child, rest),
+        None => true,
+    }
+}
+
+// Turns of the space at a path, as long as it goes on, and whether there were any; none where no answer is to come.
+fn turns_at(
+    alloc: Global,
+    cache: &mut DecodeCache,
+    tree: &mut Space,
+    notes: &mut Notes,
+    path: &Path,
+    watched: Watched,
+) -> Result<Option<bool>, AllocError>
+    requires { IsWatchable watched }
+    ensures { IfOk result (λ o. IfSome o (λ _. (root : Space) → TellsAll root watched notes.old.entries tree.old → TellsAll root watched notes.new.entries tree.new)) }
+{
+    let mut some = false;
+    'turns: for _ in 0..u64::MAX {
+        match turn_at(alloc, cache, tree, notes, path, watched)? {
+            Some(true) => some = true,
+            Some(false) => return Ok(Some(some)),
+            None => return Ok(None),
+        }
+    }
+    Ok(None)
+}
+
+/// Turns until a space and its child and all on the way to them have stopped; `false` where no answer is to come.
+pub(crate) fn walk(
+    alloc: Global,
+    tree: &mut Space,
+    notes: &mut Notes,
+    path: &Path,
+    below: &Path,
+    watched: Watched,
+) -> Result<bool, AllocError>
+    requires { IsWatchable watched }
+    ensures tells { IfOk result (λ over. over ≡ true → (root : Space) → TellsAll root watched notes.old.entries tree.old → TellsAll root watched notes.new.entries tree.new) }
+    ensures path { IfOk result (λ over. over ≡ true → WayStopped path.now.items tree.new) }
+    ensures below { IfOk result (λ over. over ≡ true → WayStopped below.now.items tree.new) }
+{
+    let mut cache = DecodeCache::new(alloc)?;
+    let mut last = Path::new();
+    'turns: for _ in 0..u64::MAX {
+        if way_stopped(tree, below.as_slice()) && way_stopped(tree, path.as_slice()) {
+            return Ok(true);
+        }
+        last = next_path(tree, &last, below);
+        match turns_at(alloc, &mut cache, tree, notes, &last, watched)? {
+            Some(true) => {}
+            Some(false) | None => return Ok(false),
+        }
+    }
+    Ok(false)
+}
