@@ -47,7 +47,7 @@ ready_root (tree_ref.TheVariants.Uniform p) from to ready = ready
 ready_root (tree_ref.TheVariants.Shared b) from to ready = absurd ready
 ready_root (tree_ref.TheVariants.Own b) from to ready = λ i low before after. ready_limb (branch_at b.value i) (from - 8192 * i) (min (to - 8192 * i) 8192) (ready i low before after)
 
-own_block_ready : (r : BlockRef) (from to : ℕ) → IsOwnBlock r → ReadyBlock from to r
+pub own_block_ready : (r : BlockRef) (from to : ℕ) → IsOwnBlock r → ReadyBlock from to r
 own_block_ready (block_ref.TheVariants.Uniform p) from to own = absurd (false≢true own)
 own_block_ready (block_ref.TheVariants.Bare b) from to own = tt
 own_block_ready (block_ref.TheVariants.Shared b) from to own = absurd (false≢true own)

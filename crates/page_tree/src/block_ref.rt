@@ -87,6 +87,7 @@ impl BlockRef {
         ensures same { SameRef self.old self.new }
         ensures owned { OnOk result (SameOwn self.old self.new) }
         ensures loose { OnOk result (IsLoose self.new) }
+        ensures stays { IsOwnBlock self.old → IsOwnBlock self.new }
         ensures whole { AreWholeIn self.old → AreWholeIn self.new }
         ensures err { OnErr result (self.new ≡ self.old) }
     {

@@ -5,7 +5,7 @@ ghost use Rattle.page_tree.specs.Branches.{branch_pages, branch_blocks, block_at
 ghost use Rattle.page_tree.specs.BranchRefs.{limb_page, SameLimb, SameOwnLimb, AreWholeLimb, limb_row};
 ghost use Rattle.page_tree.specs.Trees.{tree_pages, tree_branches, branch_at, tree_page, SameTree, SameOwnTree, AreWholeTree, tree_row};
 ghost use Rattle.page_tree.specs.TreeRefs.{root_page, SameRoot, SameOwnRoot, AreWholeRoot, root_row};
-ghost use Rattle.page_tree.specs.Ready.{SameOtherBlocks, SameOtherBranches};
+ghost use Rattle.page_tree.specs.Ready.{ReadyBranch, ReadyLimb, ReadyTree, ReadyRoot, SameOtherBlocks, SameOtherBranches};
 ghost use Rattle.page_tree.specs.Replaceable.{ReplaceableBelow, ReplaceableLimb, ReplaceableTree, ReplaceableRoot};
 ghost use Rattle.page_tree.specs.Rows.{IsReplacedRow};
 
@@ -63,7 +63,7 @@ impl Branch {
         Ok(())
     }
 
-    /// Exchanges what is kept of a page. What could be exchanged still can.
+    /// Exchanges what is kept of a page. What could be exchanged still can, and a range that was ready to be changed is.
     pub fn replace(&mut self, page: usize, kept: Option<PageRef>) -> Option<PageRef>
         requires within { page < branch_pages }
         requires ready { ReplaceableBelow page self.old }
@@ -71,6 +71,7 @@ impl Branch {
         ensures replaced { IsReplacedRow branch_pages page kept (branch_row self.old) (branch_row self.new) }
         ensures ready { ReplaceableBelow page self.new }
         ensures stays { (other : ℕ) → ReplaceableBelow other self.old → ReplaceableBelow other self.new }
+        ensures range { (from to : ℕ) → ReadyBranch from to self.old → ReadyBranch from to self.new }
         ensures whole { IsWhole kept → AreWholeBelow self.old → AreWholeBelow self.new }
         ensures given { AreWholeBelow self.old → IsWhole result }
     {
@@ -111,7 +112,7 @@ impl BranchRef {
         }
     }
 
-    /// Exchanges what is kept of a page. What could be exchanged still can.
+    /// Exchanges what is kept of a page. What could be exchanged still can, and a range that was ready to be changed is.
     pub fn replace(&mut self, page: usize, kept: Option<PageRef>) -> Option<PageRef>
         requires within { page < branch_pages }
         requires ready { ReplaceableLimb page self.old }
@@ -119,6 +120,7 @@ impl BranchRef {
         ensures replaced { IsReplacedRow branch_pages page kept (limb_row self.old) (limb_row self.new) }
         ensures ready { ReplaceableLimb page self.new }
         ensures stays { (other : ℕ) → ReplaceableLimb other self.old → ReplaceableLimb other self.new }
+        ensures range { (from to : ℕ) → ReadyLimb from to self.old → ReadyLimb from to self.new }
         ensures whole { IsWhole kept → AreWholeLimb self.old → AreWholeLimb self.new }
         ensures given { AreWholeLimb self.old → IsWhole result }
     {
@@ -144,7 +146,7 @@ impl Tree {
         Ok(())
     }
 
-    /// Exchanges what is kept of a page. What could be exchanged still can.
+    /// Exchanges what is kept of a page. What could be exchanged still can, and a range that was ready to be changed is.
     pub fn replace(&mut self, page: usize, kept: Option<PageRef>) -> Option<PageRef>
         requires within { page < tree_pages }
         requires ready { ReplaceableTree page self.old }
@@ -152,6 +154,7 @@ impl Tree {
         ensures replaced { IsReplacedRow tree_pages page kept (tree_row self.old) (tree_row self.new) }
         ensures ready { ReplaceableTree page self.new }
         ensures stays { (other : ℕ) → ReplaceableTree other self.old → ReplaceableTree other self.new }
+        ensures range { (from to : ℕ) → ReadyTree from to self.old → ReadyTree from to self.new }
         ensures whole { IsWhole kept → AreWholeTree self.old → AreWholeTree self.new }
         ensures given { AreWholeTree self.old → IsWhole result }
     {
@@ -167,6 +170,7 @@ impl Tree {
         ensures replaced { IsReplacedRow branch_pages page kept (limb_row (branch_at self.old i)) (limb_row (branch_at self.new i)) }
         ensures ready { ReplaceableLimb page (branch_at self.new i) }
         ensures stays { (other : ℕ) → ReplaceableLimb other (branch_at self.old i) → ReplaceableLimb other (branch_at self.new i) }
+        ensures range { (from to : ℕ) → ReadyLimb from to (branch_at self.old i) → ReadyLimb from to (branch_at self.new i) }
         ensures whole { IsWhole kept → AreWholeLimb (branch_at self.old i) → AreWholeLimb (branch_at self.new i) }
         ensures given { AreWholeLimb (branch_at self.old i) → IsWhole result }
         ensures others { SameOtherBranches i self.old self.new }
@@ -193,7 +197,7 @@ impl TreeRef {
         }
     }
 
-    /// Exchanges what is kept of a page. What could be exchanged still can.
+    /// Exchanges what is kept of a page. What could be exchanged still can, and a range that was ready to be changed is.
     pub fn replace(&mut self, page: usize, kept: Option<PageRef>) -> Option<PageRef>
         requires within { page < tree_pages }
         requires ready { ReplaceableRoot page self.old }
@@ -201,6 +205,7 @@ impl TreeRef {
         ensures replaced { IsReplacedRow tree_pages page kept (root_row self.old) (root_row self.new) }
         ensures ready { ReplaceableRoot page self.new }
         ensures stays { (other : ℕ) → ReplaceableRoot other self.old → ReplaceableRoot other self.new }
+        ensures range { (from to : ℕ) → ReadyRoot from to self.old → ReadyRoot from to self.new }
         ensures whole { IsWhole kept → AreWholeRoot self.old → AreWholeRoot self.new }
         ensures given { AreWholeRoot self.old → IsWhole result }
     {

@@ -3,7 +3,6 @@ ghost use Rattle.memory_model.specs.Memory.{with_permissions};
 ghost use Rattle.memory_model.specs.Sizes.{greatest_permission, pages};
 ghost use Rattle.merge_model.specs.Merge.{first_conflict, with_merge};
 ghost use Rattle.space_mem.specs.Held.{Covers, IsClean, KeepsMarks, Marks, Owns};
-ghost use Rattle.space_mem.specs.Taken.{IsTakenOver};
 ghost use Rattle.snapshot.specs.Faults.{MayFail};
 ghost use Rattle.snapshot.specs.Pages.{AreSettled, HasMerged, IsEqual, IsPassedOver, IsSorted};
 
@@ -45,20 +44,6 @@ fn freeze_each(memory: &mut Mem, each: &[u32]) -> Result<(), AllocError>
         })?;
     }
     Ok(())
-}
-
-// Gives the parent's pages the bytes of the child's, which both share then.
-fn take_each(parent: &mut Mem, child: &mut Mem, each: &[u32]) -> Result<(), AllocError>
-    requires { All (λ page. page < pages) each.now }
-    ensures ok { OnOk result (IsTakenOver parent.old.memory child.old.memory each.now parent.new.memory) }
-    ensures err { OnErr result (parent.new.memory ≡ parent.old.memory) }
-    ensures others { (page : ℕ) → All (λ taken. page ≡ taken → ⊥) each.now → KeepsMarks parent.old parent.new page }
-    ensures marks { Marks parent.old parent.new }
-    ensures same_child { child.new.memory ≡ child.old.memory }
-    ensures dirty_child { child.new.dirty ≡ child.old.dirty }
-{
-    freeze_each(child, each)?;
-    parent.take_over(child, each)
 }
 
 // Merges these pages, which are owned, byte by byte.
@@ -127,9 +112,10 @@ fn prepare(
 /// snapshot's bytes. A page of the parent that is not dirty afterwards was not dirty before, and has the bytes that it had. The
 /// error is `Conflict` at the least address of the range that is in conflict, or want of memory. An address is in conflict where
 /// both the child's byte and the parent's differ from the snapshot's; with `agree`, only where they differ from one another as
-/// well. At an error no byte and no permission of the parent has changed; some pages of the range may be owned that were not. A
-/// page outside of the range, a page that is clean in the child, and one that has the same bytes in child and snapshot, are owned
-/// and dirty in the parent where they were, also at an error. The child has the bytes and permissions that it had: what was found to be as in the
+/// well. At an error no byte and no permission of the parent has changed; some pages of the range may be owned or dirty that were
+/// not. A page that the parent has as in the snapshot, and does not own, is shared with the child then. A page outside of the
+/// range, a page that is clean in the child, and one that has the same bytes in child and snapshot, are owned and dirty in the
+/// parent where they were, also at an error. The child has the bytes and permissions that it had: what was found to be as in the
 /// snapshot is clean in it then, so that no later merge compares it again.
 pub fn merge(
     parent: &mut Mem,
@@ -151,7 +137,8 @@ pub fn merge(
     ensures covers { Covers child.new snapshot.now.memory }
 {
     let found = prepare(parent, child, snapshot, range, agree)?;
-    take_each(parent, child, &found.taken)?;
+    freeze_each(child, &found.taken)?;
+    parent.take_over(child, &found.taken)?;
     merge_each(parent, child, snapshot, &found.merged)?;
     Ok(())
 }
@@ -180,9 +167,8 @@ pub fn merge_and_permit(
     ensures covers { Covers child.new snapshot.now.memory }
 {
     let found = prepare(parent, child, snapshot, range, agree)?;
-    own_each(parent, &found.taken)?;
-    parent.set_perm(range, perm)?;
-    merge_each(parent, child, snapshot, &found.taken)?;
+    freeze_each(child, &found.taken)?;
+    parent.take_over_and_permit(child, &found.taken, range, perm)?;
     merge_each(parent, child, snapshot, &found.merged)?;
     Ok(())
 }

@@ -5,23 +5,25 @@ use Rattle.std.proofs.lemmas.Bool.{cases_eq, cases_lt}
 use Rattle.std.proofs.lemmas.List.{append_assoc, append-nil, map-append}
 use Rattle.std.proofs.lemmas.List.Elements.{All-cons, All-head, All-map, All-nil, All-pop, All-tail, All-weaker}
 use Rattle.memory_model.specs.Sparse.{put, value_at}
-use Rattle.memory_model.specs.Memory.{Memory, byte_at, permission_at}
+use Rattle.memory_model.specs.Memory.{Memory, byte_at, permission_at, with_permissions}
 use Rattle.memory_model.proofs.Rows.{value_at-put_same, value_at-put_other}
+use Rattle.memory_model.proofs.Runs.{byte_at-with_permissions, permission_at-with_permissions, permission_at-with_permissions_out}
 use Rattle.page_marks.specs.Marks.{mark_of}
 use Rattle.page_store.specs.declared.PageRef.{PageRef}
 use Rattle.page_tree.specs.declared.tree_ref.TreeRef.{TreeRef}
 use Rattle.page_tree.specs.Blocks.{byte_in, is_own_in, IsWhole}
+use Rattle.page_tree.specs.Ready.{ReadyRoot}
 use Rattle.page_tree.specs.Replaceable.{ReplaceableRoot}
-use Rattle.page_tree.specs.Rows.{IsReplacedRow}
-use Rattle.page_tree.specs.TreeRefs.{root_own, root_page, root_row, AreWholeRoot, SameOwnRoot, SameRoot}
+use Rattle.page_tree.specs.Rows.{IsReplacedRow, SameOwners, SameRow}
+use Rattle.page_tree.specs.TreeRefs.{root_own, root_page, root_row, AreWholeRoot}
 use Rattle.space_mem.specs.declared.table.PageTable.{PageTable}
 use Rattle.space_mem.specs.declared.taking.Put.{Put}
 use Rattle.space_mem.specs.Held.{Held, KeepsMarks, Marks, SamePage}
 use Rattle.space_mem.specs.Tables.{IsTable, held_of, marked_of, memory_of, owned_of}
-use Rattle.space_mem.specs.Taken.{IsPrepared, IsReadyPut, IsTakenOver, put_page}
+use Rattle.space_mem.specs.Taken.{CanPut, IsPrepared, IsPutting, IsReadyPut, IsTakenOver, put_page}
 use Rattle.space_mem.proofs.Kept.{keeps_then}
-use Rattle.space_mem.proofs.Tables.{byte_at-high, byte_at-page, marked_at, marked_high, owned_at, owned_high, owned_same, permission_at-high, permission_at-of}
-use Rattle.space_mem.proofs.Updates.{root_memory}
+use Rattle.space_mem.proofs.Tables.{byte_at-high, byte_at-page, marked_at, marked_high, owned_at, owned_high, permission_at-high, permission_at-of}
+use Rattle.space_mem.proofs.Updates.{owned_row, row_memory}
 
 -- ---- what is prepared
 
@@ -47,6 +49,20 @@ prepared_more each i t s u within before one = record {
     | inr is ↦ inr is
   ];
   other = λ p low none. one.other p low (All-cons (λ q. p ≡ q → ⊥) (get_or each i 0) [] (none i 0 within) (All-nil (λ q. p ≡ q → ⊥))) ∙ before.other p low none;
+}
+
+-- one thing after the other
+pub prepared_then : (each : List ℕ) (t s u : PageTable) → IsPrepared each t s → IsPrepared each s u → IsPrepared each t u
+prepared_then each t s u before after = record {
+  table = after.table;
+  memory = after.memory ∙ before.memory;
+  owned = after.owned ∙ before.owned;
+  ready = λ p can. after.ready p (before.ready p can);
+  mark = λ p low. elim (after.mark p low) [
+    | inl same ↦ elim (before.mark p low) [ inl was ↦ inl (same ∙ was) | inr is ↦ inr (same ∙ is) ]
+    | inr is ↦ inr is
+  ];
+  other = λ p low none. after.other p low none ∙ before.other p low none;
 }
 
 -- the same page twice
@@ -86,17 +102,18 @@ prepared_same each t s table same held =
       other = λ p low none. marks p low;
     }
 
--- a block is the table's own now
-pub prepared_block : (each : List ℕ) (t : PageTable) (x : TreeRef) → IsTable t → SameRoot t.pages x → SameOwnRoot t.pages x → ((p : ℕ) → ReplaceableRoot p t.pages → ReplaceableRoot p x) → (AreWholeRoot t.pages → AreWholeRoot x) → IsPrepared each t (record t { pages = x })
-prepared_block each t x table same owners stays whole = record {
+-- a part of the tree is the table's own now
+pub prepared_part : (each : List ℕ) (t : PageTable) (x : TreeRef) → IsTable t → SameRow 1048576 (root_row t.pages) (root_row x) → SameOwners 1048576 (root_row t.pages) (root_row x) → ((p : ℕ) → ReplaceableRoot p t.pages → ReplaceableRoot p x)
+    → (AreWholeRoot t.pages → AreWholeRoot x) → IsPrepared each t (record t { pages = x })
+prepared_part each t x table same owners stays whole = record {
   table = record {
     whole = whole table.whole;
     permission = λ p low. omega (arith, same.permission p low, table.permission p low);
     marked = λ p low own. table.marked p low (sym (owners p low) ∙ own);
     bare = table.bare;
   };
-  memory = root_memory t.pages x same;
-  owned = owned_same t.pages x owners;
+  memory = row_memory t.pages x same;
+  owned = owned_row t.pages x owners;
   ready = stays;
   mark = λ p low. inl refl;
   other = λ p low none. refl;
@@ -155,18 +172,6 @@ replaced_owned t n q kept row p other = elim (cases_lt p 1048576) [
 ]
 
 -- ---- all that is held is put in
-
--- what is so while some of what is held is put in
-pub record IsPutting (t : PageTable) (source : Memory) (each : List ℕ) (s : PageTable) (puts : List Put) : Type 0 where
-  pub done : List ℕ
-  pub split : map put_page puts ++ done ≡ each
-  pub table : IsTable s
-  pub ready : All (IsReadyPut s source) puts
-  pub taken : All (SamePage (memory_of s.pages) source) done
-  pub permission : (page : ℕ) → permission_at (memory_of s.pages) page ≡ permission_at (memory_of t.pages) page
-  pub same : (page : ℕ) → All (λ taken. page ≡ taken → ⊥) each → SamePage (memory_of s.pages) (memory_of t.pages) page
-  pub keeps : (page : ℕ) → All (λ taken. page ≡ taken → ⊥) each → KeepsMarks (held_of t) (held_of s) page
-  pub dirty : All (λ page. value_at (held_of s).dirty page ≡ 1) each
 
 pub put_start : (t s : PageTable) (source : Memory) (each : List ℕ) (puts : List Put) → IsPrepared each t s → map put_page puts ≡ each → All (IsReadyPut s source) puts → IsPutting t source each s puts
 put_start t s source each puts prepared pages ready = record {
@@ -243,3 +248,46 @@ put_last t s source each puts none put = subst (IsPutting t source each s) none 
 pub at_success : {T E : Type 0} (r : Result T E) (P : Type 0) → P → OnOk r P
 at_success (Ok x) P p = p
 at_success (Err e) P p = tt
+
+-- what is so in the loop that puts in all
+pub record IsPutTurn (f s : PageTable) (all puts : List Put) : Type 0 where
+  pub can : All (CanPut s) puts
+  pub put : (t : PageTable) (source : Memory) (each : List ℕ) → IsPutting t source each f all → IsPutting t source each s puts
+  pub range : (from to : ℕ) → ReadyRoot from to f.pages → ReadyRoot from to s.pages
+
+pub turn_start : (f : PageTable) (all : List Put) → All (CanPut f) all → IsPutTurn f f all all
+turn_start f all can = record { can = can; put = λ t source each putting. putting; range = λ from to ready. ready }
+
+pub turn_step : (f s : PageTable) (all : List Put) (n : TreeRef) (puts rest : List Put) (put : Put) → puts ≡ rest ++ put ∷ [] → IsPutTurn f s all puts
+    → IsReplacedRow 1048576 put.page put.kept (root_row s.pages) (root_row n) → ((p : ℕ) → ReplaceableRoot p s.pages → ReplaceableRoot p n) → (IsWhole put.kept → AreWholeRoot s.pages → AreWholeRoot n) → ((from to : ℕ) → ReadyRoot from to s.pages → ReadyRoot from to n)
+    → IsPutTurn f (record s { pages = n }) all rest
+turn_step f s all n puts rest put is before row stays whole range = record {
+  can = All-weaker (CanPut s) (CanPut (record s { pages = n })) (λ other c. record { within = c.within; ready = stays other.page c.ready }) rest (All-pop (CanPut s) puts rest (Some put) is before.can).0;
+  put = λ t source each putting. put_step t s source each n puts rest put is (before.put t source each putting) row stays whole;
+  range = λ from to ready. range from to (before.range from to ready);
+}
+
+-- what is held for a page can be put there
+pub can_put : (s : PageTable) (source : Memory) (puts : List Put) → All (IsReadyPut s source) puts → All (CanPut s) puts
+can_put s source puts ready = All-weaker (IsReadyPut s source) (CanPut s) (λ put r. record { within = r.within; ready = r.ready }) puts ready
+
+-- ---- with a permission
+
+permitted_at : (m o : Memory) (first count right : ℕ) → ((p : ℕ) → permission_at m p ≡ permission_at o p) → (p : ℕ) → permission_at (with_permissions m first count right) p ≡ permission_at (with_permissions o first count right) p
+permitted_at m o first count right same p = elim (cases_lt p first) [
+  | inl before ↦ permission_at-with_permissions_out m first count right p (λ le. absurd (omega arith)) ∙ same p ∙ sym (permission_at-with_permissions_out o first count right p (λ le. absurd (omega arith)))
+  | inr from ↦ elim (cases_lt p (first + count)) [
+    | inl here ↦ permission_at-with_permissions m first count right p from here ∙ sym (permission_at-with_permissions o first count right p from here)
+    | inr past ↦ permission_at-with_permissions_out m first count right p (λ le. past) ∙ same p ∙ sym (permission_at-with_permissions_out o first count right p (λ le. past))
+  ]
+]
+
+-- pages that are taken over, and then a permission
+pub taken_permitted : (o source m n : Memory) (each : List ℕ) (first count right : ℕ) → IsTakenOver o source each m → n ≡ with_permissions m first count right → IsTakenOver (with_permissions o first count right) source each n
+taken_permitted o source m n each first count right taken is =
+    let byte : (a : ℕ) → byte_at n a ≡ byte_at m a = λ a. ap (λ x. byte_at x a) is ∙ byte_at-with_permissions m first count right a in
+    record {
+      permission = λ p. ap (λ x. permission_at x p) is ∙ permitted_at m o first count right taken.permission p;
+      taken = All-weaker (SamePage m source) (SamePage n source) (λ p same k low. byte (4096 * p + k) ∙ same k low) each taken.taken;
+      other = λ p none k low. byte (4096 * p + k) ∙ taken.other p none k low ∙ sym (byte_at-with_permissions o first count right (4096 * p + k));
+    }

@@ -1,6 +1,7 @@
 -- Pages that a memory takes over from another.
 -- Our choice: what is said of a memory before and after, and restatements for proofs.
-use Rattle.std.specs.Prelude.{◌≡◌, ℕ, ◌+◌, ◌*◌, ◌<◌, ◌⊎◌, List, All}
+use Rattle.std.specs.Prelude.{◌≡◌, ℕ, ◌+◌, ◌*◌, ◌<◌, ◌⊎◌, ◌++◌, List, All, map}
+use Rattle.memory_model.specs.Sparse.{value_at}
 use Rattle.memory_model.specs.Memory.{Memory, byte_at, permission_at}
 use Rattle.memory_model.specs.Sizes.{page_size, pages}
 use Rattle.page_marks.specs.Marks.{mark_of}
@@ -8,8 +9,8 @@ use Rattle.page_tree.specs.Blocks.{byte_in, IsWhole}
 use Rattle.page_tree.specs.Replaceable.{ReplaceableRoot}
 use Rattle.space_mem.specs.declared.table.PageTable.{PageTable}
 use Rattle.space_mem.specs.declared.taking.Put.{Put}
-use Rattle.space_mem.specs.Held.{SamePage}
-use Rattle.space_mem.specs.Tables.{IsTable, memory_of, owned_of}
+use Rattle.space_mem.specs.Held.{KeepsMarks, SamePage}
+use Rattle.space_mem.specs.Tables.{IsTable, held_of, memory_of, owned_of}
 
 -- each of some pages has a source's bytes; each other page has the bytes that it had, and permissions stay
 pub record IsTakenOver (old source : Memory) (each : List ℕ) (new : Memory) : Type 0 where
@@ -36,3 +37,20 @@ pub record IsPrepared (each : List ℕ) (t s : PageTable) : Type 0 where
   pub ready : (page : ℕ) → ReplaceableRoot page t.pages → ReplaceableRoot page s.pages
   pub mark : (page : ℕ) → page < pages → (mark_of s.dirty page ≡ mark_of t.dirty page) ⊎ (mark_of s.dirty page ≡ 1)
   pub other : (page : ℕ) → page < pages → All (λ taken. page ≡ taken → ⊥) each → mark_of s.dirty page ≡ mark_of t.dirty page
+
+-- a page can be exchanged for what is held
+pub record CanPut (t : PageTable) (put : Put) : Type 0 where
+  pub within : put.page < pages
+  pub ready : ReplaceableRoot put.page t.pages
+
+-- what is so while some of what is held is put in
+pub record IsPutting (t : PageTable) (source : Memory) (each : List ℕ) (s : PageTable) (puts : List Put) : Type 0 where
+  pub done : List ℕ
+  pub split : map put_page puts ++ done ≡ each
+  pub table : IsTable s
+  pub ready : All (IsReadyPut s source) puts
+  pub taken : All (SamePage (memory_of s.pages) source) done
+  pub permission : (page : ℕ) → permission_at (memory_of s.pages) page ≡ permission_at (memory_of t.pages) page
+  pub same : (page : ℕ) → All (λ taken. page ≡ taken → ⊥) each → SamePage (memory_of s.pages) (memory_of t.pages) page
+  pub keeps : (page : ℕ) → All (λ taken. page ≡ taken → ⊥) each → KeepsMarks (held_of t) (held_of s) page
+  pub dirty : All (λ page. value_at (held_of s).dirty page ≡ 1) each

@@ -1,12 +1,16 @@
-ghost use Rattle.std.specs.Prelude.{◌≡◌, ℕ, ◌+◌, ◌<◌, ◌≤◌, ◌∷◌, [], All, IfOk, OnOk, OnErr, map};
-ghost use Rattle.memory_model.specs.Sizes.{pages};
+ghost use Rattle.std.specs.Prelude.{◌≡◌, ℕ, ◌+◌, ◌-◌, ◌<◌, ◌≤◌, ◌∷◌, [], All, IfOk, List, OnOk, OnErr, map};
+ghost use Rattle.memory_model.specs.Memory.{Memory, with_permissions};
+ghost use Rattle.memory_model.specs.Sizes.{greatest_permission, pages};
 ghost use Rattle.page_marks.specs.Marks.{mark_of};
+ghost use Rattle.page_tree.specs.Ready.{ReadyRoot};
 ghost use Rattle.page_tree.specs.Replaceable.{ReplaceableRoot};
+ghost use Rattle.space_mem.specs.declared.table.PageTable.{PageTable};
 ghost use Rattle.space_mem.specs.Held.{KeepsMarks, Marks};
 ghost use Rattle.space_mem.specs.Tables.{IsTable, held_of, memory_of};
-ghost use Rattle.space_mem.specs.Taken.{IsPrepared, IsReadyPut, IsTakenOver, put_page};
+ghost use Rattle.space_mem.specs.Taken.{CanPut, IsPrepared, IsPutting, IsReadyPut, IsTakenOver, put_page};
 
 use crate::copying::share_page;
+use crate::layout::Pages;
 use crate::memory::Mem;
 use crate::table::PageTable;
 use page_store::PageRef;
@@ -33,6 +37,31 @@ impl Mem {
     {
         self.table.take_over(&source.table, each)
     }
+
+    /// As `take_over`, and gives each page of a range the permission, 0 to 7.
+    pub fn take_over_and_permit(
+        &mut self,
+        source: &Mem,
+        each: &[u32],
+        range: Pages,
+        perm: u8,
+    ) -> Result<(), AllocError>
+        requires within { All (λ page. page < pages) each.now }
+        requires permission { perm ≤ greatest_permission }
+        ensures ok { OnOk result (IsTakenOver (with_permissions self.old.memory range.first range.count perm) source.now.memory each.now self.new.memory) }
+        ensures err { OnErr result (self.new.memory ≡ self.old.memory) }
+        ensures owned { OnErr result (self.new.owned ≡ self.old.owned) }
+        ensures others { (page : ℕ) → All (λ taken. page ≡ taken → ⊥) each.now → KeepsMarks self.old self.new page }
+        ensures marks { Marks self.old self.new }
+    {
+        self.table.take_over_and_permit(
+            &source.table,
+            each,
+            range.first,
+            range.first + range.count,
+            perm,
+        )
+    }
 }
 
 impl PageTable {
@@ -47,11 +76,77 @@ impl PageTable {
         ensures others { (page : ℕ) → All (λ taken. page ≡ taken → ⊥) each.now → KeepsMarks (held_of self.old) (held_of self.new) page }
         ensures marks { Marks (held_of self.old) (held_of self.new) }
     {
-        let mut puts = self.prepare_each(source, each)?;
+        let puts = self.prepare_each(source, each)?;
+        self.put_each(puts);
+        Ok(())
+    }
+
+    // As `take_over`, and gives the pages from `first` to before `end` the permission.
+    fn take_over_and_permit(
+        &mut self,
+        source: &PageTable,
+        each: &[u32],
+        first: u32,
+        end: u32,
+        permission: u8,
+    ) -> Result<(), AllocError>
+        requires table { IsTable self.old }
+        requires within { All (λ page. page < pages) each.now }
+        requires rise { first ≤ end }
+        requires in_range { end ≤ pages }
+        requires permission { permission ≤ greatest_permission }
+        ensures table { IsTable self.new }
+        ensures ok { OnOk result (IsTakenOver (with_permissions (memory_of self.old.pages) first (end - first) permission) (memory_of source.now.pages) each.now (memory_of self.new.pages)) }
+        ensures err { OnErr result (memory_of self.new.pages ≡ memory_of self.old.pages) }
+        ensures owned { OnErr result ((held_of self.new).owned ≡ (held_of self.old).owned) }
+        ensures others { (page : ℕ) → All (λ taken. page ≡ taken → ⊥) each.now → KeepsMarks (held_of self.old) (held_of self.new) page }
+        ensures marks { Marks (held_of self.old) (held_of self.new) }
+    {
+        if first == end {
+            return self.take_over(source, each);
+        }
+        self.take_ready(source, each, first, end)?;
+        self.permit_ready(first, end, permission);
+        Ok(())
+    }
+
+    // As `take_over`; the pages from `first` to before `end` are ready to be permitted then.
+    fn take_ready(
+        &mut self,
+        source: &PageTable,
+        each: &[u32],
+        first: u32,
+        end: u32,
+    ) -> Result<(), AllocError>
+        requires table { IsTable self.old }
+        requires within { All (λ page. page < pages) each.now }
+        requires rise { first < end }
+        requires in_range { end ≤ pages }
+        ensures table { IsTable self.new }
+        ensures ok { OnOk result (IsTakenOver (memory_of self.old.pages) (memory_of source.now.pages) each.now (memory_of self.new.pages)) }
+        ensures ready { OnOk result (ReadyRoot first end self.new.pages) }
+        ensures err { OnErr result (memory_of self.new.pages ≡ memory_of self.old.pages) }
+        ensures owned { OnErr result ((held_of self.new).owned ≡ (held_of self.old).owned) }
+        ensures others { (page : ℕ) → All (λ taken. page ≡ taken → ⊥) each.now → KeepsMarks (held_of self.old) (held_of self.new) page }
+        ensures marks { Marks (held_of self.old) (held_of self.new) }
+    {
+        let puts = self.prepare_each(source, each)?;
+        self.pages
+            .prepare(first as usize, end as usize, self.alloc)?;
+        self.put_each(puts);
+        Ok(())
+    }
+
+    // Puts in all that is held. A range that was ready to be permitted is.
+    fn put_each(&mut self, puts: Vec<Put>)
+        requires { All (CanPut self.old) puts.items }
+        ensures put { (t : PageTable) (source : Memory) (each : List ℕ) → IsPutting t source each self.old puts.items → IsPutting t source each self.new [] }
+        ensures range { (from to : ℕ) → ReadyRoot from to self.old.pages → ReadyRoot from to self.new.pages }
+    {
+        let mut puts = puts;
         while let Some(put) = puts.pop() {
             self.pages.replace(put.page as usize, put.kept);
         }
-        Ok(())
     }
 
     // Makes each of these pages ready to be exchanged, and holds what a source keeps of each. Some of them may be dirty then that were not.
