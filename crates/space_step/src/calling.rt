@@ -1,10 +1,9 @@
-ghost use Rattle.std.specs.Prelude.{◌≡◌, false, ◌-◌, ◌≤◌};
+ghost use Rattle.std.specs.Prelude.{◌≡◌, ◌-◌, ◌≤◌};
 ghost use Rattle.call_model.specs.Limits.{greatest_depth, levels_below};
-ghost use Rattle.instruction_model.specs.Outcome.{View, calls, view_of, outcome};
+ghost use Rattle.instruction_model.specs.Outcome.{calls, view_of, outcome};
 ghost use Rattle.space_model.specs.Change.{after_payment, after_success, stop};
 ghost use Rattle.space_model.specs.Event as event;
 ghost use Rattle.space_model.specs.Event.{MayPay};
-ghost use Rattle.space_step.specs.Calls.{may_write};
 ghost use Rattle.space_step.specs.Steps.{Acts, Steps};
 
 use crate::event::Next;
@@ -25,23 +24,7 @@ fn ret(top: &mut Top, value: u32)
     top.stop(Cause::Ret, value);
 }
 
-// Whether a call may write to the memory of its space.
-fn may_write(call: &Call) -> bool
-    ensures { result ≡ may_write call.now }
-{
-    matches!(call, Call::ConsoleIn { .. } | Call::File(_))
-}
-
-// Has the source forget all, before a call that may write to memory.
-fn prepare<S: Source>(source: &mut S, call: &Call)
-    ensures { (u v : View) → (may_write call.now ≡ false → v ≡ u) → S.agrees source.old u → S.agrees source.new v }
-{
-    if may_write(call) {
-        source.forget_all();
-    }
-}
-
-// What a call does, which is paid for. A call that meets children is left to do.
+// What a call does, which is paid for; before one that may write to memory, the source forgets all. A call that meets children is left to do.
 #[tactic(auto, using(crate::proofs::Answers::device_is_local, crate::proofs::Leaving::device_call_leaves))]
 fn act<S: Source>(source: &mut S, top: &mut Top, accepted: AcceptedCall) -> Result<Next, AllocError>
     requires { MayPay top.old }
@@ -49,12 +32,18 @@ fn act<S: Source>(source: &mut S, top: &mut Top, accepted: AcceptedCall) -> Resu
     ensures agrees { S.agrees source.old (view_of top.old.memory) → S.agrees source.new (view_of top.new.memory) }
 {
     let call = accepted.call();
-    prepare(source, &call);
     match call {
         Call::Ret { value } => ret(top, value),
-        Call::File(call) => file_call(top, call)?,
-        Call::ConsoleOut { .. } | Call::ConsoleIn { .. } | Call::Clock | Call::Random => {
+        Call::ConsoleOut { .. } => device_call(top, &call)?,
+        Call::Clock => device_call(top, &call)?,
+        Call::Random => device_call(top, &call)?,
+        Call::ConsoleIn { .. } => {
+            source.forget_all();
             device_call(top, &call)?;
+        }
+        Call::File(call) => {
+            source.forget_all();
+            file_call(top, call)?;
         }
         _ => return Ok(Next::Meet(accepted)),
     }

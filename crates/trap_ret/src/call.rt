@@ -223,6 +223,7 @@ fn read_kind(kind: Kind, x: &[u32; 32], is_root: bool, depth: u8) -> Result<Acce
 /// 7. console out or console in of more than 65,536 bytes, or a file call's name, data or buffer of more;
 /// 8. Put, Fork or Tfork at depth 8, Put with Tree at depth 7 or 8;
 /// 9. a register block at no multiple of 4, or above 0xFFFFFF78.
+#[inline(always)]
 pub fn read_call(x: &[u32; 32], is_root: bool, depth: u8) -> Result<AcceptedCall, Badcall>
     ensures { result ≡ table.read x.now is_root depth }
 {
