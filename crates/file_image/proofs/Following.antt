@@ -68,7 +68,7 @@ unfolding entry_from
 entry_tail k None s t name e = e
 entry_tail k (Some f) s t name e = ap (cond (bytes_eq f.name name) (Some (record { slot = k; file = f }))) e
 
-entry_same : (k : ℕ) (s t : List (Option File)) (name : List ℕ) → AllZip (IsSameFor name) s t → entry_from k s name ≡ entry_from k t name
+pub entry_same : (k : ℕ) (s t : List (Option File)) (name : List ℕ) → AllZip (IsSameFor name) s t → entry_from k s name ≡ entry_from k t name
 entry_same k [] [] name h = refl
 entry_same k [] (y ∷ t) name h = absurd h
 entry_same k (x ∷ s) [] name h = absurd h
@@ -105,9 +105,9 @@ IsApart name s stays = ⊤
 IsApart name s (writes e) = (holds name (get_or s e.slot None) ≡ false) × (bytes_eq e.file.name name ≡ false)
 IsApart name s leaves_out = ⊤
 
-record IsFree (s : List (Option File)) (j k : ℕ) : Type 0 where
-  from : j ≤ k
-  free : get_or s (k - j) None ≡ None
+pub record IsFree (s : List (Option File)) (j k : ℕ) : Type 0 where
+  pub from : j ≤ k
+  pub free : get_or s (k - j) None ≡ None
 
 some_free : (x : Option File) (s : List (Option File)) (j : ℕ) (o : Option ℕ) → IfSome o (IsFree s (j + 1)) → IfSome o (IsFree (x ∷ s) j)
 some_free x s j None h = tt
@@ -116,16 +116,16 @@ some_free x s j (Some k) h =
     let e : k - j ≡ suc (k - (j + 1)) = omega (arith, f) in
     record { from = omega (arith, f); free = ap (λ i. get_or (x ∷ s) i None) e ∙ h.free }
 
-free_is : (s : List (Option File)) (j : ℕ) → IfSome (free_from j s) (IsFree s j)
+pub free_is : (s : List (Option File)) (j : ℕ) → IfSome (free_from j s) (IsFree s j)
 unfolding free_from
 free_is [] j = tt
 free_is (None ∷ s) j = let e : j - j ≡ 0 = omega arith in record { from = omega arith; free = ap (λ i. get_or (None ∷ s) i None) e }
 free_is (Some f ∷ s) j = some_free (Some f) s j (free_from (j + 1) s) (free_is s (j + 1))
 
-record IsEntry (s : List (Option File)) (j : ℕ) (name : List ℕ) (e : Entry) : Type 0 where
-  from : j ≤ e.slot
-  file : get_or s (e.slot - j) None ≡ Some e.file
-  named : bytes_eq e.file.name name ≡ true
+pub record IsEntry (s : List (Option File)) (j : ℕ) (name : List ℕ) (e : Entry) : Type 0 where
+  pub from : j ≤ e.slot
+  pub file : get_or s (e.slot - j) None ≡ Some e.file
+  pub named : bytes_eq e.file.name name ≡ true
 
 some_entry : (x : Option File) (s : List (Option File)) (j : ℕ) (name : List ℕ) (o : Option Entry) → IfSome o (IsEntry s (j + 1) name) → IfSome o (IsEntry (x ∷ s) j name)
 some_entry x s j name None h = tt
@@ -139,7 +139,7 @@ first_entry : (t : Bool) (f : File) (s : List (Option File)) (j : ℕ) (name : L
 first_entry true f s j name o e h = let z : j - j ≡ 0 = omega arith in record { from = omega arith; file = ap (λ i. get_or (Some f ∷ s) i None) z; named = sym e }
 first_entry false f s j name o e h = some_entry (Some f) s j name o h
 
-entry_is : (s : List (Option File)) (j : ℕ) (name : List ℕ) → IfSome (entry_from j s name) (IsEntry s j name)
+pub entry_is : (s : List (Option File)) (j : ℕ) (name : List ℕ) → IfSome (entry_from j s name) (IsEntry s j name)
 unfolding entry_from
 entry_is [] j name = tt
 entry_is (None ∷ s) j name = some_entry None s j name (entry_from (j + 1) s name) (entry_is s (j + 1) name)

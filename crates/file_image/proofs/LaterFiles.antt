@@ -12,6 +12,7 @@ use Rattle.file_model.proofs.OtherSlots.{slots_written}
 use Rattle.file_model.proofs.Reconciling.{rest, rest_none, rest_stays, edits_first, left_out_later, edits_later, left_out_first, WritesFile, outcome_well}
 use Rattle.file_model.proofs.WellFormed.{file_well}
 use Rattle.file_image.specs.Lookup.{file_in, HasFile}
+use Rattle.file_image.specs.Spared.{slots_after}
 use Rattle.file_image.specs.Outcomes.{Happens, IsReadyFor, AreReady, is_shown, is_changed}
 
 -- ---- the files from slot k on that no lower slot hides
@@ -25,7 +26,7 @@ unfolding shown_from
 shown_choice true all k f slots = refl
 shown_choice false all k f slots = refl
 
-later_next : (d : ℕ → ℕ) (k : ℕ) → k < 64 → later d k ≡ cond (is_shown d k) (file_in d k ∷ later d (k + 1)) (later d (k + 1))
+pub later_next : (d : ℕ → ℕ) (k : ℕ) → k < 64 → later d k ≡ cond (is_shown d k) (file_in d k ∷ later d (k + 1)) (later d (k + 1))
 unfolding slot_at
 later_next d k h = ap (shown_from (slots_of d) k) (slots_next d k 64 h) ∙ shown_choice (is_in_use d (slot_start k)) (slots_of d) k (file_in d k) (slots_from d (k + 1) (64 - (k + 1)))
 
@@ -80,6 +81,7 @@ record Goes (b n : ℕ → ℕ) (c : File) (cs : List File) (out : Bool) : Type 
   bytes : with_entries b (rest (slots_of b) (c ∷ cs)).edits ≡ with_entries n (rest (slots_of n) cs).edits
   left_out : (rest (slots_of b) (c ∷ cs)).left_out ≡ cond out 1 0 + (rest (slots_of n) cs).left_out
   ready : (ready : ℕ → Bool) → AreReady ready (rest (slots_of b) (c ∷ cs)) → AreReady ready (rest (slots_of n) cs)
+  slots : slots_of n ≡ slots_after (slots_of b) (reconcile_file c (slots_of b))
 
 entries_first : (b : ℕ → ℕ) (e : Entry) (es : List Entry) → with_entries b (e ∷ es) ≡ with_entries (with_slot b e.slot e.file) es
 unfolding with_entries
@@ -99,6 +101,7 @@ goes_on b n c cs h e =
       bytes = λ i. with_entries (sym e i) (same i).edits;
       left_out = ap (λ (r : Reconciliation). r.left_out) same ∙ z;
       ready = λ ready a. subst (AreReady ready) same a;
+      slots = ap slots_of e ∙ ap (slots_after (slots_of b)) (sym h);
     }
 
 goes_without : (b n : ℕ → ℕ) (c : File) (cs : List File) → reconcile_file c (slots_of b) ≡ leaves_out → n ≡ b → Goes b n c cs true
@@ -109,6 +112,7 @@ goes_without b n c cs h e =
       bytes = λ i. with_entries (sym e i) (same i);
       left_out = left_out_first (slots_of b) c cs h ∙ ap (λ (r : Reconciliation). 1 + r.left_out) r;
       ready = λ ready a. subst (All (λ (e : Entry). ready e.slot ≡ true)) same a;
+      slots = ap slots_of e ∙ ap (slots_after (slots_of b)) (sym h);
     }
 
 goes_written : (b n : ℕ → ℕ) (c : File) (cs : List File) (e : Entry) → reconcile_file c (slots_of b) ≡ writes e → IsFile e.file → n ≡ with_slot b e.slot e.file → Goes b n c cs false
@@ -120,6 +124,7 @@ goes_written b n c cs e h f w =
       bytes = ap (with_entries b) same ∙ entries_first b e (rest (slots_of n) cs).edits ∙ ap (λ (x : ℕ → ℕ). with_entries x (rest (slots_of n) cs).edits) (sym w);
       left_out = left_out_later (slots_of b) c cs e h ∙ ap (λ x. (rest x cs).left_out) s ∙ z;
       ready = λ ready a. ready_later ready e (rest (slots_of n) cs).edits (subst (All (λ (e : Entry). ready e.slot ≡ true)) same a);
+      slots = sym s ∙ ap (slots_after (slots_of b)) (sym h);
     }
 
 goes : (b n : ℕ → ℕ) (c : File) (cs : List File) (o : Outcome) (out : Bool) → reconcile_file c (slots_of b) ≡ o → WritesFile o → Happens o out b n → Goes b n c cs out
@@ -141,6 +146,7 @@ pub record Turns (b n d : ℕ → ℕ) (k : ℕ) (out : Bool) : Type 0 where
   pub bytes : with_entries b (rest (slots_of b) (later d k)).edits ≡ with_entries n (rest (slots_of n) (later d (k + 1))).edits
   pub left_out : (rest (slots_of b) (later d k)).left_out ≡ cond out 1 0 + (rest (slots_of n) (later d (k + 1))).left_out
   pub ready : (ready : ℕ → Bool) → AreReady ready (rest (slots_of b) (later d k)) → AreReady ready (rest (slots_of n) (later d (k + 1)))
+  pub slots : slots_of n ≡ slots_after (slots_of b) (reconcile_file (file_in d k) (slots_of b))
 
 pub turns : (b n d : ℕ → ℕ) (k : ℕ) (out : Bool) → ((a : ℕ) → b a < 256) → ((a : ℕ) → d a < 256) → HasFile d k → is_shown d k ≡ true
     → Happens (reconcile_file (file_in d k) (slots_of b)) out b n → Turns b n d k out
@@ -151,6 +157,7 @@ turns b n d k out small small_child u h w =
       bytes = ap (λ cs. with_entries b (rest (slots_of b) cs).edits) l ∙ g.bytes;
       left_out = ap (λ cs. (rest (slots_of b) cs).left_out) l ∙ g.left_out;
       ready = λ ready a. g.ready ready (subst (λ cs. AreReady ready (rest (slots_of b) cs)) l a);
+      slots = g.slots;
     }
 
 -- the slot that the file of slot k writes is ready

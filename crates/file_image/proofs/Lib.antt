@@ -9,5 +9,7 @@ pub mod Contents
 pub mod Growth
 pub mod LaterFiles
 pub mod Following
-pub mod MarkBits
+pub mod Turns
 pub mod Marked
+pub mod Planned
+pub mod Sharing

@@ -14,6 +14,7 @@ use Rattle.file_model.proofs.Lookups.{length-slots_from, and_right}
 use Rattle.file_model.proofs.Reconciling.{rest, rest_none, rest_stays, edits_first, edits_later}
 use Rattle.file_image.specs.Lookup.{file_in}
 use Rattle.file_image.specs.Outcomes.{is_shown, is_changed}
+use Rattle.file_image.specs.Spared.{slots_after}
 use Rattle.file_image.specs.Marks.{slot_of, with_mark, AreInUse, IsSameFor, Follows}
 use Rattle.file_image.proofs.LaterFiles.{later, later_idle, later_shown, later_end}
 use Rattle.file_image.proofs.Following.{IsApart, apart, same_set, use_set}
@@ -66,6 +67,14 @@ marked_idle b d marks k h e m = record {
   later_marks = ap (λ (r : Reconciliation). mark_entries marks r.edits) (sym (later_idle m.slots d k h e)) ∙ m.later_marks;
 }
 
+pub idle_slots : (b d : ℕ → ℕ) (marks : List Bool) (k : ℕ) (h : k < 64) (e : is_changed d k ≡ false) (m : IsMarked b d marks k) → (marked_idle b d marks k h e m).slots ≡ m.slots
+unfolding marked_idle
+idle_slots b d marks k h e m = refl
+
+pub begin_slots : (b d : ℕ → ℕ) → (marked_begin b d).slots ≡ slots_of b
+unfolding marked_begin
+begin_slots b d = refl
+
 is_slot : (a b : ℕ) → (a == b) ≡ true → a ≡ b
 is_slot a b h = grind (arith, nat_tests)
 
@@ -84,7 +93,7 @@ pub at_name : (d : ℕ → ℕ) (k : ℕ) → is_shown d k ≡ true → is_at k 
 at_name d k h = and_right (is_in_use d (slot_start k)) (is_at k (entry_of (slots_of d) (file_in d k).name)) h
 
 -- the file of slot k has another name than each later one
-other_name : (d : ℕ → ℕ) (k j : ℕ) (name : List ℕ) → is_shown d k ≡ true → k < j → is_at j (entry_of (slots_of d) name) ≡ true → bytes_eq (file_in d k).name name ≡ false
+pub other_name : (d : ℕ → ℕ) (k j : ℕ) (name : List ℕ) → is_shown d k ≡ true → k < j → is_at j (entry_of (slots_of d) name) ≡ true → bytes_eq (file_in d k).name name ≡ false
 other_name d k j name h l a = differ (bytes_eq (file_in d k).name name) (slots_of d) (file_in d k).name name k j refl (at_name d k h) a l
 
 marks_first : (marks : List Bool) (e : Entry) (es : List Entry) → mark_entries marks (e ∷ es) ≡ mark_entries (slice_set marks e.slot true) es
@@ -118,9 +127,21 @@ marked_after b d marks k leaves_out h e m r p = record {
   later_marks = ap (mark_entries marks) (sym (edits_later m.slots (file_in d k) (later d (k + 1)) r)) ∙ ap (λ cs. mark_entries marks (rest m.slots cs).edits) (sym (later_shown d k h e)) ∙ m.later_marks;
 }
 
+-- the slots are those after the file
+slots_marked : (b d : ℕ → ℕ) (marks : List Bool) (k : ℕ) (o : Outcome) (h : k < 64) (e : is_shown d k ≡ true) (m : IsMarked b d marks k) (r : reconcile_file (file_in d k) m.slots ≡ o)
+    (p : (name : List ℕ) → bytes_eq (file_in d k).name name ≡ false → IsApart name m.slots o) → (marked_after b d marks k o h e m r p).slots ≡ slots_after m.slots o
+unfolding marked_after
+slots_marked b d marks k stays h e m r p = refl
+slots_marked b d marks k (writes q) h e m r p = refl
+slots_marked b d marks k leaves_out h e m r p = refl
+
 pub marked_shown : (b d : ℕ → ℕ) (marks : List Bool) (k : ℕ) → k < 64 → is_shown d k ≡ true → (m : IsMarked b d marks k)
     → IsMarked b d (with_mark marks (slot_of (reconcile_file (file_in d k) m.slots))) (k + 1)
 marked_shown b d marks k h e m = marked_after b d marks k (reconcile_file (file_in d k) m.slots) h e m refl (λ name n. apart name m.slots (file_in d k) n)
+
+pub marked_slots : (b d : ℕ → ℕ) (marks : List Bool) (k : ℕ) (h : k < 64) (e : is_shown d k ≡ true) (m : IsMarked b d marks k) → (marked_shown b d marks k h e m).slots ≡ slots_after m.slots (reconcile_file (file_in d k) m.slots)
+unfolding marked_shown marked_after
+marked_slots b d marks k h e m = slots_marked b d marks k (reconcile_file (file_in d k) m.slots) h e m refl (λ name n. apart name m.slots (file_in d k) n)
 
 -- the slots by now, for the file of slot k
 pub follows : (b d : ℕ → ℕ) (marks : List Bool) (k : ℕ) → is_shown d k ≡ true → (m : IsMarked b d marks k) → Follows b marks (file_in d k).name m.slots

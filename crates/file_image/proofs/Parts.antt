@@ -1,14 +1,14 @@
 -- A part of a content.
-use Rattle.std.proofs.Common.{◌≡◌, ℕ, zero, suc, ◌+◌, ◌-◌, ◌<◌, ◌≤◌, ◌⊎◌, inl, inr, min, true, List, [], ◌∷◌, ◌++◌, length, get_or, take, drop, refl, ap, sym, ◌∙◌, arith}
+use Rattle.std.proofs.Common.{◌≡◌, ℕ, zero, suc, ◌+◌, ◌-◌, ◌<◌, ◌≤◌, ◌⊎◌, inl, inr, min, true, List, [], ◌∷◌, ◌++◌, length, get_or, take, drop, refl, ap, sym, ◌∙◌, arith, length-drop}
 use Rattle.std.proofs.lemmas.Bool.{cases_lt}
-use Rattle.std.proofs.lemmas.List.{ext_get_or}
-use Rattle.file_model.specs.Slots.{bytes_from, file_at, number_at, slot_start, length_offset}
+use Rattle.std.proofs.lemmas.List.{ext_get_or, get_or-drop}
+use Rattle.file_model.specs.Slots.{with_bytes, bytes_from, file_at, number_at, slot_start, length_offset}
 use Rattle.file_image.specs.Lookup.{file_in, HasFile}
 use Rattle.file_model.specs.Sizes.{greatest_length}
 use Rattle.file_model.specs.File.{is_name}
 use Rattle.file_model.proofs.OtherSlots.{named_in_use}
 use Rattle.file_model.proofs.Lookups.{content_length, short_content}
-use Rattle.file_model.proofs.Bytes.{length-bytes_from, index-bytes_from, drop-bytes_from}
+use Rattle.file_model.proofs.Bytes.{length-bytes_from, index-bytes_from, drop-bytes_from, with_bytes_before, with_bytes_inside, with_bytes_after}
 
 pub take_all : (n : ℕ) (xs : List ℕ) → length xs ≤ n → take n xs ≡ xs
 take_all zero [] h = refl
@@ -59,6 +59,26 @@ pub copied : (b : ℕ → ℕ) (at : ℕ) (xs : List ℕ) (n : ℕ) → length x
 copied b at xs n e h =
     let l : length xs ≡ length (bytes_from b at n) = e ∙ sym (length-bytes_from b at n) in
     ext_get_or 0 xs (bytes_from b at n) l (λ i g. let m : i < n = omega arith in h i m ∙ sym (index-bytes_from b at n i m))
+
+-- a content is written where its end is, and its beginning stands there
+pub content_behind : (b : ℕ → ℕ) (at n : ℕ) (content : List ℕ) → n ≤ length content → ((i : ℕ) → i < n → b (at + i) ≡ get_or content i 0) → (a : ℕ) → with_bytes b (at + n) (drop n content) a ≡ with_bytes b at content a
+content_behind b at n content few same a =
+    let l : length (drop n content) ≡ length content - n = length-drop n content in
+    elim (cases_lt a (at + n)) [
+      | inl before ↦ elim (cases_lt a at) [
+        | inl low ↦ with_bytes_before b (at + n) (drop n content) a (omega arith) ∙ sym (with_bytes_before b at content a low)
+        | inr from ↦
+            let e : a ≡ at + (a - at) = omega arith in
+            with_bytes_before b (at + n) (drop n content) a before ∙ ap b e ∙ same (a - at) (omega arith) ∙ sym (with_bytes_inside b at content a from (omega arith))
+      ]
+      | inr past ↦ elim (cases_lt a (at + length content)) [
+        | inl inside ↦
+            let e : n + (a - (at + n)) ≡ a - at = omega arith in
+            with_bytes_inside b (at + n) (drop n content) a past (omega (arith, l)) ∙ get_or-drop n content (a - (at + n)) 0 ∙ ap (λ i. get_or content i 0) e
+            ∙ sym (with_bytes_inside b at content a (omega arith) inside)
+        | inr after ↦ with_bytes_after b (at + n) (drop n content) a (omega (arith, l)) ∙ sym (with_bytes_after b at content a after)
+      ]
+    ]
 
 -- the content is what stands in the slot
 pub own_content : (b : ℕ → ℕ) (k : ℕ) → (file_in b k).content ≡ bytes_from b (slot_start k + 4096) (length (file_in b k).content)

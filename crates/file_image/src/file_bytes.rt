@@ -1,6 +1,6 @@
 ghost use Rattle.std.specs.Prelude.{◌≡◌, ℕ, ◌<◌, ◌≤◌, ◌+◌, ◌/◌, ◌%◌, ◌==◌, Bool, true, if◌then◌else◌, length, IfSome};
 ghost use Rattle.file_model.specs.Sizes.{slot_count, slot_size, all_slots_size, content_offset};
-ghost use Rattle.file_model.specs.Slots.{bytes_from, with_bytes};
+ghost use Rattle.file_model.specs.Slots.{slot_start, bytes_from, with_bytes};
 
 /// What the slots of files are kept in. Offsets count from where slot 0 begins, and are below 4,194,304.
 pub trait FileBytes {
@@ -9,6 +9,9 @@ pub trait FileBytes {
 
     // whether each slot may be written
     ghost is_ready: { Self → ℕ → Bool };
+
+    // how many bytes of each slot's content, from its start on, are not written, also where the slot is ready
+    ghost spared: { Self → ℕ → ℕ };
 
     // whether the header of each slot may be written
     ghost has_header: { Self → ℕ → Bool };
@@ -26,6 +29,7 @@ pub trait FileBytes {
         requires within { offset < all_slots_size }
         requires header { has_header self.old (offset / slot_size) ≡ true }
         requires content { content_offset ≤ offset % slot_size → is_ready self.old (offset / slot_size) ≡ true }
+        requires beyond { content_offset ≤ offset % slot_size → content_offset + spared self.old (offset / slot_size) ≤ offset % slot_size }
         ensures bytes { (a : ℕ) → bytes self.new a ≡ (if a == offset then value else bytes self.old a) }
         ensures kept { keeps self.old self.new };
 
@@ -57,6 +61,7 @@ pub trait FileBytes {
         requires page { offset % content_offset + length run.now ≤ content_offset }
         requires header { has_header self.old (offset / slot_size) ≡ true }
         requires content { content_offset ≤ offset % slot_size → is_ready self.old (offset / slot_size) ≡ true }
+        requires beyond { content_offset ≤ offset % slot_size → content_offset + spared self.old (offset / slot_size) ≤ offset % slot_size }
         ensures bytes { (a : ℕ) → bytes self.new a ≡ with_bytes (bytes self.old) offset run.now a }
         ensures kept { keeps self.old self.new }
     {
@@ -64,6 +69,11 @@ pub trait FileBytes {
             self.set(offset + i as u32, *b);
         }
     }
+
+    /// How many bytes of a slot's content, from its start on, are not written.
+    fn spare(&self, slot: u32) -> u32
+        requires { slot < slot_count }
+        ensures { result ≡ spared self.now slot };
 
     /// Whether a slot, below 64, may be written.
     fn ready(&self, slot: u32) -> bool
@@ -80,6 +90,11 @@ pub trait FileBytes {
     ghost ready_on: { (s t : Self) (k : ℕ) → keeps s t → is_ready s k ≡ true → is_ready t k ≡ true };
 
     ghost header_on: { (s t : Self) (k : ℕ) → keeps s t → has_header s k ≡ true → has_header t k ≡ true };
+
+    // as many bytes of a slot are not written after a write, and they stay
+    ghost spared_on: { (s t : Self) (k : ℕ) → keeps s t → spared t k ≡ spared s k };
+
+    ghost spared_stays: { (s t : Self) (k i : ℕ) → keeps s t → i < spared s k → bytes t (slot_start k + content_offset + i) ≡ bytes s (slot_start k + content_offset + i) };
 
     // the header of a slot that is ready may be written
     ghost header_ready: { (s : Self) (k : ℕ) → is_ready s k ≡ true → has_header s k ≡ true };

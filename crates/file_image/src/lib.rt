@@ -19,7 +19,7 @@ pub use editing::{create, create_slot, delete};
 pub use file_bytes::FileBytes;
 pub use file_model::FileError;
 pub use lookup::{find, lowest_free, used};
-pub use marking::touched;
+pub use marking::{Plan, touched};
 pub use putting::{put, put_slot};
 pub use reading::{get, len, present};
 pub use reconciling::reconcile;

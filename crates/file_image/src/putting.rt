@@ -25,6 +25,7 @@ fn write_content<B: FileBytes>(bytes: &mut B, slot: u32, part: &[u8], add: bool)
     requires slot { HasFile (B.bytes bytes.old) slot }
     requires long { length (files.new_content (file_in (B.bytes bytes.old) slot) part.now add) ≤ greatest_length }
     requires ready { B.is_ready bytes.old slot ≡ true }
+    requires all { B.spared bytes.old slot ≡ 0 }
     ensures bytes { B.bytes bytes.new ≡ with_slot (B.bytes bytes.old) slot (files.with_content part.now add (file_in (B.bytes bytes.old) slot)) }
     ensures kept { B.keeps bytes.old bytes.new }
 {
@@ -70,14 +71,15 @@ pub fn put_slot<B: FileBytes>(
     }
 }
 
-/// Replaces a file's content, or adds to it. The file's slot is ready.
+/// Replaces a file's content, or adds to it. The file's slot is ready, with all of its content.
 pub fn put<B: FileBytes>(
     bytes: &mut B,
     name: &[u8],
     part: &[u8],
     add: bool,
 ) -> Result<(), FileError>
-    requires { IfOk (files.put (slots_of (B.bytes bytes.old)) name.now part.now add) (λ e. B.is_ready bytes.old e.slot ≡ true) }
+    requires ready { IfOk (files.put (slots_of (B.bytes bytes.old)) name.now part.now add) (λ e. B.is_ready bytes.old e.slot ≡ true) }
+    requires all { IfOk (files.put (slots_of (B.bytes bytes.old)) name.now part.now add) (λ e. B.spared bytes.old e.slot ≡ 0) }
     ensures applied { Applies (files.put (slots_of (B.bytes bytes.old)) name.now part.now add) result (B.bytes bytes.old) (B.bytes bytes.new) }
     ensures kept { B.keeps bytes.old bytes.new }
 {

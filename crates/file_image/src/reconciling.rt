@@ -5,6 +5,7 @@ ghost use Rattle.file_model.specs.Operations.{entry_of, lowest_free};
 ghost use Rattle.file_model.specs.Reconcile as reconciling;
 ghost use Rattle.file_image.specs.Lookup.{file_in, HasFile, optional_entry};
 ghost use Rattle.file_image.specs.Outcomes.{Happens, IsReadyFor, AreReady, is_changed};
+ghost use Rattle.file_image.specs.Spared.{AtEachTurn, HasFirst, IsSparedFor, IsSparedTurn, content_in, is_taken};
 
 use crate::fields::{base, is_append, is_conflicted, is_deleted, length, length_at_base, version};
 use crate::file_bytes::FileBytes;
@@ -86,6 +87,7 @@ fn reconcile_both<P: FileBytes, C: FileBytes>(parent: &mut P, to: u32, child: &C
     requires to { HasFile (P.bytes parent.old) to }
     requires slot { HasFile (C.bytes child.now) slot }
     requires ready { P.is_ready parent.old to ≡ true }
+    requires all { P.spared parent.old to ≡ 0 }
     ensures bytes { P.bytes parent.new ≡ with_slot (P.bytes parent.old) to (reconciling.after_both (file_in (C.bytes child.now) slot) (file_in (P.bytes parent.old) to)) }
     ensures kept { P.keeps parent.old parent.new }
 {
@@ -101,6 +103,7 @@ fn take_over<P: FileBytes, C: FileBytes>(parent: &mut P, to: u32, child: &C, slo
     requires to { HasFile (P.bytes parent.old) to }
     requires slot { HasFile (C.bytes child.now) slot }
     requires ready { P.is_ready parent.old to ≡ true }
+    requires spared { HasFirst (content_in (P.bytes parent.old) to) (P.spared parent.old to) (file_in (C.bytes child.now) slot).content }
     ensures bytes { P.bytes parent.new ≡ with_slot (P.bytes parent.old) to (reconciling.child_file (file_in (C.bytes child.now) slot) (file_in (P.bytes parent.old) to).base (file_in (P.bytes parent.old) to).length_at_base) }
     ensures kept { P.keeps parent.old parent.new }
 {
@@ -114,6 +117,8 @@ fn reconcile_child<P: FileBytes, C: FileBytes>(parent: &mut P, to: u32, child: &
     requires to { HasFile (P.bytes parent.old) to }
     requires slot { HasFile (C.bytes child.now) slot }
     requires ready { P.is_ready parent.old to ≡ true }
+    requires spared { (file_in (P.bytes parent.old) to).version ≡ (file_in (C.bytes child.now) slot).base → HasFirst (content_in (P.bytes parent.old) to) (P.spared parent.old to) (file_in (C.bytes child.now) slot).content }
+    requires all { ((file_in (P.bytes parent.old) to).version ≡ (file_in (C.bytes child.now) slot).base → ⊥) → P.spared parent.old to ≡ 0 }
     ensures bytes { P.bytes parent.new ≡ with_slot (P.bytes parent.old) to (reconciling.after_child (file_in (C.bytes child.now) slot) (file_in (P.bytes parent.old) to)) }
     ensures kept { P.keeps parent.old parent.new }
 {
@@ -128,6 +133,7 @@ fn reconcile_child<P: FileBytes, C: FileBytes>(parent: &mut P, to: u32, child: &
 fn take_new<P: FileBytes, C: FileBytes>(parent: &mut P, child: &C, slot: u32) -> bool
     requires slot { HasFile (C.bytes child.now) slot }
     requires ready { IfSome (lowest_free (slots_of (P.bytes parent.old))) (λ k. P.is_ready parent.old k ≡ true) }
+    requires spared { IfSome (lowest_free (slots_of (P.bytes parent.old))) (λ k. HasFirst (content_in (P.bytes parent.old) k) (P.spared parent.old k) (file_in (C.bytes child.now) slot).content) }
     ensures happens { Happens (reconciling.arrival (file_in (C.bytes child.now) slot) (lowest_free (slots_of (P.bytes parent.old)))) result (P.bytes parent.old) (P.bytes parent.new) }
     ensures kept { P.keeps parent.old parent.new }
 {
@@ -144,6 +150,7 @@ fn take_new<P: FileBytes, C: FileBytes>(parent: &mut P, child: &C, slot: u32) ->
 fn reconcile_changed<P: FileBytes, C: FileBytes>(parent: &mut P, child: &C, slot: u32) -> bool
     requires slot { HasFile (C.bytes child.now) slot }
     requires ready { IsReadyFor (λ k. P.is_ready parent.old k) (reconciling.against (file_in (C.bytes child.now) slot) (entry_of (slots_of (P.bytes parent.old)) (file_in (C.bytes child.now) slot).name) (slots_of (P.bytes parent.old))) }
+    requires spared { let o = entry_of (slots_of (P.bytes parent.old)) (file_in (C.bytes child.now) slot).name in IsSparedFor (reconciling.against (file_in (C.bytes child.now) slot) o (slots_of (P.bytes parent.old))) (is_taken (file_in (C.bytes child.now) slot) o) (content_in (P.bytes parent.old)) (P.spared parent.old) (file_in (C.bytes child.now) slot).content }
     ensures happens { Happens (reconciling.against (file_in (C.bytes child.now) slot) (entry_of (slots_of (P.bytes parent.old)) (file_in (C.bytes child.now) slot).name) (slots_of (P.bytes parent.old))) result (P.bytes parent.old) (P.bytes parent.new) }
     ensures kept { P.keeps parent.old parent.new }
 {
@@ -164,9 +171,11 @@ fn count(left_out: u32, is_left_out: bool) -> u32
     u32::from(is_left_out) + left_out
 }
 
-/// Takes over into a parent's files what its child changed, and counts the files that are left out. The slots that are written are ready.
+/// Takes over into a parent's files what its child changed, and counts the files that are left out. The slots that are written are ready;
+/// bytes of them that are not written have been taken before.
 pub fn reconcile<P: FileBytes, C: FileBytes>(parent: &mut P, child: &C) -> u32
-    requires { AreReady (λ k. P.is_ready parent.old k) (reconciling.reconcile (slots_of (P.bytes parent.old)) (slots_of (C.bytes child.now))) }
+    requires ready { AreReady (λ k. P.is_ready parent.old k) (reconciling.reconcile (slots_of (P.bytes parent.old)) (slots_of (C.bytes child.now))) }
+    requires spared { AtEachTurn (IsSparedTurn (content_in (P.bytes parent.old)) (P.spared parent.old)) (slots_of (P.bytes parent.old)) (reconciling.shown_files (slots_of (C.bytes child.now))) }
     ensures bytes { P.bytes parent.new ≡ reconciling.reconciled_bytes (P.bytes parent.old) (C.bytes child.now) }
     ensures left_out { result ≡ (reconciling.reconcile (slots_of (P.bytes parent.old)) (slots_of (C.bytes child.now))).left_out }
     ensures kept { P.keeps parent.old parent.new }

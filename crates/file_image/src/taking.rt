@@ -3,6 +3,7 @@ ghost use Rattle.file_model.specs.Sizes.{slot_count, slot_size, all_slots_size, 
 ghost use Rattle.file_model.specs.Slots.{slot_start, bytes_from, with_bytes, with_slot};
 ghost use Rattle.file_model.specs.Reconcile as reconciling;
 ghost use Rattle.file_image.specs.Lookup.{file_in, HasFile};
+ghost use Rattle.file_image.specs.Spared.{HasFirst, content_in};
 
 use crate::editing::next_version;
 use crate::fields::{length, length_at_base};
@@ -24,6 +25,7 @@ fn copy_piece<P: FileBytes, C: FileBytes>(
     requires within { offset + count ≤ slot_size }
     requires from { from < all_slots_size }
     requires ready { P.is_ready parent.old slot ≡ true }
+    requires beyond { content_offset + P.spared parent.old slot ≤ offset }
     ensures bytes { P.bytes parent.new ≡ with_bytes (P.bytes parent.old) (slot_start slot + offset) (bytes_from (C.bytes child.now) from count) }
     ensures kept { P.keeps parent.old parent.new }
 {
@@ -51,6 +53,7 @@ fn copy_bytes<P: FileBytes, C: FileBytes>(
     requires within { offset + count ≤ slot_size }
     requires from { from + count ≤ all_slots_size }
     requires ready { P.is_ready parent.old slot ≡ true }
+    requires beyond { content_offset + P.spared parent.old slot ≤ offset }
     ensures bytes { P.bytes parent.new ≡ with_bytes (P.bytes parent.old) (slot_start slot + offset) (bytes_from (C.bytes child.now) from count) }
     ensures ready { P.is_ready parent.new slot ≡ true }
     ensures kept { P.keeps parent.old parent.new }
@@ -64,7 +67,7 @@ fn copy_bytes<P: FileBytes, C: FileBytes>(
     }
 }
 
-// The parent's slot gets the child's file, with this base.
+// The parent's slot gets the child's file, with this base; what it has of the content is passed over.
 pub(crate) fn take_file<P: FileBytes, C: FileBytes>(
     parent: &mut P,
     to: u32,
@@ -76,6 +79,7 @@ pub(crate) fn take_file<P: FileBytes, C: FileBytes>(
     requires to { to < slot_count }
     requires slot { HasFile (C.bytes child.now) slot }
     requires ready { P.is_ready parent.old to ≡ true }
+    requires spared { HasFirst (content_in (P.bytes parent.old) to) (P.spared parent.old to) (file_in (C.bytes child.now) slot).content }
     ensures bytes { P.bytes parent.new ≡ with_slot (P.bytes parent.old) to (reconciling.child_file (file_in (C.bytes child.now) slot) base length_at_base) }
     ensures kept { P.keeps parent.old parent.new }
 {
@@ -83,13 +87,14 @@ pub(crate) fn take_file<P: FileBytes, C: FileBytes>(
     header.base = base;
     header.length_at_base = length_at_base;
     write_header(parent, to, &header);
+    let spare = parent.spare(to);
     copy_bytes(
         parent,
         to,
-        CONTENT,
+        CONTENT + spare,
         child,
-        SLOT_SIZE * slot + CONTENT,
-        header.length,
+        SLOT_SIZE * slot + CONTENT + spare,
+        header.length - spare,
     );
 }
 
@@ -113,6 +118,7 @@ pub(crate) fn add_growth<P: FileBytes, C: FileBytes>(parent: &mut P, to: u32, ch
     requires slot { HasFile (C.bytes child.now) slot }
     requires joinable { reconciling.are_joinable (file_in (C.bytes child.now) slot) (file_in (P.bytes parent.old) to) ≡ true }
     requires ready { P.is_ready parent.old to ≡ true }
+    requires all { P.spared parent.old to ≡ 0 }
     ensures bytes { P.bytes parent.new ≡ with_slot (P.bytes parent.old) to (reconciling.with_addition (file_in (C.bytes child.now) slot) (file_in (P.bytes parent.old) to)) }
     ensures kept { P.keeps parent.old parent.new }
 {

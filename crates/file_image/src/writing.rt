@@ -40,6 +40,7 @@ pub(crate) fn write_bytes<B: FileBytes>(bytes: &mut B, slot: u32, offset: u32, p
     requires within { offset + length part.now ≤ slot_size }
     requires ready { B.has_header bytes.old slot ≡ true }
     requires content { content_offset < offset + length part.now → B.is_ready bytes.old slot ≡ true }
+    requires beyond { content_offset < offset + length part.now → content_offset + B.spared bytes.old slot ≤ offset }
     ensures bytes { B.bytes bytes.new ≡ with_bytes (B.bytes bytes.old) (slot_start slot + offset) part.now }
     ensures ready { B.has_header bytes.new slot ≡ true }
     ensures kept { B.keeps bytes.old bytes.new }

@@ -5,4 +5,5 @@ pub mod Results
 pub mod Refusals
 pub mod Contents
 pub mod Bases
+pub mod Taking
 pub mod Parents

@@ -5,8 +5,9 @@ use Rattle.std.proofs.lemmas.Bool.{cases_eq, false≢true}
 use Rattle.std.proofs.lemmas.Bool.Decides.{nat_tests}
 use Rattle.std.proofs.lemmas.List.{get_or-set_same, get_or-set_other}
 use Rattle.std.proofs.Math.Nat.{pow-succ', div-div-eq-div-mul}
+use Rattle.file_image.specs.Spared.{spared_in}
 use Rattle.space_mem.specs.Held.{Held}
-use Rattle.memory_files.specs.Slots.{OwnsSlots, has_slot}
+use Rattle.memory_files.specs.Slots.{AreFew, OwnsParts, OwnsSlots, has_slot}
 
 no_slot : (n k : ℕ) → get_or (replicate n false) k false ≡ false
 no_slot zero k = refl
@@ -16,6 +17,27 @@ no_slot (suc n) (suc k) = no_slot n k
 -- to begin with, none is owned
 pub none_owned : (h : Held) (n : ℕ) → OwnsSlots h n (replicate 64 false)
 none_owned h n k e = absurd (false≢true (sym (no_slot 64 k) ∙ e))
+
+-- none of them has pages that are taken
+pub no_pages : (n k : ℕ) → ◌≡◌ {A = ℕ} (get_or (replicate {A = ℕ} n 0) k 0) 0
+no_pages zero k = refl
+no_pages (suc n) zero = refl
+no_pages (suc n) (suc k) = no_pages n k
+
+pub none_parts : (h : Held) (whole : List ℕ) → OwnsParts h (replicate 64 false) whole
+none_parts h whole k e = absurd (false≢true (sym (no_slot 64 k) ∙ e))
+
+pub all_parts : (h : Held) (slots : List Bool) (whole : List ℕ) → OwnsSlots h 16 slots → OwnsParts h slots whole
+all_parts h slots whole owned k ready page low high = owned k ready page (omega (arith, low)) high
+
+pub few_none : (whole : List ℕ) → ((k : ℕ) → get_or whole k 0 ≡ 0) → AreFew whole
+few_none whole none k = omega (arith, none k)
+
+pub headers_of : (h : Held) (slots : List Bool) → OwnsSlots h 16 slots → OwnsSlots h 1 slots
+headers_of h slots owned k ready page low high = owned k ready page low (omega (arith, high))
+
+pub none_spared : (k : ℕ) → spared_in (replicate 64 0) k ≡ 0
+none_spared k = (let e = no_pages 64 k in omega (arith, e))
 
 pub none_within : (slots : List Bool) (k : ℕ) → has_slot (replicate 64 false) k ≡ true → has_slot slots k ≡ true
 none_within slots k e = absurd (false≢true (sym (no_slot 64 k) ∙ e))

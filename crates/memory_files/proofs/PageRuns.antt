@@ -1,5 +1,5 @@
 -- Bytes of slots that are read or written at once.
-use Rattle.std.proofs.Common.{◌≡◌, ℕ, zero, suc, ◌+◌, ◌-◌, ◌*◌, ◌/◌, ◌%◌, ◌<◌, ◌≤◌, inl, inr, Bool, List, [], ◌∷◌, length, replicate, refl, sym, ◌∙◌, ap, arith, Option, Some, None, Bor}
+use Rattle.std.proofs.Common.{◌≡◌, ℕ, zero, suc, ◌+◌, ◌-◌, ◌*◌, ◌/◌, ◌%◌, ◌<◌, ◌≤◌, ◌⊎◌, inl, inr, Bool, List, [], ◌∷◌, length, replicate, refl, sym, ◌∙◌, ap, arith, Option, Some, None, Bor}
 use Rattle.std.specs.Prelude.{slice_index, IfSome}
 use Rattle.std.proofs.lemmas.Bool.{cases_lt}
 use Rattle.std.proofs.lemmas.List.{get_or-replicate, length-replicate}
@@ -14,7 +14,7 @@ use Rattle.space_model.specs.Files.{file_bytes}
 use Rattle.space_mem.specs.Held.{Held, KeepsMarks, Marks, Owns}
 use Rattle.space_mem.proofs.Kept.{keeps_memory}
 use Rattle.space_mem.proofs.Strings.{bytes_from_is}
-use Rattle.memory_files.specs.Slots.{KeepsRest, OwnsSlots}
+use Rattle.memory_files.specs.Slots.{KeepsRest, OwnsParts, OwnsSlots}
 
 -- ---- reading
 
@@ -66,6 +66,13 @@ permissions_after m at (b ∷ run) = permissions_after (with_byte m at b) (at + 
 -- slots that are owned stay so
 pub still_owned : (h g : Held) (n : ℕ) (slots : List Bool) → ((page : ℕ) → KeepsMarks h g page) → OwnsSlots h n slots → OwnsSlots g n slots
 still_owned h g n slots kept owned k ready page low high = (kept page).owned ∙ owned k ready page low high
+
+pub parts_still_owned : (h g : Held) (slots : List Bool) (whole : List ℕ) → ((page : ℕ) → KeepsMarks h g page) → OwnsParts h slots whole → OwnsParts g slots whole
+parts_still_owned h g slots whole kept owned k ready page low high = (kept page).owned ∙ owned k ready page low high
+
+-- bytes beside a run that is written
+pub run_beside : (b : ℕ → ℕ) (offset : ℕ) (run : List ℕ) (a : ℕ) → (a < offset) ⊎ (offset + length run ≤ a) → slots.with_bytes b offset run a ≡ b a
+run_beside b offset run a out = elim out [ inl before ↦ with_bytes_before b offset run a before | inr behind ↦ with_bytes_after b offset run a behind ]
 
 -- and so does all but the bytes of slots
 pub rest_after : (h g : Held) (offset : ℕ) (run : List ℕ) → offset + length run ≤ all_slots_size → g ≡ record h { memory = with_bytes h.memory (first_address + offset) run } → Marks h g → KeepsRest h g

@@ -1,4 +1,5 @@
 pub mod Slots
+pub mod Taken
 pub mod Answers
 pub mod Laws
 pub mod Files

@@ -2,7 +2,10 @@
 -- Our choice: that a slot is ready where the memory owns each of its pages, and that its header may be written where the first page is owned.
 use Rattle.std.specs.Prelude.{◌≡◌, ℕ, ◌+◌, ◌*◌, ◌/◌, ◌%◌, ◌^◌, ◌<◌, ◌≤◌, ◌⊎◌, Bool, true, false, List, get_or}
 use Rattle.memory_model.specs.Memory.{Memory, byte_at}
-use Rattle.file_model.specs.Sizes.{first_address, slot_count, all_slots_size}
+use Rattle.file_model.specs.Sizes.{first_address, slot_count, all_slots_size, content_offset}
+use Rattle.file_model.specs.Slots.{slot_start}
+use Rattle.space_model.specs.Files.{file_bytes}
+use Rattle.file_image.specs.Spared.{spared_in}
 use Rattle.space_mem.specs.Held.{Held, IsOutside, KeepsMarks, Owns, Marks}
 
 -- the page that the first slot begins with, at the first address of the slots
@@ -32,6 +35,18 @@ OwnsSlots h n slots = (k : ℕ) → has_slot slots k ≡ true → OwnsSlot h n k
 abbrev pub HasBytes : Memory → Type 0
 HasBytes m = (a : ℕ) → byte_at m a < 256
 
+-- no slot has more pages of content than it can have
+abbrev pub AreFew : List ℕ → Type 0
+AreFew whole = (k : ℕ) → get_or whole k 0 < slot_pages
+
+-- of each of these slots the memory owns the content, but for so many pages at its start
+abbrev pub OwnsParts : Held → List Bool → List ℕ → Type 0
+OwnsParts h slots whole = (k : ℕ) → has_slot slots k ≡ true → (page : ℕ) → slot_page k + 1 + get_or whole k 0 ≤ page → page < slot_page k + slot_pages → Owns h page
+
+-- those pages of each slot have the bytes that they had
+abbrev pub KeepsSpared : List ℕ → Memory → Memory → Type 0
+KeepsSpared whole before after = (k i : ℕ) → i < spared_in whole k → file_bytes after (slot_start k + content_offset + i) ≡ file_bytes before (slot_start k + content_offset + i)
+
 -- an address that is in no slot
 abbrev pub IsElsewhere : ℕ → Type 0
 IsElsewhere a = (a < first_address) ⊎ (first_address + all_slots_size ≤ a)
@@ -42,6 +57,14 @@ pub record KeepsRest (before after : Held) : Type 0 where
   pub elsewhere : (a : ℕ) → IsElsewhere a → byte_at after.memory a ≡ byte_at before.memory a
   pub kept : (page : ℕ) → KeepsMarks before after page
   pub marks : Marks before after
+
+-- what a write to slots leaves as it is, with which of them are ready
+pub record KeepsSlots (before after : Held) (r s h i : List Bool) (v w : List ℕ) : Type 0 where
+  pub rest : KeepsRest before after
+  pub ready : s ≡ r
+  pub headers : i ≡ h
+  pub whole : w ≡ v
+  pub spared : KeepsSpared v before.memory after.memory
 
 -- a page that is none of n pages from the start of slot k on
 abbrev pub IsBesideSlot : ℕ → ℕ → ℕ → Type 0

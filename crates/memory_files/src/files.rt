@@ -1,6 +1,6 @@
 ghost use Rattle.std.specs.Prelude.{◌≡◌};
 ghost use Rattle.space_model.specs.Files.{file_bytes};
-ghost use Rattle.memory_files.specs.Files.{held_in, is_taken, has_taken_header, KeepsFiles};
+ghost use Rattle.memory_files.specs.Files.{held_in, is_taken, has_taken_header, spared_of, KeepsFiles};
 
 use crate::lent::Lent;
 use crate::runs::{lent_run, read_run};
@@ -32,6 +32,8 @@ impl FileBytes for Files<'_> {
     ghost is_ready = { is_taken };
 
     ghost has_header = { has_taken_header };
+
+    ghost spared = { spared_of };
 
     ghost keeps = { KeepsFiles };
 
@@ -70,6 +72,13 @@ impl FileBytes for Files<'_> {
         }
     }
 
+    fn spare(&self, slot: u32) -> u32 {
+        match self {
+            Files::Lent(_) => 0,
+            Files::Taken(slots) => slots.spare(slot),
+        }
+    }
+
     fn ready(&self, slot: u32) -> bool {
         match self {
             Files::Lent(_) => false,
@@ -86,6 +95,10 @@ impl FileBytes for Files<'_> {
     ghost ready_on = { laws.ready_on };
 
     ghost header_on = { laws.header_on };
+
+    ghost spared_on = { laws.spared_on };
+
+    ghost spared_stays = { λ s t k i. laws.spared_stays s t k i };
 
     ghost header_ready = { laws.header_ready };
 }

@@ -11,6 +11,7 @@ mod owning;
 mod reading;
 mod reconciling;
 mod runs;
+mod sharing;
 mod slots;
 
 pub use basing::mark_base;

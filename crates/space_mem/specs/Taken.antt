@@ -9,6 +9,7 @@ use Rattle.page_tree.specs.Blocks.{byte_in, IsWhole}
 use Rattle.page_tree.specs.Replaceable.{ReplaceableRoot}
 use Rattle.space_mem.specs.declared.table.PageTable.{PageTable}
 use Rattle.space_mem.specs.declared.taking.Put.{Put}
+use Rattle.space_mem.specs.declared.taking.TakenPage.{TakenPage}
 use Rattle.space_mem.specs.Held.{KeepsMarks, SamePage}
 use Rattle.space_mem.specs.Tables.{IsTable, held_of, memory_of, owned_of}
 
@@ -17,6 +18,25 @@ pub record IsTakenOver (old source : Memory) (each : List ℕ) (new : Memory) : 
   pub permission : (page : ℕ) → permission_at new page ≡ permission_at old page
   pub taken : All (SamePage new source) each
   pub other : (page : ℕ) → All (λ taken. page ≡ taken → ⊥) each → SamePage new old page
+
+-- a page has the bytes of a page of another memory
+abbrev pub SamePageAs : Memory → ℕ → Memory → ℕ → Type 0
+SamePageAs m page n from = (k : ℕ) → k < page_size → byte_at m (page_size * page + k) ≡ byte_at n (page_size * from + k)
+
+-- a memory has a source's bytes in a page that is taken
+abbrev pub IsFrom : Memory → Memory → TakenPage → Type 0
+IsFrom source m taken = SamePageAs m taken.page source taken.from
+
+-- there is a memory that has a source's bytes in each of these pages: none is taken from two pages that differ
+pub record AreFrom (source : Memory) (each : List TakenPage) : Type 0 where
+  pub memory : Memory
+  pub taken : All (IsFrom source memory) each
+
+abbrev pub AreInRange : TakenPage → Type 0
+AreInRange taken = (taken.page < pages) × (taken.from < pages)
+
+abbrev pub taken_page : TakenPage → ℕ
+taken_page taken = taken.page
 
 abbrev pub put_page : Put → ℕ
 put_page put = put.page

@@ -20,3 +20,4 @@ mod writing;
 
 pub use layout::Pages;
 pub use memory::Mem;
+pub use taking::TakenPage;

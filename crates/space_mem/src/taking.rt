@@ -7,7 +7,7 @@ ghost use Rattle.page_tree.specs.Replaceable.{ReplaceableRoot};
 ghost use Rattle.space_mem.specs.declared.table.PageTable.{PageTable};
 ghost use Rattle.space_mem.specs.Held.{KeepsMarks, Marks};
 ghost use Rattle.space_mem.specs.Tables.{IsTable, held_of, memory_of};
-ghost use Rattle.space_mem.specs.Taken.{CanPut, IsPrepared, IsPutting, IsReadyPut, IsTakenOver, put_page};
+ghost use Rattle.space_mem.specs.Taken.{AreFrom, AreInRange, CanPut, IsFrom, IsPrepared, IsPutting, IsReadyPut, IsTakenOver, SamePageAs, put_page, taken_page};
 
 use crate::copying::share_page;
 use crate::layout::Pages;
@@ -15,6 +15,15 @@ use crate::memory::Mem;
 use crate::table::PageTable;
 use page_store::PageRef;
 use std::alloc::AllocError;
+
+/// A page, and the source's page whose bytes it gets, both below 2^20.
+#[derive(Clone, Copy)]
+pub struct TakenPage {
+    /// The page that changes.
+    pub page: u32,
+    /// The source's page.
+    pub from: u32,
+}
 
 // What is to be kept of a page in place of what is.
 #[derive(Drop)]
@@ -36,6 +45,19 @@ impl Mem {
         ensures marks { Marks self.old self.new }
     {
         self.table.take_over(&source.table, each)
+    }
+
+    /// As `take_over`, of pages that each get the bytes of a source's page of another number; no page gets those of two that differ.
+    pub fn take_over_from(&mut self, source: &Mem, each: &[TakenPage]) -> Result<(), AllocError>
+        requires within { All AreInRange each.now }
+        requires once { AreFrom source.now.memory each.now }
+        ensures ok { (m : Memory) → All (IsFrom source.now.memory m) each.now → OnOk result (IsTakenOver self.old.memory m (map taken_page each.now) self.new.memory) }
+        ensures err { OnErr result (self.new.memory ≡ self.old.memory) }
+        ensures owned { OnErr result (self.new.owned ≡ self.old.owned) }
+        ensures others { (page : ℕ) → All (λ taken. page ≡ taken → ⊥) (map taken_page each.now) → KeepsMarks self.old self.new page }
+        ensures marks { Marks self.old self.new }
+    {
+        self.table.take_over_from(&source.table, each)
     }
 
     /// As `take_over`, and gives each page of a range the permission, 0 to 7.
@@ -77,6 +99,23 @@ impl PageTable {
         ensures marks { Marks (held_of self.old) (held_of self.new) }
     {
         let puts = self.prepare_each(source, each)?;
+        self.put_each(puts);
+        Ok(())
+    }
+
+    // As `take_over`, of pages that each get the bytes of a source's page of another number.
+    fn take_over_from(&mut self, source: &PageTable, each: &[TakenPage]) -> Result<(), AllocError>
+        requires table { IsTable self.old }
+        requires within { All AreInRange each.now }
+        requires once { AreFrom (memory_of source.now.pages) each.now }
+        ensures table { IsTable self.new }
+        ensures ok { (m : Memory) → All (IsFrom (memory_of source.now.pages) m) each.now → OnOk result (IsTakenOver (memory_of self.old.pages) m (map taken_page each.now) (memory_of self.new.pages)) }
+        ensures err { OnErr result (memory_of self.new.pages ≡ memory_of self.old.pages) }
+        ensures owned { OnErr result ((held_of self.new).owned ≡ (held_of self.old).owned) }
+        ensures others { (page : ℕ) → All (λ taken. page ≡ taken → ⊥) (map taken_page each.now) → KeepsMarks (held_of self.old) (held_of self.new) page }
+        ensures marks { Marks (held_of self.old) (held_of self.new) }
+    {
+        let puts = self.prepare_from(source, each)?;
         self.put_each(puts);
         Ok(())
     }
@@ -159,22 +198,43 @@ impl PageTable {
     {
         let mut puts = Vec::new(self.alloc);
         for page in each {
-            let put = self.prepare_put(source, *page)?;
+            let put = self.prepare_put(source, *page, *page)?;
             puts.push(put)?;
         }
         Ok(puts)
     }
 
-    // Makes a page ready to be exchanged, and holds what a source keeps of it.
-    fn prepare_put(&mut self, source: &PageTable, page: u32) -> Result<Put, AllocError>
+    // As `prepare_each`, of pages that each get the bytes of a source's page of another number.
+    fn prepare_from(
+        &mut self,
+        source: &PageTable,
+        each: &[TakenPage],
+    ) -> Result<Vec<Put>, AllocError>
+        requires table { IsTable self.old }
+        requires within { All AreInRange each.now }
+        ensures prepared { IsPrepared (map taken_page each.now) self.old self.new }
+        ensures pages { IfOk result (λ puts. map put_page puts.items ≡ map taken_page each.now) }
+        ensures ready { IfOk result (λ puts. (m : Memory) → All (IsFrom (memory_of source.now.pages) m) each.now → All (IsReadyPut self.new m) puts.items) }
+    {
+        let mut puts = Vec::new(self.alloc);
+        for taken in each {
+            let put = self.prepare_put(source, taken.page, taken.from)?;
+            puts.push(put)?;
+        }
+        Ok(puts)
+    }
+
+    // Makes a page ready to be exchanged, and holds what a source keeps of a page.
+    fn prepare_put(&mut self, source: &PageTable, page: u32, from: u32) -> Result<Put, AllocError>
         requires table { IsTable self.old }
         requires page { page < pages }
+        requires from { from < pages }
         ensures prepared { IsPrepared (page ∷ []) self.old self.new }
         ensures page { IfOk result (λ put. put_page put ≡ page) }
-        ensures ready { IfOk result (λ put. IsReadyPut self.new (memory_of source.now.pages) put) }
+        ensures ready { IfOk result (λ put. (m : Memory) → SamePageAs m page (memory_of source.now.pages) from → IsReadyPut self.new m put) }
     {
         self.prepare_page(page)?;
-        let kept = share_page(&source.pages, page as usize, self.alloc)?;
+        let kept = share_page(&source.pages, from as usize, self.alloc)?;
         Ok(Put { page, kept })
     }
 

@@ -11,26 +11,38 @@ use memory_files::reconcile;
 use space_tree::{Children, FRESH, Space, Top};
 use std::alloc::{AllocError, Global};
 
-// The caller takes over what a child changed in its files; a3 is how many of them found no free slot. At an error it is as it was.
-#[tactic(auto, using(space_mem::proofs::Dirty::covers_in_after))]
-fn take_over(child: &Top, caller: &mut Top) -> Result<(), AllocError>
-    ensures ok { OnOk result (caller.new ≡ files_part child.now caller.old) }
+// The caller takes over what a child changed in its files; a3 is how many of them found no free slot. At an error it is as it was, and the child
+// always is.
+#[tactic(auto, using(space_mem::proofs::Dirty::covers_in_after, space_mem::proofs::Dirty::covers_in_same))]
+fn take_over(child: &mut Top, caller: &mut Top) -> Result<(), AllocError>
+    ensures ok { OnOk result (caller.new ≡ files_part child.old caller.old) }
     ensures err { OnErr result (caller.new ≡ caller.old) }
+    ensures same { child.new ≡ child.old }
 {
-    let left_out = reconcile(&mut caller.memory, &child.memory)?;
+    let left_out = reconcile(&mut caller.memory, &mut child.memory)?;
     caller.registers.set_register(13, left_out);
     Ok(())
 }
 
-// The caller has waited for a child. At an error it is as it was.
+// The caller has waited for a child. At an error it is as it was, and the child always is.
 #[tactic(auto, unfolding(space_model::specs::Runtime::after_wait))]
-fn wait_child(child: &Top, caller: &mut Top) -> Result<(), AllocError>
-    ensures ok { OnOk result (caller.new ≡ after_wait child.now caller.old) }
+fn wait_child(child: &mut Top, caller: &mut Top) -> Result<(), AllocError>
+    ensures ok { OnOk result (caller.new ≡ after_wait child.old caller.old) }
     ensures err { OnErr result (caller.new ≡ caller.old) }
+    ensures same { child.new ≡ child.old }
 {
     take_over(child, caller)?;
     caller.tell_stop(child.status);
     Ok(())
+}
+
+// As `wait_child`, of a child with those below it.
+fn wait_below(child: &mut Space, caller: &mut Top) -> Result<(), AllocError>
+    ensures ok { OnOk result (caller.new ≡ after_wait (top_of child.old) caller.old) }
+    ensures err { OnErr result (caller.new ≡ caller.old) }
+    ensures same { child.new ≡ child.old }
+{
+    wait_child(&mut child.top, caller)
 }
 
 // The caller has waited for a child that is missing: it is read as one that has never run, which has no files.
@@ -41,13 +53,14 @@ fn wait_missing(caller: &mut Top)
     caller.tell_stop(FRESH);
 }
 
-// The caller has waited for the child of that number. At an error it is as it was.
-fn wait_number(number: u16, caller: &mut Top, children: &Children) -> Result<(), AllocError>
-    ensures ok { OnOk result (caller.new ≡ after_wait (or_fresh caller.old (option_map top_of (find number children.now))) caller.old) }
+// The caller has waited for the child of that number. At an error it is as it was, and the children always are.
+fn wait_number(number: u16, caller: &mut Top, children: &mut Children) -> Result<(), AllocError>
+    ensures ok { OnOk result (caller.new ≡ after_wait (or_fresh caller.old (option_map top_of (find number children.old))) caller.old) }
     ensures err { OnErr result (caller.new ≡ caller.old) }
+    ensures same { children.new ≡ children.old }
 {
-    match children.get(number) {
-        Some(child) => wait_child(child.top(), caller),
+    match children.get_mut(number) {
+        Some(child) => wait_below(child, caller),
         None => {
             wait_missing(caller);
             Ok(())
@@ -74,7 +87,7 @@ pub fn wait(_alloc: Global, child: u16, depth: u8, space: &mut Space) -> Result<
     ensures err { OnErr result (space.new ≡ space.old) }
     ensures sound { StaysSound depth space.old space.new }
 {
-    wait_number(child, &mut space.top, &space.children)?;
+    wait_number(child, &mut space.top, &mut space.children)?;
     take_away(&mut space.children, child);
     space.top.pay_and_succeed();
     Ok(())

@@ -1,4 +1,4 @@
-use Rattle.std.proofs.Common.{◌≡◌, ◌+◌, ◌%◌, ◌^◌, cond, ap, ◌∙◌, length}
+use Rattle.std.proofs.Common.{◌≡◌, ◌+◌, ◌%◌, ◌^◌, cond, ap, ◌∙◌, arith, length}
 use Rattle.file_model.specs.Operations.{with_content}
 use Rattle.file_image.specs.Lookup.{file_in}
 use Rattle.file_image.proofs.Contents.{length_new, content_written}
@@ -29,3 +29,8 @@ write_header-requires-clause-ready g c = g.met.B.FileBytes.header_ready c.args.b
 
 pub write_bytes-requires-clause-content : goal.write_bytes-requires-clause-content
 write_bytes-requires-clause-content g c = λ more. g.met.B.FileBytes.ready_on c.args.bytes.now c.write_header.new.bytes c.args.slot c.write_header.ensures.kept c.requires.ready
+
+pub write_bytes-requires-clause-beyond : goal.write_bytes-requires-clause-beyond
+write_bytes-requires-clause-beyond g c = λ more.
+    let s = g.met.B.FileBytes.spared_on c.args.bytes.now c.write_header.new.bytes c.args.slot c.write_header.ensures.kept in
+    omega (arith, s, c.requires.all)

@@ -26,6 +26,7 @@ copy_bytes-requires g c =
       within = omega (arith, e, n, c.length_at_base-from.ensures, c.length.ensures);
       from = omega (arith, s, h, c.length_at_base-from.ensures, c.length.ensures, c.requires.slot.within);
       ready = g.met.P.FileBytes.ready_on c.args.parent.now c.write_header.new.bytes c.args.to c.write_header.ensures.kept c.requires.ready;
+      beyond = (let z = g.met.P.FileBytes.spared_on c.args.parent.now c.write_header.new.bytes c.args.to c.write_header.ensures.kept in omega (arith, z, c.requires.all));
     }
 
 pub returns-clause-bytes : goal.returns-clause-bytes

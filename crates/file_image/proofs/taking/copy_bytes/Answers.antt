@@ -10,6 +10,7 @@ loop-done-init g c = record {
   in_range = omega arith;
   bytes = λ a. sym (nothing_at (g.P.FileBytes.bytes c.args.parent.now) (65536 * c.args.slot + c.args.offset) a);
   ready = c.requires.ready;
+  beyond = c.requires.beyond;
   kept = g.met.P.FileBytes.keeps_itself c.args.parent.now;
 }
 
@@ -31,6 +32,7 @@ loop-done-preserved g c =
       bytes = run_written (g.P.FileBytes.bytes c.args.parent.now) old new (65536 * c.args.slot + c.args.offset) done count part (bytes_from d (c.args.from + done) count) (omega (arith, l, inv.in_range))
           (run_of_row d c.args.from c.args.count done count (omega (arith, c.loop-done-test.true, c.min-piece.ensures))) inv.bytes (λ a. ap (λ (x : ℕ → ℕ). x a) is);
       ready = g.met.P.FileBytes.ready_on c.loop-done.parent c.copy_piece.new.parent c.args.slot c.copy_piece.ensures.kept inv.ready;
+      beyond = (let s = g.met.P.FileBytes.spared_on c.loop-done.parent c.copy_piece.new.parent c.args.slot c.copy_piece.ensures.kept in omega (arith, s, inv.beyond));
       kept = g.met.P.FileBytes.keeps_on c.args.parent.now c.loop-done.parent c.copy_piece.new.parent inv.kept c.copy_piece.ensures.kept;
     }
 

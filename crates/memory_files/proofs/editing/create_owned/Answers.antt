@@ -5,4 +5,4 @@ use Rattle.memory_files.proofs.Results.{changed}
 use Rattle.memory_files.proofs.editing.create_owned.Goals as goal
 
 pub returns : goal.returns
-returns c = changed c.args.memory.now c.take_headers-files.result.memory c.create-made.new.bytes.memory c.put_back.new.memory (λ (m : Memory). operations.create (files_in m) c.args.name.now c.args.append) c.create-made.result c.change_answer.result c.take_headers-files.ensures.memory c.put_back.ensures c.change_answer.ensures c.create-made.ensures.applied c.create-made.ensures.kept.0
+returns c = changed c.args.memory.now c.take_headers-files.result.memory c.create-made.new.bytes.memory c.put_back.new.memory (λ (m : Memory). operations.create (files_in m) c.args.name.now c.args.append) c.create-made.result c.change_answer.result c.take_headers-files.ensures.memory c.put_back.ensures c.change_answer.ensures c.create-made.ensures.applied c.create-made.ensures.kept.rest

@@ -10,6 +10,7 @@ loop-i-init g c = record {
   bytes = λ a. sym (nothing_at (g.Self.FileBytes.bytes c.args.self.now) c.args.offset a);
   header = c.requires.header;
   content = c.requires.content;
+  beyond = c.requires.beyond;
   kept = g.met.Self.FileBytes.keeps_itself c.args.self.now;
 }
 
@@ -23,6 +24,13 @@ set-requires-clause-content g c = λ high.
     let e : (c.args.offset + c.loop-i.i) / slot_size ≡ c.args.offset / slot_size = omega (arith, c.requires.page) in
     ap (g.Self.FileBytes.is_ready c.loop-i.self) e ∙ c.loop-i.invariant.content (omega (arith, c.requires.page, high))
 
+pub set-requires-clause-beyond : goal.set-requires-clause-beyond
+set-requires-clause-beyond g c = λ high.
+    let e : (c.args.offset + c.loop-i.i) / slot_size ≡ c.args.offset / slot_size = omega (arith, c.requires.page) in
+    let s : g.Self.FileBytes.spared c.loop-i.self ((c.args.offset + c.loop-i.i) / slot_size) ≡ g.Self.FileBytes.spared c.loop-i.self (c.args.offset / slot_size) = ap (g.Self.FileBytes.spared c.loop-i.self) e in
+    let b = c.loop-i.invariant.beyond (omega (arith, c.requires.page, high)) in
+    omega (arith, c.requires.page, s, b)
+
 pub loop-i-preserved : goal.loop-i-preserved
 loop-i-preserved g c = record {
   bytes = λ a. c.set.ensures.bytes a
@@ -30,6 +38,10 @@ loop-i-preserved g c = record {
       ∙ with_bytes_more (g.Self.FileBytes.bytes c.args.self.now) c.args.offset c.args.run.now c.loop-i.i a (omega arith);
   header = g.met.Self.FileBytes.header_on c.loop-i.self c.set.new.self (c.args.offset / slot_size) c.set.ensures.kept c.loop-i.invariant.header;
   content = λ high. g.met.Self.FileBytes.ready_on c.loop-i.self c.set.new.self (c.args.offset / slot_size) c.set.ensures.kept (c.loop-i.invariant.content high);
+  beyond = λ high.
+      let s = g.met.Self.FileBytes.spared_on c.loop-i.self c.set.new.self (c.args.offset / slot_size) c.set.ensures.kept in
+      let b = c.loop-i.invariant.beyond high in
+      omega (arith, s, b);
   kept = g.met.Self.FileBytes.keeps_on c.args.self.now c.loop-i.self c.set.new.self c.loop-i.invariant.kept c.set.ensures.kept;
 }
 

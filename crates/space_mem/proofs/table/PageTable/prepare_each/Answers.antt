@@ -1,4 +1,4 @@
-use Rattle.std.proofs.Common.{◌∙◌, ◌++◌, ◌∷◌, [], get_or, ap, sym, subst, take, All}
+use Rattle.std.proofs.Common.{◌∙◌, ◌++◌, ◌∷◌, [], get_or, ap, refl, sym, subst, take, All}
 use Rattle.std.specs.Prelude.{map}
 use Rattle.std.proofs.lemmas.List.{map-append, take_all, take_more}
 use Rattle.std.proofs.lemmas.List.Elements.{All-nil, All-push, All-same, All-weaker}
@@ -39,5 +39,5 @@ loop-page-preserved c =
           ∙ ap (λ n. take i each ++ n ∷ []) c.in_ok-put.ensures.page ∙ sym (take_more each i 0 c.loop-page-test.true);
       ready = subst (All (IsReadyPut u source)) (sym is) (All-push (IsReadyPut u source) c.loop-page.puts.items c.in_ok-put.put
           (All-weaker (IsReadyPut s source) (IsReadyPut u source) (λ put. ready_stays (get_or each i 0 ∷ []) s u source put c.in_ok-put.ensures.prepared) c.loop-page.puts.items before.ready)
-          c.in_ok-put.ensures.ready);
+          (c.in_ok-put.ensures.ready source (λ k low. refl)));
     }
