@@ -179,6 +179,7 @@ impl Console {
     }
 
     /// Appends bytes. The one error is want of memory: nothing has changed then.
+    #[inline(always)]
     pub fn extend_from_slice(&mut self, bytes: &[u8]) -> Result<(), AllocError>
         ensures ok { OnOk result (self.new ≡ self.old ++ bytes.now) }
         ensures err { OnErr result (self.new ≡ self.old) }
@@ -203,6 +204,7 @@ impl Console {
 
     // Makes the tail a piece, joined with the pieces before it that have not twice as many bytes. At an error, want of memory, nothing has
     // changed.
+    #[inline(never)]
     fn add_piece(&mut self) -> Result<(), AllocError>
         ensures { self.new ≡ self.old }
     {

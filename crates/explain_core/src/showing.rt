@@ -102,7 +102,7 @@ fn push_top(
 {
     let state = state_text(alloc, top)?;
     text.extend_from_slice(state.as_bytes())?;
-    push_registers(alloc, text, &top.registers.x)?;
+    push_registers(alloc, text, top.registers.x())?;
     push_contents(alloc, text, &top.memory, &top.snapshot)?;
     push_bytes(alloc, text, &top.memory, bytes)
 }

@@ -176,7 +176,7 @@ fn running_text(
     ensures { IfOk result (λ s. string_bytes s ≡ act_text before.now after.now instruction ++ changes_text 0 (let r = before.now in r.x) (let r = after.now in r.x)) }
 {
     let act = act_text(alloc, before, after, instruction)?;
-    let changes = changes_text(alloc, &before.x, &after.x)?;
+    let changes = changes_text(alloc, before.x(), after.x())?;
     format!(in alloc; "{act}{changes}")
 }
 

@@ -115,7 +115,7 @@ pub(crate) fn watched_in(watched: Watched, top: &Top) -> u32
 {
     match watched {
         Watched::Byte(address) => u32::from(top.memory.byte(address)),
-        Watched::Register(number) => match top.registers.x.get(number as usize) {
+        Watched::Register(number) => match top.registers.x().get(number as usize) {
             Some(value) => *value,
             None => 0,
         },

@@ -276,6 +276,11 @@ fn block_bounds(pc: u32, x: &[u32], cause: u32, value: u32)
     ensures { (k : ℕ) → slice_index (pc ∷ (x.now ++ cause ∷ value ∷ [])) k < 2 ^ 32 }
 {}
 
+// What every register file keeps.
+fn register_bounds(x: &[u32; 32])
+    ensures { length x.now ≡ 32 }
+{}
+
 // What every number keeps.
 fn number_bounds(number: u32)
     ensures { number < 2 ^ 32 }
@@ -286,8 +291,8 @@ fn may_travel(top: &Top)
     requires { top.now.devices ≡ None }
     ensures { IsPackable top.now }
 {
-    let registers = &top.registers;
-    let _first = registers.x[0];
+    let x = top.registers.x();
+    register_bounds(x);
     let block = top.block();
     block_bounds(block.pc, &block.x, block.cause, block.value);
     number_bounds(top.limit.unwrap_or(0));

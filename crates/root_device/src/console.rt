@@ -1,8 +1,9 @@
 ghost use Rattle.std.specs.Prelude.{◌≡◌, ◌+◌, ◌≤◌, ◌^◌, length, take, drop, Some, OnOk, OnErr, IfOk, IfSome};
+ghost use Rattle.call_model.specs.declared.Call.TheVariants.{ConsoleIn, ConsoleOut};
 ghost use Rattle.memory_model.specs.Memory.{bytes_from, with_bytes};
 ghost use Rattle.space_model.specs.Change.{after_payment, stop};
 ghost use Rattle.space_model.specs.Event as event;
-ghost use Rattle.space_model.specs.Event.{MayPay, moves, charge, with_devices};
+ghost use Rattle.space_model.specs.Event.{MayPay, moves, charge};
 
 use space_model::{Cause, Refusal};
 use space_tree::{Devices, Top};
@@ -43,12 +44,14 @@ fn write_console(top: &mut Top, addr: u32, len: u32) -> Result<(), AllocError>
     devices.console.extend_from_slice(&bytes)
 }
 
-// Console out of a range of memory, which is paid for. At an error nothing has changed.
+/// Console out of a range of memory that ends within it, of a space that runs and may pay for it: one event, which is paid for. All of the range
+/// has to be readable: the space stops (`LoadFault`) at the least address that is not. A space without devices stops (`Badcall` 6). The one
+/// error is want of memory: nothing has changed then.
 #[tactic(auto, using(crate::proofs::ConsoleEvents::refused, crate::proofs::ConsoleEvents::output_stops, crate::proofs::ConsoleEvents::output_told))]
-pub(crate) fn console_out(top: &mut Top, addr: u32, len: u32) -> Result<(), AllocError>
+pub fn console_out(top: &mut Top, addr: u32, len: u32) -> Result<(), AllocError>
     requires within { addr + len ≤ 2 ^ 32 }
     requires may_pay { MayPay top.old }
-    ensures ok { OnOk result (charge top.old (with_devices top.old top.old.devices (event.console_out top.old addr len)) ≡ moves top.new) }
+    ensures ok { OnOk result (charge top.old (event.effect_of top.old (ConsoleOut addr len)) ≡ moves top.new) }
     ensures err { OnErr result (top.new ≡ top.old) }
 {
     let Some(_) = &top.devices else {
@@ -113,12 +116,14 @@ fn move_input(top: &mut Top, addr: u32, len: u32) -> Result<u32, AllocError>
     Ok(bytes.len() as u32)
 }
 
-// Console in to a buffer, all of which has to be writable, which is paid for. At an error nothing has changed.
+/// Console in to a buffer that ends within memory, of a space that runs and may pay for it: one event, which is paid for. All of the buffer has to
+/// be writable: the space stops (`StoreFault`) at the least address that is not. A space without devices stops (`Badcall` 6). The one error is
+/// want of memory: nothing has changed then.
 #[tactic(auto, using(crate::proofs::ConsoleEvents::refused, crate::proofs::ConsoleEvents::input_stops, crate::proofs::ConsoleEvents::input_told))]
-pub(crate) fn console_in(top: &mut Top, addr: u32, len: u32) -> Result<(), AllocError>
+pub fn console_in(top: &mut Top, addr: u32, len: u32) -> Result<(), AllocError>
     requires within { addr + len ≤ 2 ^ 32 }
     requires may_pay { MayPay top.old }
-    ensures ok { OnOk result (charge top.old (with_devices top.old top.old.devices (event.console_in top.old addr len)) ≡ moves top.new) }
+    ensures ok { OnOk result (charge top.old (event.effect_of top.old (ConsoleIn addr len)) ≡ moves top.new) }
     ensures err { OnErr result (top.new ≡ top.old) }
 {
     let Some(_) = &top.devices else {

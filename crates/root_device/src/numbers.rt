@@ -1,7 +1,8 @@
 ghost use Rattle.std.specs.Prelude.{◌≡◌};
+ghost use Rattle.call_model.specs.declared.Call.TheVariants.{Clock, Random};
 ghost use Rattle.space_model.specs.Change.{after_payment};
 ghost use Rattle.space_model.specs.Event as event;
-ghost use Rattle.space_model.specs.Event.{MayPay, moves, charge, with_devices};
+ghost use Rattle.space_model.specs.Event.{MayPay, moves, charge};
 ghost use Rattle.root_device.specs.Calls.{after_number};
 
 use crate::console::stop_without;
@@ -22,11 +23,12 @@ fn tell_number(top: &mut Top, number: Option<u32>)
     }
 }
 
-// The next reading of the clock, which is paid for.
+/// The next reading of the clock goes into a1, of a space that runs and may pay for it: one event, which is paid for. Where there is none left, a0 is
+/// 1. A space without devices stops (`Badcall` 6).
 #[tactic(auto, using(crate::proofs::ConsoleEvents::refused))]
-pub(crate) fn read_clock(top: &mut Top)
+pub fn read_clock(top: &mut Top)
     requires { MayPay top.old }
-    ensures { charge top.old (with_devices top.old top.old.devices (event.clock top.old)) ≡ moves top.new }
+    ensures { charge top.old (event.effect_of top.old Clock) ≡ moves top.new }
 {
     let Some(devices) = &mut top.devices else {
         return stop_without(top);
@@ -35,11 +37,12 @@ pub(crate) fn read_clock(top: &mut Top)
     tell_number(top, number);
 }
 
-// The next random number, which is paid for.
+/// The next random number goes into a1, of a space that runs and may pay for it: one event, which is paid for. Where there is none left, a0 is 1. A
+/// space without devices stops (`Badcall` 6).
 #[tactic(auto, using(crate::proofs::ConsoleEvents::refused))]
-pub(crate) fn draw_number(top: &mut Top)
+pub fn draw_number(top: &mut Top)
     requires { MayPay top.old }
-    ensures { charge top.old (with_devices top.old top.old.devices (event.random top.old)) ≡ moves top.new }
+    ensures { charge top.old (event.effect_of top.old Random) ≡ moves top.new }
 {
     let Some(devices) = &mut top.devices else {
         return stop_without(top);

@@ -7,20 +7,17 @@ use std::marker::Model;
 #[derive(Clone, Copy, Debug, PartialEq, Eq)]
 pub struct Regs {
     pub pc: u32,
-    pub x: [u32; 32],
+    pub file: RegisterFile,
 }
 
 impl Model for Regs {
-    ghost use Rattle.std.specs.Prelude.{◌≡◌, slice_index};
     ghost use Rattle.instruction_model.specs.Outcome.{Registers};
 
     ghost Value = { Registers };
 
-    ghost view = { λ r. record { pc = r.pc; x = r.x } };
+    ghost view = { λ r. record { pc = r.pc; x = r.file } };
 
-    ghost invariant = { λ r. slice_index r.x 0 ≡ 0 };
-
-    ghost inverse = { λ s. record { pc = s.pc; x = s.x } };
+    ghost inverse = { λ s. record { pc = s.pc; file = s.x } };
 }
 
 impl Regs {
@@ -28,7 +25,10 @@ impl Regs {
     pub fn new(pc: u32) -> Regs
         ensures { result ≡ record { pc = pc; x = replicate 32 0 } }
     {
-        Regs { pc, x: [0; 32] }
+        Regs {
+            pc,
+            file: RegisterFile { x: [0; 32] },
+        }
     }
 
     /// Register 0 to 31.
@@ -37,7 +37,7 @@ impl Regs {
         requires { number < 32 }
         ensures { result ≡ outcome.register self.now number }
     {
-        self.x[number as usize]
+        self.file.register(number)
     }
 
     /// Writes register 0 to 31; x0 stays 0.
@@ -49,7 +49,16 @@ impl Regs {
         if number == 0 {
             return;
         }
-        self.x[number as usize] = value;
+        self.file.x[number as usize] = value;
+    }
+
+    /// x0 to x31, of which the first is 0.
+    #[inline(always)]
+    pub fn x(&self) -> &[u32; 32]
+        ensures same { result.now ≡ self.now.x }
+        ensures zero { slice_index result.now 0 ≡ 0 }
+    {
+        &self.file.x
     }
 
     /// x0 to x31, without pc.
@@ -57,7 +66,7 @@ impl Regs {
     pub fn file(&self) -> RegisterFile
         ensures { result ≡ self.now.x }
     {
-        RegisterFile { x: self.x }
+        self.file
     }
 
     /// pc and x0 to x31.
@@ -65,8 +74,7 @@ impl Regs {
     pub fn from_parts(pc: u32, file: RegisterFile) -> Regs
         ensures { result ≡ record { pc = pc; x = file } }
     {
-        let x = file.x;
-        Regs { pc, x }
+        Regs { pc, file }
     }
 }
 
@@ -115,7 +123,7 @@ impl Destination {
 }
 
 /// x0 to x31, while pc stands apart (RISC-V Unprivileged ISA, RV32I, programmers' model). x0 is 0.
-#[derive(Clone, Copy)]
+#[derive(Clone, Copy, Debug, PartialEq, Eq)]
 pub struct RegisterFile {
     x: [u32; 32],
 }

@@ -2,7 +2,6 @@
 use Rattle.std.proofs.Common.{◌≡◌, ℕ, ◌-◌, true, false, Option, Some, None, refl, sym, ap, ◌∙◌, subst}
 use Rattle.instruction_model.specs.Outcome.{Outcome, goes, stores, calls, traps, view_of, outcome}
 use Rattle.memory_model.specs.Memory.{may_read, may_write, first_without}
-use Rattle.call_model.specs.declared.Call.{Call}
 use Rattle.call_model.specs.declared.Call.TheVariants as named
 use Rattle.call_model.specs.Calls.{read}
 use Rattle.space_model.specs.Sound.{has_devices}
@@ -10,7 +9,6 @@ use Rattle.device_model.specs.Devices.{Devices}
 use Rattle.space_model.specs.Space.{Top}
 use Rattle.space_model.specs.Change.{after_payment}
 use Rattle.space_model.specs.Event.{Effect, becomes, asks, charge, with_devices, output, console_out, input, console_in, clock, random, effect_of, by_reading, call, after_outcome, instruction, MayPay}
-use Rattle.root_device.specs.Calls.{IsDeviceCall}
 use Rattle.space_step.specs.declared.event.Next.{Next}
 use Rattle.space_step.specs.declared.event.Next.TheVariants as answers
 use Rattle.space_step.specs.Steps.{IsNextLocal, IsNext, IsLocal, IsAnswer}
@@ -54,25 +52,6 @@ clock_is_local t = with_devices_is_local t t.devices (clock t) (λ d. tt)
 
 pub random_is_local : (t : Top) → IsLocal (effect_of t named.Random)
 random_is_local t = with_devices_is_local t t.devices (random t) (λ d. tt)
-
--- each call of a device is a local event
-pub device_is_local : (t : Top) (k : Call) → IsDeviceCall k → IsLocal (effect_of t k)
-device_is_local t (named.ConsoleOut addr len) is = console_is_local t addr len
-device_is_local t (named.ConsoleIn addr len) is = buffer_is_local t addr len
-device_is_local t named.Clock is = clock_is_local t
-device_is_local t named.Random is = random_is_local t
-device_is_local t (named.Put x) is = absurd is
-device_is_local t (named.PutTree child from to) is = absurd is
-device_is_local t (named.Get x) is = absurd is
-device_is_local t (named.GetTree child from to) is = absurd is
-device_is_local t (named.Ret value) is = absurd is
-device_is_local t (named.Fork child) is = absurd is
-device_is_local t (named.Wait child) is = absurd is
-device_is_local t (named.Tfork child) is = absurd is
-device_is_local t (named.Tjoin child) is = absurd is
-device_is_local t (named.Qstart first count quantum) is = absurd is
-device_is_local t (named.Qcommit first count) is = absurd is
-device_is_local t (named.File call) is = absurd is
 
 local_is_next : (levels : ℕ) (t : Top) (e : Effect) → MayPay t → instruction levels t ≡ e → IsLocal e → IsNext levels answers.Local t
 local_is_next levels t (becomes u) may is local = (after_payment t u, next_pays levels t may ∙ ap (charge t) is)

@@ -1,7 +1,6 @@
 -- What is next of a space at whose pc an ECALL stands, by what it does.
 use Rattle.std.proofs.Common.{◌≡◌, ℕ, ◌-◌, ◌≤◌, Some, None, Ok, refl, ap, ◌∙◌, arith}
-use Rattle.std.specs.Prelude.{Result, Err}
-use Rattle.std.specs.declared.alloc.AllocError.{AllocError}
+use Rattle.std.specs.Prelude.{Result, Err, OnOk, OnErr}
 use Rattle.instruction_model.specs.Outcome.{calls, view_of, outcome}
 use Rattle.call_model.specs.Calls.{read}
 use Rattle.space_model.specs.Sound.{has_devices}
@@ -13,7 +12,7 @@ use Rattle.space_model.specs.Files.{FileResult}
 use Rattle.space_model.specs.Event.{charge, by_reading, after_outcome, after_answer, after_file_call, next, MayPay}
 use Rattle.space_step.specs.declared.event.Next.{Next}
 use Rattle.space_step.specs.declared.event.Next.TheVariants as answers
-use Rattle.space_step.specs.Steps.{Acts, Steps}
+use Rattle.space_step.specs.Steps.{Acts, Answers, IsLocal, IsNextLocal}
 use Rattle.space_step.specs.Stretch.{is_call}
 use Rattle.space_step.proofs.Answers.{call_is_next}
 use Rattle.space_step.proofs.Events.{next_pays}
@@ -26,13 +25,23 @@ next_of_call levels depth t may at is =
     ∙ ap (λ o. charge t (after_outcome levels t o)) is
     ∙ ap (λ (d : ℕ). charge t (by_reading t (read t.registers.x (has_devices t.devices) d))) at
 
--- a call that was done, one that is left to do, or one for which there was no memory
-pub call_steps : (depth : ℕ) (t u : Top) (r : Result Next AllocError) → MayPay t → depth ≤ 8 → outcome (view_of t.memory) t.registers ≡ calls
-    → Acts (by_reading t (read t.registers.x (has_devices t.devices) depth)) r t u → Steps (8 - depth) r t u
-call_steps depth t u (Ok answers.Local) may low is h = next_of_call (8 - depth) depth t may (omega arith) is ∙ h
-call_steps depth t u (Ok (answers.Meet k)) may low is h = (next_of_call (8 - depth) depth t may (omega arith) is ∙ ap (charge t) h.0, h.1)
-call_steps depth t u (Ok answers.Stopped) may low is h = absurd h
-call_steps depth t u (Err e) may low is h = (call_is_next (8 - depth) depth t answers.Local may (omega arith) (ap is_call is) h.0, h.1)
+-- a call that was done, or one that is left to do
+call_answers : (depth : ℕ) (t u : Top) (n : Next) → MayPay t → depth ≤ 8 → outcome (view_of t.memory) t.registers ≡ calls
+    → Acts (by_reading t (read t.registers.x (has_devices t.devices) depth)) n t u → Answers (8 - depth) n t u
+call_answers depth t u answers.Local may low is h = next_of_call (8 - depth) depth t may (omega arith) is ∙ h
+call_answers depth t u (answers.Meet k) may low is h = (next_of_call (8 - depth) depth t may (omega arith) is ∙ ap (charge t) h.0, h.1)
+call_answers depth t u answers.Stopped may low is h = absurd h
+
+pub call_done : {E : Type 0} (depth : ℕ) (t u : Top) (r : Result (Unit {0}) E) (n : Next) → MayPay t → depth ≤ 8 → outcome (view_of t.memory) t.registers ≡ calls
+    → OnOk r (Acts (by_reading t (read t.registers.x (has_devices t.devices) depth)) n t u) → OnOk r (Answers (8 - depth) n t u)
+call_done depth t u (Ok v) n may low is h = call_answers depth t u n may low is h
+call_done depth t u (Err e) n may low is h = tt
+
+-- one for which there was no memory is a local event
+pub call_wanting : {E : Type 0} (depth : ℕ) (t : Top) (r : Result (Unit {0}) E) → MayPay t → depth ≤ 8 → outcome (view_of t.memory) t.registers ≡ calls
+    → OnErr r (IsLocal (by_reading t (read t.registers.x (has_devices t.devices) depth))) → OnErr r (IsNextLocal (8 - depth) t)
+call_wanting depth t (Ok v) may low is h = tt
+call_wanting depth t (Err e) may low is h = call_is_next (8 - depth) depth t answers.Local may (omega arith) (ap is_call is) h
 
 -- an answer of a call on a file, paid for before it is told
 answer_paid : (a : FileAnswer) (t : Top) → after_answer a (after_payment t t) ≡ after_payment t (after_answer a t)

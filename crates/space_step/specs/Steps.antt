@@ -41,8 +41,7 @@ IsAnswer (answers.Meet k) effect = effect ≡ event.asks k
 IsAnswer answers.Stopped effect = ⊥
 
 -- what an effect does, and what it costs; a call that meets a child is left to do
-abbrev pub Acts : event.Effect → Result Next AllocError → Top → Top → Type 0
-Acts effect (Ok answers.Local) old new = event.charge old effect ≡ event.moves new
-Acts effect (Ok (answers.Meet k)) old new = (effect ≡ event.asks k) × (new ≡ old)
-Acts effect (Ok answers.Stopped) old new = ⊥
-Acts effect (Err e) old new = IsLocal effect × (new ≡ old)
+abbrev pub Acts : event.Effect → Next → Top → Top → Type 0
+Acts effect answers.Local old new = event.charge old effect ≡ event.moves new
+Acts effect (answers.Meet k) old new = (effect ≡ event.asks k) × (new ≡ old)
+Acts effect answers.Stopped old new = ⊥

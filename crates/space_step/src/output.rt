@@ -21,8 +21,8 @@ const A2: usize = 12;
 pub(crate) fn lent_named(top: &Top) -> Option<&[u8]>
     ensures { IfSome result (λ bytes. bytes.now ≡ named_bytes top.now) }
 {
-    let from = top.registers.x[A1];
-    let length = top.registers.x[A2];
+    let from = top.registers.x()[A1];
+    let length = top.registers.x()[A2];
     top.memory.lent(from, length)
 }
 
@@ -31,8 +31,8 @@ pub(crate) fn copy_named(top: &Top) -> Result<Vec<u8>, AllocError>
     requires { named_from top.now + named_length top.now ≤ 2 ^ 32 }
     ensures { IfOk result (λ bytes. bytes.items ≡ named_bytes top.now) }
 {
-    let from = top.registers.x[A1];
-    let length = top.registers.x[A2];
+    let from = top.registers.x()[A1];
+    let length = top.registers.x()[A2];
     top.memory.bytes(top.memory.allocator(), from, length)
 }
 

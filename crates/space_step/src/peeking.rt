@@ -16,7 +16,7 @@ use rv_exec::Regs;
 use space_mem::Mem;
 use space_model::Status;
 use space_tree::Top;
-use trap_ret::{AcceptedCall, Call, read_call};
+use trap_ret::{AcceptedCall, Call, Looking, read_call};
 
 // Whether an ECALL stands at pc and is next.
 #[tactic(auto, unfolding(instruction_model::specs::Outcome::outcome))]
@@ -49,7 +49,7 @@ fn answer_of(accepted: AcceptedCall) -> Next
 fn answer_to_call(top: &Top, depth: u8) -> Next
     ensures { IsAnswer result (by_reading top.now (read top.now.registers.x (has_devices top.now.devices) depth)) }
 {
-    match read_call(&top.registers.x, top.has_devices(), depth) {
+    match read_call::<Looking>(top.registers.x(), top.has_devices(), depth) {
         Ok(accepted) => answer_of(accepted),
         Err(_) => Next::Local,
     }

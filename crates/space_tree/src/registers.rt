@@ -23,8 +23,6 @@ pub(crate) fn without_zero(registers: &Regs) -> [u32; 31]
     ensures { result ≡ drop 1 registers.now.x }
 {
     let mut x = [0; 31];
-    for k in 0..31 {
-        x[k] = registers.x[k + 1];
-    }
+    x.copy_from_slice(&registers.x()[1..]);
     x
 }

@@ -209,6 +209,12 @@ fn read_kind(kind: Kind, x: &[u32; 32], is_root: bool, depth: u8) -> Result<Acce
     }
 }
 
+/// Asks for a call to do it.
+pub struct Doing;
+
+/// Asks for a call to tell what it is.
+pub struct Looking;
+
 /// The call that registers x0 to x31 name, at the root or below it, at a depth of at most 8; where they fail a test, the
 /// number of the first. In this order:
 ///
@@ -223,8 +229,10 @@ fn read_kind(kind: Kind, x: &[u32; 32], is_root: bool, depth: u8) -> Result<Acce
 /// 7. console out or console in of more than 65,536 bytes, or a file call's name, data or buffer of more;
 /// 8. Put, Fork or Tfork at depth 8, Put with Tree at depth 7 or 8;
 /// 9. a register block at no multiple of 4, or above 0xFFFFFF78.
+///
+/// It is written out in its caller, where each names itself: of one function of this size that two call, the compiler would leave the calls.
 #[inline(always)]
-pub fn read_call(x: &[u32; 32], is_root: bool, depth: u8) -> Result<AcceptedCall, Badcall>
+pub fn read_call<Asker>(x: &[u32; 32], is_root: bool, depth: u8) -> Result<AcceptedCall, Badcall>
     ensures { result ≡ table.read x.now is_root depth }
 {
     match argument(x, 7) {

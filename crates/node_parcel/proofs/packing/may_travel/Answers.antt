@@ -1,6 +1,5 @@
 use Rattle.std.proofs.Common.{◌≡◌, ◌^◌, ◌<◌, length, ◌∙◌, ap, sym, subst}
 use Rattle.std.specs.Prelude.{slice_index}
-use Rattle.instruction_model.specs.Outcome.{Registers}
 use Rattle.call_model.specs.declared.Block.{Block}
 use Rattle.call_model.specs.Block.{words}
 use Rattle.space_model.specs.Block.{block_of}
@@ -11,8 +10,8 @@ use Rattle.node_parcel.proofs.packing.may_travel.Goals as goal
 
 pub returns : goal.returns
 returns c = subst (λ (t : Top). IsPackable t) c.top.view_is (record {
-  registers = subst (λ (r : Registers). length r.x ≡ 32) c.registers.view_is c.registers.told;
-  zero = subst (λ (r : Registers). slice_index r.x 0 ≡ 0) c.registers.view_is c.registers.invariant;
+  registers = subst (λ xs. length xs ≡ 32) c.x-x.ensures.same c.register_bounds.ensures;
+  zero = subst (λ xs. slice_index xs 0 ≡ 0) c.x-x.ensures.same c.x-x.ensures.zero;
   words = λ k. subst (λ (b : Block). slice_index (words b) k < 2 ^ 32) (c.block-block.ensures ∙ ap block_of (sym c.top.view_is)) (c.block_bounds.ensures k);
   limit = limit_fits c.top.inside.limit c.unwrap_or.result c.unwrap_or.ensures c.number_bounds.ensures;
   fuel = c.top.invariant.0;
