@@ -2,7 +2,7 @@
 #![tactic(auto)]
 
 use det_cli::{End, det_program, status, write_fault};
-use det_host::{FileLoader, OpenGate, StdSink};
+use det_host::{FileLoader, OpenGate, Sink, SinkError, StdSink};
 use std::alloc::AllocError;
 use std::env;
 use std::io::ErrorKind;
@@ -26,11 +26,18 @@ fn words(rt: &HostRuntime) -> Result<Vec<String>, AllocError> {
     }
 }
 
+// Tells that there is no memory. It stands apart for the place that the loop over instructions gets behind it in the program: there its jumps lie
+// well (benchmarks/jumps).
+#[inline(never)]
+fn tell_no_memory<S: Sink>(rt: &HostRuntime, err: &mut S) -> Result<(), SinkError> {
+    write_fault(rt.alloc(), &End::NoMemory, err)
+}
+
 fn main(rt: HostRuntime) -> ExitCode {
     let mut out = StdSink::new(rt.stdout());
     let mut err = StdSink::new(rt.stderr());
     let Ok(words) = words(&rt) else {
-        let _ = write_fault(rt.alloc(), &End::NoMemory, &mut err);
+        let _ = tell_no_memory(&rt, &mut err);
         return ExitCode::from(status(&End::NoMemory));
     };
     let mut files = FileLoader::new(rt);
