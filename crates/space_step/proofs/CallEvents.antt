@@ -1,6 +1,6 @@
 -- What is next of a space at whose pc an ECALL stands, by what it does.
-use Rattle.std.proofs.Common.{◌≡◌, ℕ, ◌-◌, ◌≤◌, Some, None, Ok, refl, ap, ◌∙◌, arith}
-use Rattle.std.specs.Prelude.{Result, Err, OnOk, OnErr}
+use Rattle.std.proofs.Common.{◌≡◌, ℕ, ◌-◌, ◌≤◌, Bool, cond, Some, None, Ok, refl, ap, ◌∙◌, arith}
+use Rattle.std.specs.Prelude.{Result, Err, IfOk, OnErr}
 use Rattle.instruction_model.specs.Outcome.{calls, view_of, outcome}
 use Rattle.call_model.specs.Calls.{read}
 use Rattle.space_model.specs.Sound.{has_devices}
@@ -32,13 +32,13 @@ call_answers depth t u answers.Local may low is h = next_of_call (8 - depth) dep
 call_answers depth t u (answers.Meet k) may low is h = (next_of_call (8 - depth) depth t may (omega arith) is ∙ ap (charge t) h.0, h.1)
 call_answers depth t u answers.Stopped may low is h = absurd h
 
-pub call_done : {E : Type 0} (depth : ℕ) (t u : Top) (r : Result (Unit {0}) E) (n : Next) → MayPay t → depth ≤ 8 → outcome (view_of t.memory) t.registers ≡ calls
-    → OnOk r (Acts (by_reading t (read t.registers.x (has_devices t.devices) depth)) n t u) → OnOk r (Answers (8 - depth) n t u)
-call_done depth t u (Ok v) n may low is h = call_answers depth t u n may low is h
+pub call_done : {E : Type 0} (depth : ℕ) (t u : Top) (r : Result Bool E) (n : Next) → MayPay t → depth ≤ 8 → outcome (view_of t.memory) t.registers ≡ calls
+    → IfOk r (λ left. Acts (by_reading t (read t.registers.x (has_devices t.devices) depth)) (cond left n answers.Local) t u) → IfOk r (λ left. Answers (8 - depth) (cond left n answers.Local) t u)
+call_done depth t u (Ok left) n may low is h = call_answers depth t u (cond left n answers.Local) may low is h
 call_done depth t u (Err e) n may low is h = tt
 
 -- one for which there was no memory is a local event
-pub call_wanting : {E : Type 0} (depth : ℕ) (t : Top) (r : Result (Unit {0}) E) → MayPay t → depth ≤ 8 → outcome (view_of t.memory) t.registers ≡ calls
+pub call_wanting : {E : Type 0} (depth : ℕ) (t : Top) (r : Result Bool E) → MayPay t → depth ≤ 8 → outcome (view_of t.memory) t.registers ≡ calls
     → OnErr r (IsLocal (by_reading t (read t.registers.x (has_devices t.devices) depth))) → OnErr r (IsNextLocal (8 - depth) t)
 call_wanting depth t (Ok v) may low is h = tt
 call_wanting depth t (Err e) may low is h = call_is_next (8 - depth) depth t answers.Local may (omega arith) (ap is_call is) h

@@ -1,4 +1,4 @@
-ghost use Rattle.std.specs.Prelude.{◌≡◌, ◌-◌, ◌≤◌, OnErr, OnOk};
+ghost use Rattle.std.specs.Prelude.{◌≡◌, ◌-◌, ◌≤◌, cond, IfOk, OnErr};
 ghost use Rattle.call_model.specs.Limits.{greatest_depth, levels_below};
 ghost use Rattle.instruction_model.specs.Outcome.{calls, view_of, outcome};
 ghost use Rattle.space_model.specs.Change.{after_payment, after_success, stop};
@@ -24,18 +24,17 @@ fn ret(top: &mut Top, value: u32)
     top.stop(Cause::Ret, value);
 }
 
-// What a call does, which is paid for, where `next` is `Local`. A call that meets children is left to do, and is next then: `next` is the caller's,
-// so that a call that is done need not write it. At an error nothing has changed.
+// What a call does, which is paid for, and whether it is left to do: one that meets children is, and is next then. `next` is the caller's, so that a
+// call that is done need not write it, and who calls need not read it. At an error nothing has changed.
 #[tactic(auto, using(crate::proofs::Answers::console_is_local, crate::proofs::Answers::buffer_is_local, crate::proofs::Leaving::console_out_leaves, crate::proofs::Leaving::clock_leaves, crate::proofs::Leaving::random_leaves))]
 fn act<S: Source>(
     source: &mut S,
     top: &mut Top,
     accepted: AcceptedCall,
     next: &mut Next,
-) -> Result<(), AllocError>
+) -> Result<bool, AllocError>
     requires may_pay { MayPay top.old }
-    requires local { next.old ≡ Next.Local }
-    ensures ok { OnOk result (Acts (event.effect_of top.old accepted) next.new top.old top.new) }
+    ensures ok { IfOk result (λ left. Acts (event.effect_of top.old accepted) (cond left next.new Next.Local) top.old top.new) }
     ensures err { OnErr result (top.new ≡ top.old) }
     ensures wanting { OnErr result (IsLocal (event.effect_of top.old accepted)) }
     ensures agrees { S.agrees source.old (view_of top.old.memory) → S.agrees source.new (view_of top.new.memory) }
@@ -53,9 +52,12 @@ fn act<S: Source>(
             source.forget_all();
             file_call(top, call)?;
         }
-        _ => *next = Next::Meet(accepted),
+        _ => {
+            *next = Next::Meet(accepted);
+            return Ok(true);
+        }
     }
-    Ok(())
+    Ok(false)
 }
 
 // As `act`, of what registers say, which may fail a test.
@@ -64,10 +66,9 @@ fn act_as_read<S: Source>(
     top: &mut Top,
     reading: Result<AcceptedCall, Badcall>,
     next: &mut Next,
-) -> Result<(), AllocError>
+) -> Result<bool, AllocError>
     requires may_pay { MayPay top.old }
-    requires local { next.old ≡ Next.Local }
-    ensures ok { OnOk result (Acts (event.by_reading top.old reading) next.new top.old top.new) }
+    ensures ok { IfOk result (λ left. Acts (event.by_reading top.old reading) (cond left next.new Next.Local) top.old top.new) }
     ensures err { OnErr result (top.new ≡ top.old) }
     ensures wanting { OnErr result (IsLocal (event.by_reading top.old reading)) }
     ensures agrees { S.agrees source.old (view_of top.old.memory) → S.agrees source.new (view_of top.new.memory) }
@@ -79,12 +80,12 @@ fn act_as_read<S: Source>(
                 cause: Cause::Badcall,
                 value: u32::from(test),
             });
-            Ok(())
+            Ok(false)
         }
     }
 }
 
-// As `call`, with what is next in `next`, which is `Local` before.
+// As `call`, with what is next in `next` where it is left to do, and whether it is.
 #[inline(never)]
 #[tactic(auto, using(crate::proofs::CallEvents::call_done, crate::proofs::CallEvents::call_wanting))]
 fn read_and_act<S: Source>(
@@ -92,12 +93,11 @@ fn read_and_act<S: Source>(
     top: &mut Top,
     depth: u8,
     next: &mut Next,
-) -> Result<(), AllocError>
+) -> Result<bool, AllocError>
     requires depth { depth ≤ greatest_depth }
     requires may_pay { MayPay top.old }
     requires calls { outcome (view_of top.old.memory) top.old.registers ≡ calls }
-    requires local { next.old ≡ Next.Local }
-    ensures ok { OnOk result (Answers (levels_below depth) next.new top.old top.new) }
+    ensures ok { IfOk result (λ left. Answers (levels_below depth) (cond left next.new Next.Local) top.old top.new) }
     ensures err { OnErr result (top.new ≡ top.old) }
     ensures wanting { OnErr result (IsNextLocal (levels_below depth) top.old) }
     ensures agrees { S.agrees source.old (view_of top.old.memory) → S.agrees source.new (view_of top.new.memory) }
@@ -117,6 +117,9 @@ pub(crate) fn call<S: Source>(source: &mut S, top: &mut Top, depth: u8) -> Resul
     ensures agrees { S.agrees source.old (view_of top.old.memory) → S.agrees source.new (view_of top.new.memory) }
 {
     let mut next = Next::Local;
-    read_and_act(source, top, depth, &mut next)?;
-    Ok(next)
+    if read_and_act(source, top, depth, &mut next)? {
+        Ok(next)
+    } else {
+        Ok(Next::Local)
+    }
 }

@@ -1,4 +1,4 @@
-ghost use Rattle.std.specs.Prelude.{◌≡◌, ℕ, ◌+◌, ◌-◌, ◌*◌, ◌/◌, ◌%◌, ◌^◌, ◌<◌, ◌≤◌, true, false, IfOk, IsTrue, replicate};
+ghost use Rattle.std.specs.Prelude.{◌≡◌, ◌+◌, ◌-◌, ◌*◌, ◌/◌, ◌%◌, ◌^◌, ◌<◌, ◌≤◌, true, false, IfOk, IsTrue, replicate};
 ghost use Rattle.instruction_model.specs.Form.{HasFields};
 ghost use Rattle.instruction_model.specs.Outcome.{View, view_of};
 ghost use Rattle.rv_exec.specs.Flat.{meaning};

@@ -6,7 +6,7 @@ ghost use Rattle.space_step.specs.Stretch.{Executes, Ends};
 
 use crate::source::Source;
 use crate::stepping::step_from;
-use rv_exec::{Regs, Stepped};
+use rv_exec::{RegisterFile, Regs, Stepped};
 use space_mem::Mem;
 
 /// Why a stretch of instructions has ended.
@@ -32,12 +32,12 @@ pub(crate) struct Stretch {
 // Ends a stretch: pc and the other registers stand together again. Each end of the loop calls it by itself, so that no event before has to say which
 // end it would be.
 #[inline(always)]
-fn end_stretch(registers: &mut Regs, pc: u32, count: u32, end: End) -> Stretch
-    ensures registers { registers.new ≡ registers_at pc registers.old.x }
+fn end_stretch(registers: &mut Regs, pc: u32, file: RegisterFile, count: u32, end: End) -> Stretch
+    ensures registers { registers.new ≡ registers_at pc file }
     ensures count { result.count ≡ count }
     ensures end { result.end ≡ end }
 {
-    registers.pc = pc;
+    *registers = Regs::from_parts(pc, file);
     Stretch { count, end }
 }
 
@@ -59,19 +59,20 @@ pub(crate) fn execute<S: Source>(
 {
     // pc stands apart from the other registers, so that it can be held in a register of the machine
     let mut pc = registers.pc;
+    let mut file = registers.file();
     for count in 0..budget {
-        match step_from(source, &mut pc, &mut registers.file, memory) {
+        match step_from(source, &mut pc, &mut file, memory) {
             Ok(Stepped::Next) => {}
-            Ok(Stepped::Call) => return end_stretch(registers, pc, count, End::Call),
+            Ok(Stepped::Call) => return end_stretch(registers, pc, file, count, End::Call),
             Ok(Stepped::Trap { cause, value }) => {
                 let end = End::Trap {
                     number: cause,
                     value,
                 };
-                return end_stretch(registers, pc, count, end);
+                return end_stretch(registers, pc, file, count, end);
             }
-            Err(_) => return end_stretch(registers, pc, count, End::Memory),
+            Err(_) => return end_stretch(registers, pc, file, count, End::Memory),
         }
     }
-    end_stretch(registers, pc, budget, End::Budget)
+    end_stretch(registers, pc, file, budget, End::Budget)
 }
