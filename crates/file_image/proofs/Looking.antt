@@ -8,7 +8,7 @@ use Rattle.file_model.specs.File.{File}
 use Rattle.file_model.specs.Slots.{slot_at, slots_from, file_at, is_in_use, name_at, number_at, name_length_offset, slot_start}
 use Rattle.file_model.specs.Operations.{Entry, entry_from, free_from}
 use Rattle.file_model.proofs.Lookups.{slots_next, short_name}
-use Rattle.file_model.proofs.OtherSlots.{named_in_use}
+use Rattle.file_model.proofs.SlotHeaders.{named_in_use}
 use Rattle.file_image.specs.Lookup.{file_in, holds, entry_in, optional_entry}
 
 pub entry_other : (k : ℕ) (s : Option File) (slots : List (Option File)) (name : List ℕ) → holds name s ≡ false → entry_from k (s ∷ slots) name ≡ entry_from (k + 1) slots name

@@ -6,7 +6,7 @@ use Rattle.file_model.specs.Slots.{with_bytes, bytes_from, file_at, number_at, s
 use Rattle.file_image.specs.Lookup.{file_in, HasFile}
 use Rattle.file_model.specs.Sizes.{greatest_length}
 use Rattle.file_model.specs.File.{is_name}
-use Rattle.file_model.proofs.OtherSlots.{named_in_use}
+use Rattle.file_model.proofs.SlotHeaders.{named_in_use}
 use Rattle.file_model.proofs.Lookups.{content_length, short_content}
 use Rattle.file_model.proofs.Bytes.{length-bytes_from, index-bytes_from, drop-bytes_from, with_bytes_before, with_bytes_inside, with_bytes_after}
 

@@ -2,6 +2,7 @@ pub mod Bytes
 pub mod Lookups
 pub mod Headers
 pub mod ReadingBack
+pub mod SlotHeaders
 pub mod OtherSlots
 pub mod WellFormed
 pub mod Examples

@@ -11,7 +11,8 @@ use Rattle.file_model.specs.Operations.{new_file, revival, deleted_file, with_co
 use Rattle.file_model.specs.Reconcile.{joint_content, are_joinable, child_file, with_addition, with_conflict, after_both, after_child}
 use Rattle.file_model.proofs.Bytes.{length-bytes_from, index-bytes_from}
 use Rattle.file_model.proofs.Lookups.{short_content}
-use Rattle.file_model.proofs.OtherSlots.{named_in_use, short_base}
+use Rattle.file_model.proofs.SlotHeaders.{named_in_use}
+use Rattle.file_model.proofs.OtherSlots.{short_base}
 
 -- ---- lists of bytes
 

@@ -3,7 +3,7 @@ use Rattle.std.specs.Prelude.{replicate}
 use Rattle.std.proofs.lemmas.List.{length-take-le}
 use Rattle.file_model.specs.Slots.{file_at, bytes_from, with_padding}
 use Rattle.file_model.proofs.Lookups.{short_name}
-use Rattle.file_model.proofs.OtherSlots.{named_in_use}
+use Rattle.file_model.proofs.SlotHeaders.{named_in_use}
 use Rattle.file_image.proofs.Overwriting.{padding_read}
 use Rattle.file_image.proofs.writing.read_name.Goals as goal
 
