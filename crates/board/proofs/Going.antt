@@ -4,8 +4,8 @@ use Rattle.std.specs.Prelude.{Result, Ok, Err, IfOk, get_or, ◌<◌}
 use Rattle.space_model.specs.Space.{Space, space, Children, Top, top_of, find, over}
 use Rattle.space_model.specs.Path.{at, with_top, replace_top}
 use Rattle.space_tree.proofs.Paths.{onward, at_child, topped_child}
-use Rattle.space_model.specs.Event.{NextEvent, rests, next, Follows}
-use Rattle.run_model.specs.Schedule.{is_local, is_local_at, on_child}
+use Rattle.space_model.specs.Event.{rests, next, Follows}
+use Rattle.run_model.specs.Schedule.{is_local, is_local_at}
 use Rattle.arrayvec.specs.ArrayVec.{ArrayVec}
 use Rattle.det_core.specs.declared.entry.Entry.{Entry}
 use Rattle.det_core.specs.declared.entry.Entry.TheVariants.{Ran}

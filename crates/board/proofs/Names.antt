@@ -19,7 +19,7 @@ use Rattle.board.specs.Names.{Starts, named_at, StartsStand, IsKeptAt}
 use Rattle.board.specs.Steps.{IsPutOut, HasMet, IsTaken, IsDropped, Commits, its_top}
 use Rattle.board.specs.GoingOn.{HasGoneOn}
 use Rattle.worker_pool.specs.declared.shop.Turn.TheVariants.{Job as Hands, Met}
-use Rattle.board.specs.Turns.{handed_in, HandsIn, HandsOut, GoesOnNode, IsTurn}
+use Rattle.board.specs.Turns.{handed_in, HandsIn, GoesOnNode, IsTurn}
 use Rattle.board.specs.Value.{Shown}
 use Rattle.board.proofs.Kept.{not_both}
 

@@ -1,5 +1,5 @@
 -- What turns and results do to what a shop counts, and to the one job that is out.
-use Rattle.std.proofs.Common.{◌≡◌, ℕ, ◌+◌, ◌≤◌, ◌%◌, Bool, true, cond, true≢false, List, [], ◌∷◌, ◌++◌, length, Option, Some, None, ◌⊎◌, inl, inr, refl, sym, ap, ◌∙◌, subst, arith}
+use Rattle.std.proofs.Common.{◌≡◌, ℕ, ◌+◌, ◌%◌, Bool, true, cond, true≢false, List, Option, Some, None, ◌⊎◌, inl, inr, refl, sym, ap, ◌∙◌, subst}
 use Rattle.std.proofs.lemmas.Bool.{cases_eq}
 use Rattle.std.specs.Prelude.{Result, Ok, Err, IfOk, OnErr}
 use Rattle.std.specs.declared.alloc.AllocError.{AllocError}
@@ -18,7 +18,7 @@ use Rattle.board.specs.Jobs.{Slots, out_at, IsNoneOut, MayBeTaken, MayBeTakenOn,
 use Rattle.board.specs.Value.{Shown}
 use Rattle.board.specs.Steps.{IsLeast, Meets, IsTaken, IsStale, IsDropped, Commits}
 use Rattle.board.specs.GoingOn.{HasGoneOn}
-use Rattle.board.specs.Turns.{accepted, is_taken, IsFinished, IsIdle, NoneMayMeet, IsTurn, IsOnlyOut, HandsOut, HandsOn, LeastGoesOn, GoesOnNode, GoesOnFrom, handed_in, HandsIn, bare}
+use Rattle.board.specs.Turns.{accepted, is_taken, IsFinished, IsIdle, NoneMayMeet, IsTurn, IsOnlyOut, HandsOn, LeastGoesOn, GoesOnNode, GoesOnFrom, handed_in, HandsIn, bare}
 use Rattle.board.proofs.Settling.{settled_meets_none, settled_takes_none}
 
 -- a space that goes on where it stands leaves what is out as it was

@@ -1,7 +1,7 @@
 -- What a turn of a board is, and what comes of a job that a worker does.
 -- Our choice: calls that may meet their children come before spaces that may be taken, which go on in their place before they are put out; and a board is over where nothing may happen any
 -- more and no job is out.
-use Rattle.std.specs.Prelude.{◌≡◌, ◌≢◌, ◌⊎◌, ℕ, ◌+◌, ◌-◌, ◌%◌, ◌≤◌, ◌<◌, nat_lt, if◌then◌else◌, true, Bool, false, List, [], ◌∷◌, Some, None}
+use Rattle.std.specs.Prelude.{◌≡◌, ◌≢◌, ◌⊎◌, ℕ, ◌+◌, ◌-◌, ◌%◌, ◌≤◌, ◌<◌, nat_lt, if◌then◌else◌, true, Bool, false, List, Some, None}
 use Rattle.arrayvec.specs.ArrayVec.{ArrayVec}
 use Rattle.call_model.specs.Limits.{greatest_depth, levels_below}
 use Rattle.space_model.specs.Space.{is_settled}

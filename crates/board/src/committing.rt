@@ -1,4 +1,4 @@
-ghost use Rattle.std.specs.Prelude.{◌≡◌, ◌≢◌, ℕ, ◌-◌, true, None, Some, option_map};
+ghost use Rattle.std.specs.Prelude.{◌≡◌, ◌-◌, true, None, Some, option_map};
 ghost use Rattle.det_laws.specs.Tops.{top_at};
 ghost use Rattle.board.specs.declared.job.Out.{Out};
 ghost use Rattle.board.specs.Jobs.{out_at};

@@ -1,9 +1,8 @@
 // A caller and the children that its call awaits are brought together, before they meet.
 
 ghost use Rattle.std.specs.Prelude.{◌≡◌, ◌≢◌, ◌⊎◌, ◌∷◌, ◌++◌, [], ℕ, ◌<◌, List, length, IfOk, OnOk};
-ghost use Rattle.std.specs.List.{All};
 ghost use Rattle.call_model.specs.Limits.{greatest_depth};
-ghost use Rattle.det_core.specs.Legal.{IsAtHome, replaced};
+ghost use Rattle.det_core.specs.Legal.{replaced};
 ghost use Rattle.node_places.specs.Places.{place_of, home};
 ghost use Rattle.path_set.specs.Paths.{Has};
 ghost use Rattle.space_model.specs.Meeting.{awaits};

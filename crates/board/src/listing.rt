@@ -1,4 +1,4 @@
-ghost use Rattle.std.specs.Prelude.{◌≡◌, ℕ, ◌+◌, ◌<◌, ◌≤◌, ◌++◌, [], ◌∷◌, IfOk, IfSome, IsNone, OnOk, take, length, vec_len, vec_capacity};
+ghost use Rattle.std.specs.Prelude.{◌≡◌, ◌+◌, ◌<◌, ◌≤◌, ◌++◌, [], ◌∷◌, IfOk, IfSome, IsNone, OnOk, take, length, vec_len, vec_capacity};
 ghost use Rattle.space_model.specs.Space.{Space};
 ghost use Rattle.path_set.specs.Paths.{Has, paths_in};
 ghost use Rattle.board.specs.Runs.{HasAllLists, HasAtHome, HasRun};

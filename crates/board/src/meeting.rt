@@ -1,11 +1,11 @@
-ghost use Rattle.std.specs.Prelude.{◌≡◌, ◌≢◌, ◌+◌, ◌≤◌, ◌<◌, [], length, IfOk, IfSome, IsNone, OnOk, OnErr, List, ℕ, None, Some, Option, vec_len, vec_capacity};
+ghost use Rattle.std.specs.Prelude.{◌≡◌, ◌+◌, ◌≤◌, ◌<◌, [], length, IfOk, IfSome, IsNone, OnOk, OnErr, List, ℕ, None, Some, Option, vec_len, vec_capacity};
 ghost use Rattle.call_model.specs.Limits.{greatest_depth};
 ghost use Rattle.call_model.specs.declared.Call.{Call};
 ghost use Rattle.space_model.specs.Meeting.{awaits};
 ghost use Rattle.run_model.specs.Schedule.{call_at, try_meet};
 ghost use Rattle.det_core.specs.Legal.{AreCopied, has_stopped, replaced};
-ghost use Rattle.node_places.specs.Places.{home, place_of};
-ghost use Rattle.path_set.specs.Paths.{Has, IsFirst};
+ghost use Rattle.node_places.specs.Places.{home};
+ghost use Rattle.path_set.specs.Paths.{IsFirst};
 ghost use Rattle.board.specs.Gathering.{AreAway, BroughtHome, HasGoneIf, HasMetBy, IsReplaced, MeetsOn};
 ghost use Rattle.board.specs.Listed.{IsListed};
 ghost use Rattle.board.specs.Jobs.{Slots};

@@ -1,7 +1,5 @@
-ghost use Rattle.std.specs.Prelude.{◌≡◌, ◌<◌, ◌^◌, true, IfOk, OnErr, Some, Option};
-ghost use Rattle.std.specs.Option.{ForSome};
+ghost use Rattle.std.specs.Prelude.{◌≡◌, ◌<◌, ◌^◌, true, IfOk, OnErr, Some};
 ghost use Rattle.worker_pool.specs.Turns.{is_idle};
-ghost use Rattle.board.specs.Names.{IsKnown};
 ghost use Rattle.board.specs.Turns.{accepted, HandsIn, IsFinished, IsIdle, IsTurn, is_over, bare};
 
 use crate::board::Board;

@@ -1,9 +1,8 @@
 // The spaces that may run, by the node on which each stands.
 
-ghost use Rattle.std.specs.Prelude.{◌≡◌, ◌≢◌, ℕ, ◌≤◌, ◌<◌, [], length, List, IfOk, IfSome, IsNone, OnOk, OnErr, slice_set};
-ghost use Rattle.node_places.specs.Places.{all_home, place_of};
+ghost use Rattle.std.specs.Prelude.{◌≡◌, ◌≢◌, ℕ, ◌≤◌, ◌<◌, [], length, List, IfOk, IfSome, IsNone, OnOk, slice_set};
+ghost use Rattle.node_places.specs.Places.{all_home};
 ghost use Rattle.path_set.specs.Paths.{Has, IsFirst, rest_of};
-ghost use Rattle.board.specs.Listed.{HasAll};
 ghost use Rattle.board.specs.Runs.{HasAllLists, HasRun, list_on};
 
 use node_places::Places;

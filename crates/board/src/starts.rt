@@ -1,6 +1,6 @@
 // The names of starts, by the slots of their jobs.
 
-ghost use Rattle.std.specs.Prelude.{◌≡◌, ◌≤◌, ◌<◌, ℕ, true, Some, IsSome, None, OnErr, OnOk, vec_len};
+ghost use Rattle.std.specs.Prelude.{◌≡◌, ◌<◌, ℕ, true, Some, IsSome, None, OnErr, OnOk, vec_len};
 ghost use Rattle.board.specs.Names.{IsKeptAt, named_at};
 
 use space_tree::Top;

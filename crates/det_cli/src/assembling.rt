@@ -1,4 +1,4 @@
-ghost use Rattle.std.specs.Prelude.{◌≡◌, ◌≤◌};
+ghost use Rattle.std.specs.Prelude.{◌≤◌};
 ghost use Rattle.image_model.specs.Image.{image_bytes};
 ghost use Rattle.command_line.specs.Line.{asm};
 ghost use Rattle.det_cli.specs.Commands.{expectation_of_bytes};

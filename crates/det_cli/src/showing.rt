@@ -4,7 +4,7 @@ ghost use Rattle.space_model.specs.Sound.{IsSound};
 ghost use Rattle.run_model.specs.Demand.{settle_tree};
 ghost use Rattle.report_model.specs.Report.{console_of};
 ghost use Rattle.det_host.specs.Writing.{StopsWithin, Wrote, WrotePrefix, output_of};
-ghost use Rattle.det_cli.specs.Ending.{BringsToEnds, Ends};
+ghost use Rattle.det_cli.specs.Ending.{BringsToEnds};
 ghost use Rattle.det_cli.specs.Shown.{ShowsConsole};
 
 use crate::end::End;

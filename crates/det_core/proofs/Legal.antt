@@ -1,5 +1,5 @@
 -- Histories that grow.
-use Rattle.std.proofs.Common.{◌≡◌, List, [], ◌∷◌, ◌++◌, refl, subst, sym}
+use Rattle.std.proofs.Common.{List, [], ◌∷◌, ◌++◌, refl, subst, sym}
 use Rattle.space_model.specs.Space.{Space}
 use Rattle.node_places.specs.Places.{Places}
 use Rattle.det_core.specs.declared.entry.Entry.{Entry}

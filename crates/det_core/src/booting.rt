@@ -1,8 +1,8 @@
-ghost use Rattle.std.specs.Prelude.{◌≡◌, ◌≤◌, ◌<◌, ◌^◌, ◌+◌, ◌-◌, ◌/◌, OnOk, IfOk, length, slice_index, ℕ, true, List, map};
+ghost use Rattle.std.specs.Prelude.{◌≡◌, ◌≤◌, ◌<◌, ◌^◌, ◌+◌, ◌-◌, ◌/◌, OnOk, IfOk, length, slice_index, ℕ, true};
 ghost use Rattle.run_model.specs.Boot.{with_segment, with_segments, boot};
 ghost use Rattle.memory_model.specs.Memory.{no_memory, with_bytes};
 ghost use Rattle.det_core.specs.Empty.{IsEmptyFrom};
-ghost use Rattle.image_model.specs.Image.{IsSegment, last_page};
+ghost use Rattle.image_model.specs.Image.{IsSegment};
 ghost use Rattle.image_file.specs.View.{segment_view};
 ghost use Rattle.space_model.specs.Sound.{IsSound};
 

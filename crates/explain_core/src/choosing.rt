@@ -1,4 +1,4 @@
-ghost use Rattle.std.specs.Prelude.{◌≡◌, ◌<◌, ◌≤◌, suc, length, IfSome};
+ghost use Rattle.std.specs.Prelude.{◌≡◌, ◌<◌, suc, length, IfSome};
 ghost use Rattle.call_model.specs.Limits.{greatest_depth};
 
 use space_model::Reach;

@@ -1,4 +1,4 @@
-ghost use Rattle.std.specs.Prelude.{◌≡◌, ◌+◌, ◌-◌, ◌<◌, ◌^◌, ◌⊎◌, IfOk, IfSome, IsNone, Some, option_map};
+ghost use Rattle.std.specs.Prelude.{◌+◌, ◌-◌, ◌<◌, ◌^◌, ◌⊎◌, IfOk, IfSome, IsNone, Some, option_map};
 ghost use Rattle.space_model.specs.Sound.{IsSound};
 ghost use Rattle.explain_core.specs.Beside.{all};
 ghost use Rattle.explain_core.specs.Ending.{AsksChange, HasHad, HasOthers, TellsChange, TellsLines};

@@ -1,4 +1,4 @@
-ghost use Rattle.std.specs.Prelude.{◌≡◌, ◌++◌, ◌<◌, ◌≤◌, IfOk, OnOk, Some, codes, string_bytes, take};
+ghost use Rattle.std.specs.Prelude.{◌≡◌, ◌++◌, ◌<◌, ◌≤◌, IfOk, OnOk, Some, string_bytes};
 ghost use Rattle.file_model.specs.Sizes.{slot_count};
 ghost use Rattle.file_model.specs.Slots.{slot_at};
 ghost use Rattle.space_model.specs.Files.{file_bytes, files_in};

@@ -1,6 +1,4 @@
-ghost use Rattle.std.specs.Prelude.{◌≡◌, ◌<◌, [], IfOk, get_or, string_bytes};
-ghost use Rattle.instruction_model.specs.Form.{HasFields};
-ghost use Rattle.source_model.specs.RegisterNames.{register_names};
+ghost use Rattle.std.specs.Prelude.{◌≡◌, ◌<◌, IfOk, string_bytes};
 ghost use Rattle.explain_core.specs.Instructions.{address_text, branch_name, hex_text, immediate_name, instruction_at_pc, instruction_in, instruction_part, instruction_text, is_call, load_name, operation_name, register_name, signed_text, spelled, store_name, target_text, three_operands, two_operands, word_in};
 
 use rv_decode::{Comparison, Instr, Instruction, LoadKind, Operation, Width, decode};

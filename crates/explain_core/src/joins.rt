@@ -10,8 +10,8 @@ use space_tree::{Path, Regs};
 use std::alloc::AllocError;
 use trap_ret::options::{MERGE, has};
 
-// Whether these are the registers of a call that merges a child's memory.
-fn merges(registers: &Regs) -> bool
+/// Whether these are the registers of a call that merges a child's memory.
+pub fn merges(registers: &Regs) -> bool
     ensures { result ≡ merges registers.now }
 {
     let call = registers.register(17);
@@ -29,8 +29,8 @@ fn is_join(path: &Path, watched: Watched, moment: &Moment) -> bool
     }
 }
 
-// The path of a child by its number; none exactly where the number is none of a child, or no space can stand there.
-fn child_path(path: &Path, number: u32) -> Result<Option<Path>, AllocError>
+/// The path of a child by its number; none exactly where the number is none of a child, or no space can stand there.
+pub fn child_path(path: &Path, number: u32) -> Result<Option<Path>, AllocError>
     ensures { IfOk result (λ o. option_map (λ p. p.items) o ≡ child_path path.now.items number) }
 {
     if number < 65536 && path.len() < 8 {

@@ -32,6 +32,7 @@ pub use bytes::Bytes;
 pub use ending::{LastEvents, last_events};
 pub use going::{count_events, last_change, run_to, trace};
 pub use instructions::{instruction_at_pc, is_call, register_name};
+pub use joins::{child_path, merges};
 pub use paths::path_text;
 pub use through_joins::{LineageLink, lineages};
 pub use tracing::call_name;

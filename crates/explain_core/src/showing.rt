@@ -1,6 +1,6 @@
-ghost use Rattle.std.specs.Prelude.{◌≡◌, ◌++◌, ◌+◌, ◌<◌, [], IfOk, OnOk, codes, string_bytes};
+ghost use Rattle.std.specs.Prelude.{◌≡◌, ◌++◌, ◌+◌, ◌<◌, IfOk, OnOk, codes, string_bytes};
 ghost use Rattle.std.specs.Fmt.{decimal};
-ghost use Rattle.explain_core.specs.Text.{child_text, children_text, end_text, event_text, limit_text, line_of, pc_text, register_text, registers_text, space_text, state_text, status_text, top_text};
+ghost use Rattle.explain_core.specs.Text.{child_text, children_text, end_text, event_text, limit_text, line_of, pc_text, register_text, registers_text, state_text, status_text, top_text};
 
 use crate::bytes::{Bytes, push_bytes};
 use crate::contents::push_contents;

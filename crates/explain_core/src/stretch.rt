@@ -1,4 +1,4 @@
-ghost use Rattle.std.specs.Prelude.{◌≡◌, ◌+◌, ◌≤◌, ◌^◌, ◌==◌, false, true, None, if◌then◌else◌};
+ghost use Rattle.std.specs.Prelude.{◌≡◌, ◌+◌, ◌≤◌, ◌^◌, false, true, None, if◌then◌else◌};
 ghost use Rattle.memory_model.specs.Memory.{with_number};
 ghost use Rattle.instruction_model.specs.Form.{HasFields};
 ghost use Rattle.instruction_model.specs.Outcome.{view_of, outcome, perform};

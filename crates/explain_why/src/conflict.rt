@@ -9,9 +9,8 @@ ghost use Rattle.explain_why.specs.Texts.{lone_conflict_text};
 ghost use Rattle.explain_why.specs.Why.{ExplainsConflict, StandsAt, TellsConflict, all_events};
 
 use crate::origin::{byte_origin, changed_byte, lineage_byte};
-use crate::paths::child_path;
 use crate::texts::{bytes_text, conflict_text, lone_conflict_text};
-use explain_core::{Watched, last_changes, lineages};
+use explain_core::{Watched, child_path, last_changes, lineages};
 use space_tree::{Mem, Path, Space, Top, at, copy_tree};
 use std::alloc::{AllocError, Global};
 

@@ -5,20 +5,19 @@ ghost use Rattle.space_model.specs.Space.{Space};
 ghost use Rattle.explain_core.specs.declared.watching.Watched.TheVariants.{Byte};
 ghost use Rattle.explain_core.specs.Watch.{noted_of};
 ghost use Rattle.explain_core.specs.Reached.{TellsLast};
-ghost use Rattle.explain_core.specs.Joins.{is_join, joined_path, merges};
+ghost use Rattle.explain_core.specs.Joins.{is_join, joined_path};
 ghost use Rattle.explain_core.specs.Lineage.{TellsLineage, noted_link};
 ghost use Rattle.explain_why.specs.Origin.{IsLeft, IsLeftBy, TellsOrigin, where_left};
 ghost use Rattle.explain_why.specs.Sought.{IsSoughtBelow};
 ghost use Rattle.explain_why.specs.Why.{all_events};
 
-use crate::paths::{child_path, copy_path};
-use call_model::{GET, TJOIN};
+use crate::paths::copy_path;
 use explain_core::{
-    Change, ChangeBefore, LineageLink, Watched, change_before, is_call, last_change,
+    Change, ChangeBefore, LineageLink, Watched, change_before, child_path, is_call, last_change,
+    merges,
 };
-use space_tree::{Mem, Path, Regs, Space, copy_tree};
+use space_tree::{Mem, Path, Space, copy_tree};
 use std::alloc::{AllocError, Global};
-use trap_ret::options::{MERGE, has};
 
 // Who left this value, of what is watched, of the first so many own events at a path.
 #[derive(Drop)]
@@ -54,14 +53,6 @@ fn left_by(alloc: Global, root: &mut Space, sought: &Sought) -> Result<Option<Ch
     let tree = copy_tree(alloc, root)?;
     let change = last_change(alloc, tree, &sought.path, sought.to, sought.watched)?;
     Ok(where_left(sought, change))
-}
-
-// Whether these are the registers of a call that merges a child's memory.
-fn merges(registers: &Regs) -> bool
-    ensures { result ≡ merges registers.now }
-{
-    let call = registers.register(17);
-    call == TJOIN || (call == GET && has(registers.register(10), MERGE))
 }
 
 // Whether an event joined a child.

@@ -1,8 +1,7 @@
-ghost use Rattle.std.specs.Prelude.{◌≡◌, ◌++◌, [], IfOk, OnOk, length, map, option_map};
+ghost use Rattle.std.specs.Prelude.{◌≡◌, ◌++◌, [], IfOk, OnOk, length, map};
 ghost use Rattle.call_model.specs.Limits.{levels_below};
 ghost use Rattle.space_model.specs.Sound.{IsSound};
 ghost use Rattle.demand_eval.specs.Turns.{IsSoundBelow};
-ghost use Rattle.explain_core.specs.Joins.{child_path};
 ghost use Rattle.explain_why.specs.Parts.{paths_from};
 
 use space_tree::{Path, Space};
@@ -13,18 +12,6 @@ pub(crate) fn copy_path(path: &Path) -> Result<Path, AllocError>
     ensures { IfOk result (λ p. p.items ≡ path.now.items) }
 {
     path.clone()
-}
-
-/// The path of a child by its number; none exactly where the number is none of a child, or no space can stand there.
-pub(crate) fn child_path(path: &Path, number: u32) -> Result<Option<Path>, AllocError>
-    ensures { IfOk result (λ o. option_map (λ p. p.items) o ≡ child_path path.now.items number) }
-{
-    if number < 65536 && path.len() < 8 {
-        let mut child = path.clone()?;
-        child.push(number as u16);
-        return Ok(Some(child));
-    }
-    Ok(None)
 }
 
 // Adds the paths of a space and of all below it.

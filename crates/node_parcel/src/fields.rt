@@ -1,4 +1,4 @@
-ghost use Rattle.std.specs.Prelude.{◌≡◌, ◌<◌, ◌≤◌, ◌^◌, ◌+◌, IfOk};
+ghost use Rattle.std.specs.Prelude.{◌<◌, ◌≤◌, IfOk};
 ghost use Rattle.std.specs.Int.{w32};
 ghost use Rattle.fault_model.specs.Gives.{Gives};
 ghost use Rattle.memory_model.specs.Sizes.{greatest_permission, pages};

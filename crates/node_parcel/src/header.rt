@@ -1,5 +1,4 @@
-ghost use Rattle.std.specs.Prelude.{◌≡◌, ◌<◌, ◌≤◌, ◌^◌, ◌+◌, ◌∷◌, IfOk, Ok};
-ghost use Rattle.std.specs.Int.{w32};
+ghost use Rattle.std.specs.Prelude.{◌≡◌, ◌<◌, ◌≤◌, ◌^◌, ◌+◌, IfOk, Ok};
 ghost use Rattle.fault_model.specs.Gives.{Gives};
 ghost use Rattle.parcel_model.specs.Parcel as parcel;
 ghost use Rattle.parcel_model.specs.Parcel.{status_in};

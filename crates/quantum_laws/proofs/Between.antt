@@ -1,5 +1,5 @@
 -- Between two calls of a caller its threads keep their snapshots.
-use Rattle.std.proofs.Common.{◌≡◌, ℕ, pred, ◌+◌, ◌≤◌, ◌<◌, Bool, true, false, cond, List, [], ◌∷◌, Some, None, refl, sym, ap, ◌∙◌, inl, inr, ◌⊎◌, subst}
+use Rattle.std.proofs.Common.{◌≡◌, ℕ, pred, ◌+◌, ◌≤◌, ◌<◌, true, List, [], ◌∷◌, Some, refl, sym, ap, ◌∙◌, inl, inr, ◌⊎◌, subst}
 use Rattle.std.proofs.lemmas.Bool.{cases_eq}
 use Rattle.std.specs.Prelude.{option_map}
 use Rattle.memory_model.specs.Memory.{Memory}
@@ -12,10 +12,10 @@ use Rattle.space_model.specs.Event.{NextEvent, rests, moves, meets, next}
 use Rattle.space_model.specs.Commit.{commits}
 use Rattle.space_model.specs.Quanta.{waits, after_start, writings}
 use Rattle.space_model.specs.Runtime.{shared_pages}
-use Rattle.space_model.specs.Meeting.{awaits, meet}
+use Rattle.space_model.specs.Meeting.{meet}
 use Rattle.space_model.proofs.Children.{find-over_same, find-over_other}
 use Rattle.space_model.proofs.Next.{next_meets}
-use Rattle.run_model.specs.Schedule.{are_ready, is_local, ready_call, call_at, event, step}
+use Rattle.run_model.specs.Schedule.{is_local, call_at, event, step}
 use Rattle.det_laws.proofs.Near.{ready_found}
 use Rattle.quantum_model.specs.Rows.{threads_in}
 use Rattle.quantum_laws.specs.Between.{memory_of, status_of, MayHappenBetween, LeadsBetween, HasSnapshot}

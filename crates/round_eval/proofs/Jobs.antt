@@ -3,7 +3,7 @@ use Rattle.std.proofs.Common.{◌≡◌, ℕ, zero, ◌+◌, ◌-◌, ◌<◌, �
 use Rattle.std.specs.Prelude.{Result, Ok, Err, IfOk, MatchResult, Contains}
 use Rattle.std.specs.List.{All, AllZip}
 use Rattle.std.proofs.lemmas.List.Elements.{All-head, All-tail}
-use Rattle.space_model.specs.Space.{Top, Space, top_of}
+use Rattle.space_model.specs.Space.{Space, top_of}
 use Rattle.space_model.specs.Path.{with_top}
 use Rattle.space_model.specs.Event.{Follows}
 use Rattle.det_laws.specs.Leads.{Reaches}
@@ -16,7 +16,7 @@ use Rattle.round_eval.specs.declared.job.Job.{Job}
 use Rattle.round_eval.specs.declared.job.Done.{Done}
 use Rattle.round_eval.specs.declared.begun.Begun.{Begun}
 use Rattle.round_eval.specs.Begun.{IsFor}
-use Rattle.round_eval.specs.Jobs.{job_out, jobs_out, done_out, dones_out, WentOn, events_of}
+use Rattle.round_eval.specs.Jobs.{job_out, jobs_out, dones_out, WentOn, events_of}
 
 -- each comes back to where it was
 pub same_paths : (jobs : List Job) (dones : List Done) → AllZip WentOn jobs dones → paths_of (dones_out dones) ≡ paths_of (jobs_out jobs)

@@ -1,16 +1,16 @@
 -- Trees later in the same run, one after the other.
-use Rattle.std.proofs.Common.{◌≡◌, ℕ, suc, ◌+◌, ◌≤◌, ◌<◌, Bool, true, false, cond, ◌||◌, refl, sym, ◌∙◌, ap, subst, arith, true≢false}
-use Rattle.space_model.specs.Space.{Space, is_settled}
+use Rattle.std.proofs.Common.{◌≡◌, ℕ, ◌+◌, ◌≤◌, ◌<◌, Bool, true, false, ◌||◌, refl, sym, ◌∙◌, ap, subst, arith, true≢false}
+use Rattle.space_model.specs.Space.{Space}
 use Rattle.space_model.specs.Sound.{IsSound}
 use Rattle.run_model.specs.Demand.{settle_tree}
 use Rattle.run_model.proofs.Sound.{replay_whole}
-use Rattle.det_laws.specs.Leads.{Leads, Reaches}
+use Rattle.det_laws.specs.Leads.{Reaches}
 use Rattle.det_laws.specs.Tree.{after_all, events_left}
 use Rattle.det_laws.proofs.Leading.{stays, goes_on}
 use Rattle.det_laws.proofs.Local.{leads_may}
 use Rattle.det_laws.proofs.Reaching.{replay_settles}
 use Rattle.det_laws.proofs.Ending.{counted, all_happen}
-use Rattle.run_model.specs.Schedule.{is_enabled, step, call_at, where_some, try_meet}
+use Rattle.run_model.specs.Schedule.{step, call_at, where_some, try_meet}
 use Rattle.run_model.proofs.Calls.{call_enabled}
 use Rattle.call_model.specs.declared.Call.{Call}
 use Rattle.std.specs.Prelude.{List, [], ◌∷◌, Option, Some, None, IfSome, nat_lt}

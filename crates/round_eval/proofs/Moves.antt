@@ -1,13 +1,12 @@
 -- Tops that are taken out and put back, one after the other.
-use Rattle.std.proofs.Common.{◌≡◌, ℕ, Bool, true, false, not, List, [], ◌∷◌, ◌++◌, map, Some, None, refl, sym, ap, ◌∙◌, subst}
-use Rattle.std.specs.Prelude.{Option, IfSome, option_map, option_to_list}
+use Rattle.std.proofs.Common.{◌≡◌, ℕ, Bool, true, false, not, List, [], ◌∷◌, ◌++◌, Some, refl, sym, ap, ◌∙◌, subst}
+use Rattle.std.specs.Prelude.{Option, IfSome, option_map}
 use Rattle.std.specs.List.{All}
-use Rattle.std.proofs.lemmas.List.Elements.{All-nil, All-cons, All-head, All-tail, All-append}
+use Rattle.std.proofs.lemmas.List.Elements.{All-nil, All-cons, All-head, All-tail}
 use Rattle.space_model.specs.Stop.{is_stopped}
 use Rattle.space_model.specs.Space.{Top, Space, top_of}
 use Rattle.space_model.specs.Path.{at, with_top}
-use Rattle.det_laws.specs.Tops.{top_at}
-use Rattle.det_laws.specs.Moved.{Placed, paths_of, with_tops, HasSpace, HasRunning, IsTaken, AreOut}
+use Rattle.det_laws.specs.Moved.{paths_of, with_tops, HasSpace, HasRunning, IsTaken, AreOut}
 use Rattle.det_laws.proofs.Moved.{top_space, tops-append, paths-append, spaces_stay, one_more_out}
 use Rattle.round_eval.specs.declared.job.Job.{Job}
 use Rattle.round_eval.specs.declared.job.Done.{Done}

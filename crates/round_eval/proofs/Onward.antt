@@ -1,9 +1,8 @@
 -- A space that goes on where it stands: local events of a tree.
-use Rattle.std.proofs.Common.{◌≡◌, ℕ, pred, ◌+◌, ◌-◌, ◌≤◌, Bool, true, false, List, [], get_or, Some, None, refl, sym, ap, ◌∙◌, subst, arith}
-use Rattle.std.specs.Prelude.{Option, IfSome, IsNone}
-use Rattle.space_model.specs.Space.{Top, Space, space, Children, find, over}
+use Rattle.std.proofs.Common.{◌≡◌, ℕ, pred, ◌-◌, List, [], get_or, Some, None, refl, sym, subst, arith}
+use Rattle.std.specs.Prelude.{Option, IfSome}
+use Rattle.space_model.specs.Space.{Top, Space, space, Children, over}
 use Rattle.space_model.specs.Event.{Follows}
-use Rattle.space_tree.proofs.Paths.{onward}
 use Rattle.det_core.proofs.Paths.{HasFirst}
 use Rattle.det_laws.specs.Leads.{Reaches}
 use Rattle.det_laws.proofs.Leading.{child_reaches}

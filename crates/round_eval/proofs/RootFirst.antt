@@ -1,25 +1,25 @@
 -- Rounds in which the root goes on by itself, and what they write to its console.
 use Rattle.std.proofs.Common.{◌≡◌, ℕ, zero, suc, ◌+◌, ◌*◌, ◌-◌, ◌≤◌, ◌<◌, Bool, true, false, ◌||◌, List, [], ◌∷◌, ◌++◌, length, append_assoc, length-append, Option, Some, None, Result, Ok, Err, IfOk, OnErr, refl, sym, ◌∙◌, ap, subst, arith}
-use Rattle.std.specs.Prelude.{nat_lt, cond}
+use Rattle.std.specs.Prelude.{nat_lt}
 use Rattle.std.proofs.lemmas.Bool.Decides.{nat_tests}
 use Rattle.std.proofs.lemmas.List.{append-nil}
 use Rattle.call_model.specs.declared.Call.{Call}
 use Rattle.det_host.specs.Writing.{Output, StopsWithin, TakesPrefix}
 use Rattle.space_model.specs.Stop.{is_stopped}
-use Rattle.space_model.specs.Space.{Space, space, Top, Children, top_of, find, over, console_bytes}
+use Rattle.space_model.specs.Space.{Space, space, Top, Children, over, console_bytes}
 use Rattle.space_model.specs.Beginning.{fresh_top}
 use Rattle.space_model.specs.Path.{replace_top}
 use Rattle.space_model.specs.Sound.{IsSound}
 use Rattle.space_model.specs.Event.{NextEvent, rests, moves, meets, next, Follows}
 use Rattle.run_model.specs.Console.{console_in, most_output}
 use Rattle.run_model.specs.Demand.{settle_tree}
-use Rattle.run_model.specs.Schedule.{is_enabled, may_happen, ready_call, call_at, step, where_some, event, try_meet}
+use Rattle.run_model.specs.Schedule.{may_happen, ready_call, step, where_some, event, try_meet}
 use Rattle.run_model.proofs.Console.{call_devices}
 use Rattle.run_model.proofs.Fuel.{stopped_rests}
 use Rattle.report_model.specs.Report.{console_of}
 use Rattle.det_laws.specs.Leads.{Leads}
 use Rattle.demand_eval.specs.Streams.{Begins, Lags, Writes}
-use Rattle.demand_eval.proofs.Streams.{begins_then, lags_then, writes_then}
+use Rattle.demand_eval.proofs.Streams.{begins_then, writes_then}
 use Rattle.space_step.specs.Output.{GoesWithOutput}
 use Rattle.round_eval.specs.Apart.{Shows, WentWriting}
 use Rattle.round_eval.specs.Later.{IsLater}

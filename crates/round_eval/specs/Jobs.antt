@@ -1,7 +1,6 @@
 -- Spaces that go on side by side: each with its path, its top and how many local events it had.
 -- Our choice: a restatement for proofs.
 use Rattle.std.specs.Prelude.{◌≡◌, ℕ, ◌+◌, ◌-◌, List, [], ◌∷◌, length, map}
-use Rattle.std.specs.List.{AllZip}
 use Rattle.call_model.specs.Limits.{levels_below}
 use Rattle.space_model.specs.Event.{Follows}
 use Rattle.det_laws.specs.Moved.{Placed}

@@ -1,6 +1,5 @@
-ghost use Rattle.std.specs.Prelude.{◌≡◌, ◌≤◌, true, IfOk, IfSome, IsNone, OnOk};
+ghost use Rattle.std.specs.Prelude.{◌≡◌, true, IfOk, IfSome, IsNone, OnOk};
 ghost use Rattle.std.specs.List.{All};
-ghost use Rattle.space_model.specs.Path.{with_top};
 ghost use Rattle.det_laws.specs.Moved.{AreOut, HasRunning, HasSpace, IsTaken, paths_of, with_tops};
 ghost use Rattle.round_eval.specs.Jobs.{dones_out, jobs_out};
 

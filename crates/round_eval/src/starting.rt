@@ -1,4 +1,4 @@
-ghost use Rattle.std.specs.Prelude.{◌≡◌, IfOk, List};
+ghost use Rattle.std.specs.Prelude.{IfOk, List};
 ghost use Rattle.std.specs.List.{AllZip};
 ghost use Rattle.round_eval.specs.Jobs.{WentOn};
 ghost use Rattle.round_eval.specs.Begun.{IsFor};

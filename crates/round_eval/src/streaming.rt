@@ -1,4 +1,4 @@
-ghost use Rattle.std.specs.Prelude.{◌≡◌, ◌*◌, ◌≤◌, ◌++◌, [], length, true, IfOk, IsErrOf, OnOk, OnErr, nat_lt};
+ghost use Rattle.std.specs.Prelude.{◌≡◌, ◌*◌, ◌≤◌, true, IfOk, IsErrOf, OnOk, OnErr};
 ghost use Rattle.space_model.specs.Space.{Space, is_settled};
 ghost use Rattle.space_model.specs.Sound.{IsSound};
 ghost use Rattle.report_model.specs.Report.{console_of};

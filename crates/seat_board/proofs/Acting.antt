@@ -1,9 +1,7 @@
 -- A turn over the parts of a desk is one of the desk.
-use Rattle.std.proofs.Common.{◌≡◌, ℕ, ◌+◌, ◌-◌, Bool, true, false, true≢false, List, [], ◌∷◌, ◌++◌, length, Option, Some, None, Ok, Err, ◌⊎◌, inl, inr, append-nil, append_assoc, get_or, refl, sym, ap, ◌∙◌, subst, arith, length-append}
-use Rattle.std.specs.Prelude.{IfSome, IfOk, IsSome, OnErr, Result, is_some}
+use Rattle.std.proofs.Common.{◌≡◌, ℕ, ◌+◌, ◌-◌, Bool, true, List, [], ◌∷◌, ◌++◌, length, Option, Some, None, Ok, Err, ◌⊎◌, inl, inr, append-nil, append_assoc, get_or, refl, sym, ap, ◌∙◌, subst, arith, length-append}
+use Rattle.std.specs.Prelude.{IfSome, IfOk, OnErr, Result, is_some}
 use Rattle.std.specs.declared.alloc.AllocError.{AllocError}
-use mathlib.Core.Option.{some}
-use lib.ListN.{get_elem?}
 use Rattle.det_core.specs.declared.entry.Entry.{Entry}
 use Rattle.worker_pool.specs.declared.shop.Turn.{Turn}
 use Rattle.board.specs.declared.job.Out.{Out}

@@ -1,13 +1,11 @@
 -- A seat's turn leaves the board as its seats know.
-use Rattle.std.proofs.Common.{◌≡◌, ◌≢◌, ℕ, zero, suc, ◌+◌, ◌≤◌, ◌<◌, ◌||◌, Bool, true, false, true≢false, List, [], ◌∷◌, ◌++◌, length, set, Option, Some, None, ◌⊎◌, inl, inr, refl, sym, ap, ◌∙◌, subst, arith, append-nil, length-set}
-use Rattle.std.proofs.lemmas.Bool.{cases_eq}
-use Rattle.std.specs.Prelude.{IsSome, slice_index_or}
+use Rattle.std.proofs.Common.{◌≡◌, ◌≢◌, ℕ, ◌+◌, ◌||◌, Bool, true, false, true≢false, List, [], ◌∷◌, ◌++◌, length, set, Option, Some, None, ◌⊎◌, inl, inr, refl, sym, ap, ◌∙◌, subst, arith, append-nil, length-set}
+use Rattle.std.specs.Prelude.{slice_index_or}
 use Rattle.std.specs.List.{All}
 use mathlib.Core.Option.{some}
 use lib.ListN.{get_elem?}
 use Rattle.atomic_table.proofs.Lists.{at_set, set_here, set_else}
 use Rattle.ticket_lock.proofs.Views.{there, total-set}
-use Rattle.space_model.specs.Sound.{IsSound}
 use Rattle.det_laws.specs.Tops.{top_at}
 use Rattle.det_core.specs.declared.entry.Entry.{Entry}
 use Rattle.worker_pool.specs.declared.shop.Turn.{Turn}
@@ -15,14 +13,14 @@ use Rattle.worker_pool.specs.declared.shop.Turn.TheVariants.{Job as Hands, Met, 
 use Rattle.board.specs.declared.job.Out.{Out}
 use Rattle.board.specs.declared.job.Job.{Job}
 use Rattle.board.specs.declared.done.Done.{Done}
-use Rattle.board.specs.Jobs.{out_at, Sets, IsNoneOut}
-use Rattle.board.specs.Listed.{OutsRun, OutsApart}
-use Rattle.board.specs.Steps.{IsTaken, IsOfJob, ran}
+use Rattle.board.specs.Jobs.{out_at}
+use Rattle.board.specs.Listed.{OutsApart}
+use Rattle.board.specs.Steps.{IsOfJob}
 use Rattle.board.specs.Turns.{IsFinished}
 use Rattle.board.specs.Value.{Shown}
 use Rattle.seat_board.specs.declared.known.Known.{Known}
 use Rattle.seat_board.specs.Held.{Held, Ended}
-use Rattle.seat_board.specs.Desk.{Desk, SeatEntry, TakesIn, GoesOn, IsSeatTurn, IsRefused, held_of, job_of, told_by, nothing_told, turns_of}
+use Rattle.seat_board.specs.Desk.{Desk, TakesIn, IsSeatTurn, IsRefused, held_of, job_of, told_by, turns_of}
 use Rattle.seat_board.specs.Seats.{IsHeld, held_in, added, after, IsOfHeld, IsDoneOf, IsEnded, IsCount, Fits, living, one_if}
 use Rattle.seat_board.proofs.Logs.{turns_own, turns_other, added_one, added_none}
 use Rattle.seat_board.proofs.Turns.{Leaves, goes_leaves, held_taken, is_held}

@@ -1,9 +1,8 @@
 -- What a board's turn leaves of the jobs that are out.
-use Rattle.std.proofs.Common.{◌≡◌, ◌≢◌, ℕ, ◌+◌, ◌≤◌, ◌<◌, Bool, true, false, true≢false, List, [], ◌∷◌, ◌++◌, length, Option, Some, None, ◌⊎◌, inl, inr, refl, sym, ap, ◌∙◌, subst, arith, append-nil}
+use Rattle.std.proofs.Common.{◌≡◌, ◌≢◌, ℕ, ◌+◌, true, false, true≢false, List, [], ◌∷◌, ◌++◌, Option, Some, None, ◌⊎◌, inl, inr, refl, sym, ap, ◌∙◌, subst, append-nil}
 use Rattle.std.proofs.lemmas.Bool.{cases_eq}
-use Rattle.std.specs.Prelude.{IsSome}
 use Rattle.arrayvec.specs.ArrayVec.{ArrayVec}
-use Rattle.space_model.specs.Space.{Space, Top, is_settled}
+use Rattle.space_model.specs.Space.{Space, Top}
 use Rattle.space_model.specs.Sound.{IsSound}
 use Rattle.run_model.specs.Schedule.{is_local_at}
 use Rattle.node_places.specs.Places.{Places}
@@ -12,23 +11,23 @@ use Rattle.det_laws.proofs.Tops.{top_other}
 use Rattle.det_laws.proofs.Near.{local_enabled, going_on_stays}
 use Rattle.det_core.specs.declared.entry.Entry.{Entry}
 use Rattle.det_core.specs.declared.entry.Entry.TheVariants.{Ran, Moved, Met as HasMetAt}
-use Rattle.det_core.specs.Legal.{Leads, IsCopied}
+use Rattle.det_core.specs.Legal.{Leads}
 use Rattle.worker_pool.specs.declared.shop.Turn.{Turn}
 use Rattle.worker_pool.specs.declared.shop.Turn.TheVariants.{Job as Hands, Met, Rest, Over}
 use Rattle.board.specs.declared.job.Out.{Out}
 use Rattle.board.specs.declared.job.Job.{Job}
 use Rattle.board.specs.declared.done.Done.{Done}
-use Rattle.board.specs.Jobs.{out_at, Sets, IsNoneOut}
+use Rattle.board.specs.Jobs.{out_at}
 use Rattle.board.specs.Listed.{OutsRun, OutsApart}
-use Rattle.board.specs.Steps.{IsPutOut, HasMet, Meets, IsTaken, its_top, ran}
+use Rattle.board.specs.Steps.{IsPutOut, HasMet, Meets, IsTaken, its_top}
 use Rattle.board.specs.GoingOn.{HasGoneOn}
-use Rattle.board.specs.Turns.{HandsOut, GoesOnNode, IsTurn, IsFinished}
+use Rattle.board.specs.Turns.{HandsOut, IsTurn, IsFinished}
 use Rattle.board.specs.Value.{Shown}
 use Rattle.board.proofs.Kept.{not_both}
 use Rattle.board.proofs.Meetings.{copied_nodes}
 use Rattle.board.proofs.Turns.{finished_meets_none, finished_goes_none}
 use Rattle.seat_board.specs.Held.{Held}
-use Rattle.seat_board.specs.Desk.{Desk, GoesOn, held_of, job_of, told_by}
+use Rattle.seat_board.specs.Desk.{GoesOn, job_of, told_by}
 use Rattle.seat_board.specs.Seats.{IsHeld, held_by, held_from, held_in}
 
 -- a result is taken: the jobs in other slots are held as they were

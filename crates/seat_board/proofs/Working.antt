@@ -10,9 +10,9 @@ use Rattle.board.specs.declared.done.Done.{Done}
 use Rattle.board.specs.Turns.{is_over, IsOf}
 use Rattle.seat_board.specs.declared.known.Known.{Known}
 use Rattle.seat_board.specs.declared.told.Told.{Told}
-use Rattle.seat_board.specs.Held.{Held, Ended}
-use Rattle.seat_board.specs.Desk.{Desk, IsSeatTurn, held_of, job_of, told_by}
-use Rattle.seat_board.specs.Seats.{after, counted_up, held_in, taken_in, IsDoneOf}
+use Rattle.seat_board.specs.Held.{Held}
+use Rattle.seat_board.specs.Desk.{Desk, held_of, told_by}
+use Rattle.seat_board.specs.Seats.{counted_up, held_in, taken_in, IsDoneOf}
 use Rattle.atomic_table.specs.Seated.{TableId}
 use Rattle.seat_board.specs.declared.pass.Pass.{Pass}
 use Rattle.seat_board.specs.declared.worker.Finished.{Finished}

@@ -1,7 +1,7 @@
 -- What the seats of a board hand round: the board, and whose turn each part of its history was.
 -- Source: OSDI 2010, "Efficient System-Enforced Deterministic Parallelism": spaces that run side by side, and meet by calls alone.
 -- Our choice: one log of turns, each with the number of its seat; the history is their entries, one turn behind the other.
-use Rattle.std.specs.Prelude.{◌≡◌, ℕ, ◌+◌, ◌==◌, Bool, true, false, List, [], ◌∷◌, ◌++◌, take, drop, length, if◌then◌else◌, Option, Some, None, IsSome, Result, Ok, Err, ◌⊎◌, refl}
+use Rattle.std.specs.Prelude.{◌≡◌, ℕ, ◌+◌, ◌==◌, true, false, List, [], ◌∷◌, ◌++◌, take, drop, length, if◌then◌else◌, Option, Some, None, IsSome, Result, Ok, Err, ◌⊎◌, refl}
 use Rattle.std.specs.Coded.{Coded, coded_ℕ, coded×, coded_list, code_by}
 use Rattle.det_core.specs.declared.entry.Entry.{Entry}
 use Rattle.det_core.specs.contracts.entry.Entry as entry

@@ -1,10 +1,8 @@
 -- A seat, as contracts read it.
 -- Our choice: what a seat knows, the desk as its last turn found it, and what a turn does to both.
-use Rattle.std.specs.Prelude.{◌≡◌, ◌≢◌, ℕ, ◌+◌, List, Option, Some, None, true, Result, Ok, Err}
+use Rattle.std.specs.Prelude.{◌≡◌, ℕ, Option, Some, true, Result, Ok, Err}
 use Rattle.std.specs.List.{All}
 use Rattle.std.specs.declared.alloc.AllocError.{AllocError}
-use Rattle.space_model.specs.Space.{Space}
-use Rattle.det_core.specs.declared.entry.Entry.{Entry}
 use Rattle.worker_pool.specs.declared.shop.Turn.{Turn}
 use Rattle.board.specs.declared.job.Job.{Job}
 use Rattle.board.specs.declared.done.Done.{Done}
@@ -13,7 +11,7 @@ use Rattle.seat_board.specs.declared.known.Known.{Known}
 use Rattle.seat_board.specs.declared.pass.Pass.{Pass}
 use Rattle.seat_board.specs.Held.{Held, Ended}
 use Rattle.seat_board.specs.Desk.{Desk, IsSeatTurn, IsRefused, turns_of}
-use Rattle.seat_board.specs.Seats.{IsHeld, Fits, after}
+use Rattle.seat_board.specs.Seats.{IsHeld, after}
 
 abbrev pub known : Pass → Known
 known p = p.pass.seat.me.0.core

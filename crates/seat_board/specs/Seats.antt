@@ -1,16 +1,15 @@
 -- What the seats of a board know of it, between any two turns.
 -- Source: Mellor-Crummey and Scott, TOCS 1991, ticket locks; OSDI 2010, "Efficient System-Enforced Deterministic Parallelism".
 -- Our choice: each seat knows its own job, its own turns and the tree that the board began with; so nothing is compared when a job comes back, nor at the end.
-use Rattle.std.specs.Prelude.{◌≡◌, ◌≢◌, ℕ, ◌+◌, ◌≤◌, ◌<◌, ◌||◌, Bool, true, false, List, [], ◌∷◌, ◌++◌, map, drop, length, Option, Some, None, option_map, set}
+use Rattle.std.specs.Prelude.{◌≡◌, ℕ, ◌+◌, ◌≤◌, ◌<◌, ◌||◌, Bool, true, false, List, [], ◌∷◌, ◌++◌, map, drop, length, Option, Some, None, option_map}
 use Rattle.std.specs.List.{All}
 use Rattle.std.proofs.Common.{arith}
 use mathlib.Core.Option.{some}
 use lib.ListN.{get_elem?}
-use Rattle.space_model.specs.Space.{Space, Top}
+use Rattle.space_model.specs.Space.{Top}
 use Rattle.det_laws.specs.Tops.{top_at}
 use Rattle.det_core.specs.declared.entry.Entry.{Entry}
 use Rattle.board.specs.declared.job.Out.{Out}
-use Rattle.board.specs.declared.job.Job.{Job}
 use Rattle.board.specs.declared.done.Done.{Done}
 use Rattle.board.specs.Jobs.{out_at}
 use Rattle.board.specs.Turns.{IsFinished}

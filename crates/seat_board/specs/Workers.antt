@@ -1,13 +1,11 @@
 -- Workers in seats.
 -- Our choice: what a worker leaves of what its seat knew, and what it needs to begin.
-use Rattle.std.specs.Prelude.{◌≡◌, ◌+◌, ◌≤◌, ◌<◌, ℕ, true, List, length, Option, Some, None, option_map, Result, IfOk, slice_index_or}
+use Rattle.std.specs.Prelude.{◌≡◌, ◌+◌, ◌<◌, ℕ, true, List, length, Option, Some, None, option_map, Result, IfOk, slice_index_or}
 use Rattle.std.specs.List.{All}
 use Rattle.std.specs.declared.alloc.AllocError.{AllocError}
-use Rattle.space_model.specs.Space.{Space}
 use Rattle.atomic_table.specs.Seated.{TableId}
 use Rattle.worker_pool.specs.declared.shop.Turn.{Turn}
 use Rattle.board.specs.declared.job.Job.{Job}
-use Rattle.board.specs.declared.done.Done.{Done}
 use Rattle.board.specs.Turns.{is_over}
 use Rattle.seat_board.specs.declared.worker.Finished.{Finished}
 use Rattle.seat_board.specs.Desk.{job_of}

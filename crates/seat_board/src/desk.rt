@@ -1,4 +1,4 @@
-ghost use Rattle.std.specs.Prelude.{◌≡◌, ◌⊎◌, ◌++◌, ◌∷◌, [], IfOk, IfSome, IsSome, OnErr, Some, true, false, length};
+ghost use Rattle.std.specs.Prelude.{◌≡◌, ◌⊎◌, [], IfOk, IfSome, OnErr, Some, true, false, length};
 ghost use Rattle.worker_pool.specs.declared.shop.Turn.TheVariants as turns;
 ghost use Rattle.board.specs.declared.job.Out.{Out as OutJob};
 ghost use Rattle.board.specs.Steps.{IsOfJob};

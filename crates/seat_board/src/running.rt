@@ -1,4 +1,4 @@
-ghost use Rattle.std.specs.Prelude.{◌≡◌, ◌+◌, ◌≤◌, ◌<◌, [], IfOk, Some, true, vec_len, length};
+ghost use Rattle.std.specs.Prelude.{◌≡◌, ◌+◌, ◌≤◌, ◌<◌, IfOk, Some, true, vec_len};
 ghost use Rattle.std.specs.List.{All};
 ghost use Rattle.space_model.specs.Space.{is_settled};
 ghost use Rattle.space_model.specs.Sound.{IsSound};

@@ -1,4 +1,4 @@
-use Rattle.std.proofs.Common.{◌+◌, arith, take, ap, ◌∙◌}
+use Rattle.std.proofs.Common.{◌+◌, arith, take, ◌∙◌}
 use Rattle.space_model.specs.Meeting.{awaits}
 use Rattle.path_set.specs.Paths.{Has}
 use Rattle.board.specs.Runs.{HasAtHome}

@@ -1,4 +1,4 @@
-use Rattle.std.proofs.Common.{◌≡◌, ap, ap₂, ◌∙◌}
+use Rattle.std.proofs.Common.{ap, ap₂, ◌∙◌}
 use Rattle.std.proofs.lemmas.Result.{IfOk-weaker}
 use Rattle.report_model.specs.Summary.{summary}
 use Rattle.det_cli.specs.declared.limits.TheConstants.{BENCH_FUEL}

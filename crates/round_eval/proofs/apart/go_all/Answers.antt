@@ -1,4 +1,4 @@
-use Rattle.std.proofs.Common.{◌+◌, ◌-◌, ◌≤◌, arith}
+use Rattle.std.proofs.Common.{◌-◌, arith}
 use Rattle.round_eval.proofs.Later.{then_either, then_second}
 use Rattle.round_eval.proofs.RootFirst.{shows_then}
 use Rattle.round_eval.proofs.apart.go_all.Goals as goal

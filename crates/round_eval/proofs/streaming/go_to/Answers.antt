@@ -1,7 +1,6 @@
-use Rattle.std.proofs.Common.{◌≡◌, ◌∙◌, Err, ap, arith, subst}
+use Rattle.std.proofs.Common.{◌≡◌, ◌∙◌, Err, ap, arith}
 use Rattle.det_host.specs.declared.sink.SinkError.TheVariants.{Failed}
 use Rattle.demand_eval.proofs.Streams.{begins_same, begins_then, lags_then, writes_then}
-use Rattle.round_eval.specs.Later.{IsLater}
 use Rattle.round_eval.proofs.Later.{later_fewer, later_settles, later_sound}
 use Rattle.round_eval.proofs.streaming.go_to.Goals as goal
 

@@ -1,4 +1,4 @@
-use Rattle.std.proofs.Common.{◌≡◌, ℕ, ◌-◌, [], ◌∷◌, ◌++◌, length, ap, ◌∙◌, arith}
+use Rattle.std.proofs.Common.{◌-◌, [], ◌∷◌, ◌++◌, length, ap, ◌∙◌, arith}
 use Rattle.seat_board.proofs.Acting.{does_act, goes_from}
 use Rattle.seat_board.proofs.desk.act.Goals as goal
 

@@ -1,4 +1,4 @@
-use Rattle.std.proofs.Common.{◌≡◌, ℕ, [], ◌∷◌, ◌++◌, length, ap, ◌∙◌, subst, arith}
+use Rattle.std.proofs.Common.{◌≡◌, [], ◌∷◌, ◌++◌, length, ap, ◌∙◌, subst, arith}
 use Rattle.seat_board.specs.Workers.{AreServed, IsFirst}
 use Rattle.seat_board.proofs.Working.{last_served, others_served}
 use Rattle.seat_board.proofs.running.run_to_end.Goals as goal

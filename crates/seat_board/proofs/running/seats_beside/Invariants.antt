@@ -1,4 +1,4 @@
-use Rattle.std.proofs.Common.{◌≡◌, ◌+◌, ◌≤◌, length, vec_len}
+use Rattle.std.proofs.Common.{◌≡◌, length, vec_len}
 use Rattle.seat_board.specs.Passes.{known}
 use Rattle.seat_board.specs.Workers.{AreReady, IsFirst, IsOfOneBoard}
 use Rattle.seat_board.proofs.running.seats_beside.Given as goal

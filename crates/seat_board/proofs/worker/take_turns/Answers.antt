@@ -1,6 +1,5 @@
-use Rattle.std.proofs.Common.{◌≡◌, Some, None, sym, ap, ◌∙◌, subst}
+use Rattle.std.proofs.Common.{◌∙◌}
 use Rattle.seat_board.specs.Passes.{known}
-use Rattle.seat_board.specs.Workers.{Goes, IsSame}
 use Rattle.seat_board.proofs.Working.{goes_on, goes_home, idle_none, same_itself, same_trans}
 use Rattle.seat_board.proofs.worker.take_turns.Goals as goal
 

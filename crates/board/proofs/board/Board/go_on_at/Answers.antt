@@ -1,12 +1,7 @@
-use Rattle.std.proofs.Common.{◌≡◌, ◌++◌, ◌∷◌, [], List, ℕ, sym, ap, ◌∙◌, subst, arith}
-use Rattle.det_core.specs.declared.entry.Entry.TheVariants.{Ran}
-use Rattle.arrayvec.specs.ArrayVec.{ArrayVec}
-use Rattle.path_set.specs.Paths.{paths_in}
+use Rattle.std.proofs.Common.{sym, subst, arith}
 use Rattle.node_places.specs.Places.{all_home}
 use Rattle.board.specs.Jobs.{MayBeTaken}
-use Rattle.board.specs.Listed.{IsListed}
 use Rattle.board.specs.Value.{Shown}
-use Rattle.board.proofs.Ways.{paths-append}
 use Rattle.board.proofs.Going.{noted, gone_legal, gone_on_listed_at, gone_shown_from}
 use Rattle.board.proofs.board.Board.go_on_at.Goals as goal
 

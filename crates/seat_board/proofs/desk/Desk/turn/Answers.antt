@@ -1,4 +1,4 @@
-use Rattle.std.proofs.Common.{◌≡◌, subst}
+use Rattle.std.proofs.Common.{subst}
 use Rattle.std.specs.Prelude.{IfOk, OnErr}
 use Rattle.seat_board.specs.Desk.{Desk, IsSeatTurn, IsRefused, cut}
 use Rattle.seat_board.proofs.Acting.{desk_turn}
