@@ -2,13 +2,15 @@
 #![tactic(auto)]
 
 use det_cli::{End, det_program, status, write_fault};
-use det_host::{FileLoader, OpenGate, Sink, SinkError, StdSink};
+use det_host::{FileLoader, OpenGate, StdSink};
 use std::alloc::AllocError;
 use std::env;
 use std::io::ErrorKind;
 use std::process::ExitCode;
 
-// The words of the command line. If they cannot be read, there are none: a usage error. (Want of memory is an error of its own.)
+// The words of the command line. If they cannot be read, there are none: a usage error. (Want of memory is an error of its own.) It stands apart for the
+// place that the loop over instructions gets behind it in the program: there it lies well (benchmarks/jumps).
+#[inline(never)]
 fn words(rt: &HostRuntime) -> Result<Vec<String>, AllocError> {
     let alloc = rt.alloc();
     match env::args(rt) {
@@ -26,18 +28,11 @@ fn words(rt: &HostRuntime) -> Result<Vec<String>, AllocError> {
     }
 }
 
-// Tells that there is no memory. It stands apart for the place that the loop over instructions gets behind it in the program: there its jumps lie
-// well (benchmarks/jumps).
-#[inline(never)]
-fn tell_no_memory<S: Sink>(rt: &HostRuntime, err: &mut S) -> Result<(), SinkError> {
-    write_fault(rt.alloc(), &End::NoMemory, err)
-}
-
 fn main(rt: HostRuntime) -> ExitCode {
     let mut out = StdSink::new(rt.stdout());
     let mut err = StdSink::new(rt.stderr());
     let Ok(words) = words(&rt) else {
-        let _ = tell_no_memory(&rt, &mut err);
+        let _ = write_fault(rt.alloc(), &End::NoMemory, &mut err);
         return ExitCode::from(status(&End::NoMemory));
     };
     let mut files = FileLoader::new(rt);
