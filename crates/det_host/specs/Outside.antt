@@ -27,6 +27,13 @@ Asks old new request (Err Failed) = new ≡ old ++ request ∷ []
 Asks old new request (Err (TooLarge read)) = new ≡ old ++ request ∷ []
 Asks old new request (Err Memory) = (new ≡ old) ⊎ (new ≡ old ++ request ∷ [])
 
+-- only a load that failed counts a fault
+abbrev pub IsQuiet : {V : Type 0} → ℕ → ℕ → Result V LoadError → Type 0
+IsQuiet before now (Ok v) = now ≡ before
+IsQuiet before now (Err Failed) = Unit {0}
+IsQuiet before now (Err (TooLarge read)) = now ≡ before
+IsQuiet before now (Err Memory) = now ≡ before
+
 -- a sink that told what it had taken has taken these bytes more, and tells it
 abbrev pub Takes : Option (List ℕ) → Option (List ℕ) → List ℕ → Type 0
 Takes old new bytes = IfSome old (λ before. new ≡ Some (before ++ bytes))

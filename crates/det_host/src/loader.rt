@@ -1,5 +1,5 @@
 ghost use Rattle.std.specs.Prelude.{◌≡◌, ◌≤◌, ◌<◌, ◌^◌, List, ℕ, Option, IsErrOf};
-ghost use Rattle.det_host.specs.Outside.{Request, Rose, Loads, Asks};
+ghost use Rattle.det_host.specs.Outside.{Request, Rose, Loads, Asks, IsQuiet};
 
 use std::alloc::Global;
 
@@ -30,6 +30,7 @@ pub trait Loader {
         requires { room < 2 ^ 32 }
         ensures loads { Loads (λ v. v.items) (told self.old name.now) room result }
         ensures failed { IsErrOf result LoadError.Failed → Rose (faults self.old) (faults self.new) }
+        ensures quiet { IsQuiet (faults self.old) (faults self.new) result }
         ensures later { faults self.old ≤ faults self.new }
         ensures told { (other : List ℕ) → told self.new other ≡ told self.old other }
         ensures asked { Asks (asked self.old) (asked self.new) (record { name = name.now; room = room }) result };

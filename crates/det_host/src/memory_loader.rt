@@ -1,6 +1,6 @@
 ghost use Rattle.std.specs.Prelude.{◌≡◌, ◌≤◌, ◌<◌, ◌^◌, List, [], ℕ, Option, Some, None, map, IfOk, IfErr, IfSome, IsNone, IsErrOf, ◌⊎◌, Ok, Err, IsTrue, false};
 ghost use Rattle.det_host.specs.Held.{file_bytes, named_file, answer, in_room, no_calls, after_load, FailsAt};
-ghost use Rattle.det_host.specs.Outside.{Rose, Loads, Asks};
+ghost use Rattle.det_host.specs.Outside.{Rose, Loads, Asks, IsQuiet};
 ghost use Rattle.det_host.specs.declared.loader.LoadError.{LoadError};
 
 use crate::calls::Calls;
@@ -104,6 +104,7 @@ impl Loader for MemLoader {
         requires { room < 2 ^ 32 }
         ensures loads { Loads (λ v. v.items) (file_bytes self.old.files name.now) room result }
         ensures failed { IsErrOf result LoadError.Failed → Rose self.old.calls.faults self.new.calls.faults }
+        ensures quiet { IsQuiet self.old.calls.faults self.new.calls.faults result }
         ensures later { self.old.calls.faults ≤ self.new.calls.faults }
         ensures told { (other : List ℕ) → file_bytes self.new.files other ≡ file_bytes self.old.files other }
         ensures asked { Asks self.old.asked self.new.asked (record { name = name.now; room = room }) result }

@@ -2,7 +2,7 @@ ghost use Rattle.std.specs.Prelude.{◌≡◌, ◌≢◌, ◌≤◌, ◌<◌, �
 ghost use Rattle.std.specs.Io.{ReadsAtMost};
 ghost use Rattle.std.specs.Io.KnownBytes.{IsAtEnd, ReadConsumes};
 ghost use Rattle.std.specs.IoError.{error_kind};
-ghost use Rattle.det_host.specs.Outside.{Rose, Loads, Asks};
+ghost use Rattle.det_host.specs.Outside.{Rose, Loads, Asks, IsQuiet};
 ghost use Rattle.det_host.specs.FileReading.{Gains, LosesAtMost, ReadsWithin};
 
 use crate::request::{Request, ask};
@@ -150,6 +150,7 @@ impl<F: FileReader + Drop> Loader for FileLoader<F> {
         requires { room < 2 ^ 32 }
         ensures loads { Loads (λ v. v.items) (F.held self.old.files name.now) room result }
         ensures failed { IsErrOf result LoadError.Failed → Rose self.old.faults self.new.faults }
+        ensures quiet { IsQuiet self.old.faults self.new.faults result }
         ensures later { self.old.faults ≤ self.new.faults }
         ensures told { (other : List ℕ) → F.held self.new.files other ≡ F.held self.old.files other }
         ensures asked { Asks self.old.asked.items self.new.asked.items (record { name = name.now; room = room }) result }

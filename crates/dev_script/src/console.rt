@@ -31,7 +31,16 @@ impl Model for Console {
     ghost invariant = { λ c. c.len ≡ length (bytes_in c.pieces.items ++ c.tail.items) };
 }
 
-// The bytes of the pieces from one on, and of a tail, in one list.
+// How many bytes the pieces from one on and a tail have.
+fn size_from(pieces: &[Arc<Vec<u8>, Global>], from: usize, tail: usize) -> usize {
+    let mut size = tail;
+    for i in from..pieces.len() {
+        size = size.saturating_add(pieces[i].len());
+    }
+    size
+}
+
+// The bytes of the pieces from one on, and of a tail, in one list. It asks for the memory that they need, once.
 fn joined(
     alloc: Global,
     pieces: &[Arc<Vec<u8>, Global>],
@@ -40,7 +49,7 @@ fn joined(
 ) -> Result<Vec<u8>, AllocError>
     ensures { IfOk result (λ bytes. bytes.items ≡ bytes_in (drop from pieces.now) ++ tail.now) }
 {
-    let mut bytes = Vec::new(alloc);
+    let mut bytes = Vec::with_capacity(alloc, size_from(pieces, from, tail.len()))?;
     for i in from..pieces.len() {
         bytes.extend_from_slice(&pieces[i])?;
     }
@@ -59,6 +68,16 @@ fn first_joined(pieces: &[Arc<Vec<u8>, Global>], tail: usize) -> usize
         behind = behind.saturating_add(pieces[from].len());
     }
     from
+}
+
+// From which piece on a new piece is joined: where the tail is to be a piece of its own, from none.
+fn first_of_next(pieces: &[Arc<Vec<u8>, Global>], tail: usize, alone: bool) -> usize
+    ensures { result ≤ length pieces.now }
+{
+    if alone {
+        return pieces.len();
+    }
+    first_joined(pieces, tail)
 }
 
 // Other holders of the same pieces.
@@ -193,23 +212,24 @@ impl Console {
         Ok(())
     }
 
-    // Makes a tail that is full a piece, where there is memory for it.
+    // Makes a tail that is full a piece, where there is memory for it. A tail that stayed would be copied whenever it grows, so where the
+    // memory for joining is refused the tail alone becomes a piece: what is asked for then is no more than the tail has.
     fn settle(&mut self)
         ensures { self.new ≡ self.old }
     {
-        if self.tail.len() >= FULL_TAIL {
-            let _kept = self.add_piece();
+        if self.tail.len() >= FULL_TAIL && self.add_piece(false).is_err() {
+            let _kept = self.add_piece(true);
         }
     }
 
-    // Makes the tail a piece, joined with the pieces before it that have not twice as many bytes. At an error, want of memory, nothing has
-    // changed.
+    // Makes the tail a piece: alone, or joined with the pieces before it that have not twice as many bytes. At an error, out of memory,
+    // nothing has changed.
     #[inline(never)]
-    fn add_piece(&mut self) -> Result<(), AllocError>
+    fn add_piece(&mut self, alone: bool) -> Result<(), AllocError>
         ensures { self.new ≡ self.old }
     {
         let alloc = *self.tail.allocator();
-        let from = first_joined(&self.pieces, self.tail.len());
+        let from = first_of_next(&self.pieces, self.tail.len(), alone);
         let bytes = joined(alloc, &self.pieces, from, &self.tail)?;
         let piece = Arc::new(alloc, bytes)?;
         self.pieces.insert(from, piece)?;

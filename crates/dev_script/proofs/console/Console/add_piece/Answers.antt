@@ -8,10 +8,10 @@ pub invariant_of-self-2 : goal.invariant_of-self-2
 invariant_of-self-2 c =
     let ps = c.self.inside.pieces.items in
     let tail = c.self.inside.tail.items in
-    let from = c.first_joined-from.result in
+    let from = c.first_of_next-from.result in
     let x = c.in_ok-piece.piece in
     let qs = c.truncate.new.self.items in
-    let low : from ≤ length ps = omega (arith, ap length c.deref.ensures.value, c.first_joined-from.ensures) in
+    let low : from ≤ length ps = omega (arith, ap length c.deref.ensures.value, c.first_of_next-from.ensures) in
     let holds : (arc_value x).items ≡ bytes_in (drop from ps) ++ tail =
     ap (λ v. v.items) c.in_ok-piece.ensures.ok ∙ c.in_ok-bytes.ensures ∙ ap (λ l. bytes_in (drop from l) ++ c.deref-3.result.now) c.deref-2.ensures.value ∙ ap (λ l. bytes_in (drop from ps) ++ l) c.deref-3.ensures.value in
     let is : qs ≡ take (from + 1) (take from ps ++ x ∷ drop from ps) = c.truncate.ensures.items ∙ ap (take (from + 1)) c.in_ok-insert.ensures.items in
@@ -22,10 +22,10 @@ pub returns : goal.returns
 returns c =
     let ps = c.self.inside.pieces.items in
     let tail = c.self.inside.tail.items in
-    let from = c.first_joined-from.result in
+    let from = c.first_of_next-from.result in
     let x = c.in_ok-piece.piece in
     let qs = c.truncate.new.self.items in
-    let low : from ≤ length ps = omega (arith, ap length c.deref.ensures.value, c.first_joined-from.ensures) in
+    let low : from ≤ length ps = omega (arith, ap length c.deref.ensures.value, c.first_of_next-from.ensures) in
     let holds : (arc_value x).items ≡ bytes_in (drop from ps) ++ tail =
     ap (λ v. v.items) c.in_ok-piece.ensures.ok ∙ c.in_ok-bytes.ensures ∙ ap (λ l. bytes_in (drop from l) ++ c.deref-3.result.now) c.deref-2.ensures.value ∙ ap (λ l. bytes_in (drop from ps) ++ l) c.deref-3.ensures.value in
     let is : qs ≡ take (from + 1) (take from ps ++ x ∷ drop from ps) = c.truncate.ensures.items ∙ ap (take (from + 1)) c.in_ok-insert.ensures.items in
