@@ -1,6 +1,7 @@
 //! The commands as `clap` reads them.
 
 ghost use Rattle.std.specs.Prelude.{IfOk};
+ghost use Rattle.clap.specs.Words.{App, Rule, with_rule, with_subcommand};
 ghost use Rattle.command_line.specs.Line.{IsApp, IsRule, asm_app, bench_app, engine_rule, fuel_rule, link_rule, nodes_rule, program_app, run_app, seed_rule, walk_app, workers_rule};
 ghost use Rattle.command_line.specs.Line.{required_rule, flag as flag_rule, number as number_rule, required_number as required_number_rule};
 
@@ -96,37 +97,23 @@ fn seed_argument<'a>(alloc: Global) -> Arg<'a>
 fn run_command<'a>(alloc: Global) -> Result<Command<'a>, AllocError>
     ensures { IfOk result (λ c. IsApp c run_app) }
 {
-    let engine = engine_argument(alloc);
-    let workers = workers_argument(alloc);
-    let nodes = nodes_argument(alloc);
-    let link = link_argument(alloc);
-    let fuel = fuel_argument(alloc);
-    let digest = flag(alloc, "digest");
-    let image = required_argument(alloc, "image");
-    let script = required_argument(alloc, "script");
-    Command::new(alloc, "run")
-        .arg(engine)?
-        .arg(workers)?
-        .arg(nodes)?
-        .arg(link)?
-        .arg(fuel)?
-        .arg(digest)?
-        .arg(image)?
-        .arg(script)
+    let run = Command::new(alloc, "run").arg(engine_argument(alloc));
+    let run = with_arg(run, workers_argument(alloc));
+    let run = with_arg(run, nodes_argument(alloc));
+    let run = with_arg(run, link_argument(alloc));
+    let run = with_arg(run, fuel_argument(alloc));
+    let run = with_arg(run, flag(alloc, "digest"));
+    let run = with_arg(run, required_argument(alloc, "image"));
+    with_arg(run, required_argument(alloc, "script"))
 }
 
 fn walk_command<'a>(alloc: Global) -> Result<Command<'a>, AllocError>
     ensures { IfOk result (λ c. IsApp c walk_app) }
 {
-    let fuel = fuel_argument(alloc);
-    let image = required_argument(alloc, "image");
-    let script = required_argument(alloc, "script");
-    let schedule = required_argument(alloc, "schedule");
-    Command::new(alloc, "walk")
-        .arg(fuel)?
-        .arg(image)?
-        .arg(script)?
-        .arg(schedule)
+    let walk = Command::new(alloc, "walk").arg(fuel_argument(alloc));
+    let walk = with_arg(walk, required_argument(alloc, "image"));
+    let walk = with_arg(walk, required_argument(alloc, "script"));
+    with_arg(walk, required_argument(alloc, "schedule"))
 }
 
 fn asm_command<'a>(alloc: Global) -> Result<Command<'a>, AllocError>
@@ -139,32 +126,48 @@ fn asm_command<'a>(alloc: Global) -> Result<Command<'a>, AllocError>
 fn bench_command<'a>(alloc: Global) -> Result<Command<'a>, AllocError>
     ensures { IfOk result (λ c. IsApp c bench_app) }
 {
-    let engine = engine_argument(alloc);
-    let workers = workers_argument(alloc);
-    let nodes = nodes_argument(alloc);
-    let link = link_argument(alloc);
-    let seed = seed_argument(alloc);
-    Command::new(alloc, "bench")
-        .arg(engine)?
-        .arg(workers)?
-        .arg(nodes)?
-        .arg(link)?
-        .arg(seed)
+    let bench = Command::new(alloc, "bench").arg(engine_argument(alloc));
+    let bench = with_arg(bench, workers_argument(alloc));
+    let bench = with_arg(bench, nodes_argument(alloc));
+    let bench = with_arg(bench, link_argument(alloc));
+    with_arg(bench, seed_argument(alloc))
+}
+
+/// A command, where it could be made, with an argument more.
+pub fn with_arg<'a>(
+    command: Result<Command<'a>, AllocError>,
+    arg: Arg<'a>,
+) -> Result<Command<'a>, AllocError>
+    ensures { (a : App) → (r : Rule) → IfOk command.entry (λ c. IsApp c a) → IsRule arg.entry r → IfOk result (λ c. IsApp c (with_rule a r)) }
+{
+    match command {
+        Ok(command) => command.arg(arg),
+        Err(error) => Err(error),
+    }
+}
+
+/// A command with another one below it, where that could be made.
+pub fn with_command<'a>(
+    command: Command<'a>,
+    below: Result<Command<'a>, AllocError>,
+) -> Result<Command<'a>, AllocError>
+    ensures { (a s : App) → IsApp command.entry a → IfOk below.entry (λ c. IsApp c s) → IfOk result (λ c. IsApp c (with_subcommand a s.top)) }
+{
+    match below {
+        Ok(below) => command.subcommand(below),
+        Err(error) => Err(error),
+    }
 }
 
 /// The program's command, one of whose subcommands has to be named.
 pub(crate) fn program_command<'a>(alloc: Global) -> Result<Command<'a>, AllocError>
     ensures { IfOk result (λ c. IsApp c program_app) }
 {
-    let run = run_command(alloc)?;
-    let walk = walk_command(alloc)?;
-    let asm = asm_command(alloc)?;
-    let bench = bench_command(alloc)?;
-    Command::new(alloc, "det")
+    let det = Command::new(alloc, "det")
         .subcommand_required(true)
-        .disable_help_subcommand(true)
-        .subcommand(run)?
-        .subcommand(walk)?
-        .subcommand(asm)?
-        .subcommand(bench)
+        .disable_help_subcommand(true);
+    let det = with_command(det, run_command(alloc))?;
+    let det = with_command(det, walk_command(alloc))?;
+    let det = with_command(det, asm_command(alloc))?;
+    with_command(det, bench_command(alloc))
 }

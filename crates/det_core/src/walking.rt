@@ -15,9 +15,20 @@ pub fn walk(alloc: Global, mut space: Space, paths: &[Path]) -> Result<Space, Al
     ensures value { IfOk result (λ s. s ≡ replay (path_views paths.now) greatest_depth space) }
     ensures sound { IsSound space → IfOk result IsSound }
 {
-    let mut cache = DecodeCache::new(alloc)?;
+    let mut cache = match DecodeCache::new(alloc) {
+        Ok(cache) => cache,
+        Err(error) => {
+            drop(space);
+            return Err(error);
+        }
+    };
     for path in paths {
-        step(alloc, &mut cache, &mut space, path)?;
+        if let Err(error) = step(alloc, &mut cache, &mut space, path) {
+            drop(cache);
+            drop(space);
+            return Err(error);
+        }
     }
+    drop(cache);
     Ok(space)
 }

@@ -25,38 +25,31 @@ fn option<'a>(alloc: Global, id: &'a str) -> Arg<'a>
 fn run_command<'a>(alloc: Global, name: &'a str) -> Result<Command<'a>, AllocError>
     ensures { IfOk result (λ c. IsApp c (run_app name.entry.now)) }
 {
-    let fuel = fuel_argument(alloc);
-    let json = flag(alloc, "json");
-    let source = option(alloc, "source");
-    let image = required_argument(alloc, "image");
-    let script = required_argument(alloc, "script");
     Command::new(alloc, name)
-        .arg(fuel)?
-        .arg(json)?
-        .arg(source)?
-        .arg(image)?
-        .arg(script)
+        .arg(fuel_argument(alloc))?
+        .arg(flag(alloc, "json"))?
+        .arg(option(alloc, "source"))?
+        .arg(required_argument(alloc, "image"))?
+        .arg(required_argument(alloc, "script"))
 }
 
 // To `clap` the words for bytes and for a moment are any texts.
 fn at_command<'a>(alloc: Global) -> Result<Command<'a>, AllocError>
     ensures { IfOk result (λ c. IsApp c at_app) }
 {
-    let run = run_command(alloc, "at")?;
-    let bytes = option(alloc, "bytes");
-    let moment = required_argument(alloc, "moment");
-    run.arg(bytes)?.arg(moment)
+    run_command(alloc, "at")?
+        .arg(option(alloc, "bytes"))?
+        .arg(required_argument(alloc, "moment"))
 }
 
 // To `clap` a path and numbers of events are any texts.
 fn trace_command<'a>(alloc: Global) -> Result<Command<'a>, AllocError>
     ensures { IfOk result (λ c. IsApp c trace_app) }
 {
-    let run = run_command(alloc, "trace")?;
-    let path = required_argument(alloc, "path");
-    let from = required_argument(alloc, "from");
-    let to = required_argument(alloc, "to");
-    run.arg(path)?.arg(from)?.arg(to)
+    run_command(alloc, "trace")?
+        .arg(required_argument(alloc, "path"))?
+        .arg(required_argument(alloc, "from"))?
+        .arg(required_argument(alloc, "to"))
 }
 
 fn why_command<'a>(alloc: Global) -> Result<Command<'a>, AllocError>
@@ -69,13 +62,10 @@ fn why_command<'a>(alloc: Global) -> Result<Command<'a>, AllocError>
 pub(crate) fn program_command<'a>(alloc: Global) -> Result<Command<'a>, AllocError>
     ensures { IfOk result (λ c. IsApp c program_app) }
 {
-    let at = at_command(alloc)?;
-    let trace = trace_command(alloc)?;
-    let why = why_command(alloc)?;
     Command::new(alloc, "explain")
         .subcommand_required(true)
         .disable_help_subcommand(true)
-        .subcommand(at)?
-        .subcommand(trace)?
-        .subcommand(why)
+        .subcommand(at_command(alloc)?)?
+        .subcommand(trace_command(alloc)?)?
+        .subcommand(why_command(alloc)?)
 }

@@ -1,6 +1,6 @@
-ghost use Rattle.std.specs.Prelude.{◌≡◌, ℕ, Bool, ◌+◌, ◌-◌, ◌^◌, ◌≤◌, ◌<◌, IfOk};
+ghost use Rattle.std.specs.Prelude.{◌≡◌, ℕ, Bool, ◌+◌, ◌-◌, ◌^◌, ◌≤◌, ◌<◌, IfOk, OnOk};
 ghost use Rattle.call_model.specs.Limits.{greatest_depth, levels_below};
-ghost use Rattle.space_model.specs.Event.{next, IsNotLocal};
+ghost use Rattle.space_model.specs.Event.{next, Follows, IsNotLocal};
 ghost use Rattle.space_model.specs.Sound.{IsSoundTop};
 ghost use Rattle.space_step.specs.Run.{IsRun};
 
@@ -81,7 +81,6 @@ impl Run {
 
     /// Goes on from the space after the events: at most as many more as the quantum, which is at least 1, and fewer only where what is next is no
     /// local event. Its one error is want of memory for an event.
-    #[tactic(auto, using(crate::proofs::Advancing::ended_within, crate::proofs::Advancing::ended_early))]
     pub fn go_on(self, quantum: u32, cache: &mut DecodeCache) -> Result<Run, AllocError>
         requires quantum { 1 ≤ quantum }
         requires fits { self.ran + quantum < 2 ^ 32 }
@@ -96,15 +95,18 @@ impl Run {
             mut top,
             ran,
         } = self;
-        let Advance { ran: more, next } = advance(&mut top, depth, quantum, cache)?;
-        match next {
-            Some(_) => Ok(Run {
+        match advanced(&mut top, depth, quantum, cache) {
+            Ok(more) => Ok(Run {
                 depth,
                 start,
                 top,
                 ran: ran + more,
             }),
-            None => Err(AllocError),
+            Err(error) => {
+                drop(start);
+                drop(top);
+                Err(error)
+            }
         }
     }
 
@@ -119,7 +121,6 @@ impl Run {
 
 /// Runs a space at a depth of at most 8: at most as many local events as the quantum, which is at least 1, and fewer only where
 /// what is next is no local event. The run's start is a copy. Its one error is want of memory, for the copy or for an event.
-#[tactic(auto, using(crate::proofs::Advancing::ended_within, crate::proofs::Advancing::ended_early))]
 pub fn run_local(
     mut top: Top,
     depth: u8,
@@ -135,15 +136,65 @@ pub fn run_local(
     ensures none { IfOk result (λ r. r.ran ≡ 0 → IsNotLocal (next (levels_below depth) r.start)) }
     ensures sound { (fuel : ℕ) (root : Bool) → IsSoundTop fuel root top → IfOk result (λ r. IsSoundTop fuel root r.top) }
 {
-    let start = copy_top(&mut top)?;
-    let Advance { ran, next } = advance(&mut top, depth, quantum, cache)?;
-    match next {
-        Some(_) => Ok(Run {
+    match from_copy(&mut top, depth, quantum, cache) {
+        Ok((start, ran)) => Ok(Run {
             depth,
             start,
             top,
             ran,
         }),
+        Err(error) => {
+            drop(top);
+            Err(error)
+        }
+    }
+}
+
+// Lets a space go on, and answers the space that it was, and how many events there were. The space is lent: so no way out has to let it go.
+fn from_copy(
+    top: &mut Top,
+    depth: u8,
+    quantum: u32,
+    cache: &mut DecodeCache,
+) -> Result<(Top, u32), AllocError>
+    requires depth { depth ≤ greatest_depth }
+    requires quantum { 1 ≤ quantum }
+    ensures start { IfOk result (λ r. r.0 ≡ top.old) }
+    ensures follows { IfOk result (λ r. Follows (levels_below depth) r.1 top.old top.new) }
+    ensures within { IfOk result (λ r. r.1 ≤ quantum) }
+    ensures fewer { IfOk result (λ r. r.1 < quantum → IsNotLocal (next (levels_below depth) top.new)) }
+    ensures none { IfOk result (λ r. r.1 ≡ 0 → IsNotLocal (next (levels_below depth) top.old)) }
+    ensures sound { (fuel : ℕ) (root : Bool) → IsSoundTop fuel root top.old → OnOk result (IsSoundTop fuel root top.new) }
+{
+    let start = copy_top(top)?;
+    match advanced(top, depth, quantum, cache) {
+        Ok(ran) => Ok((start, ran)),
+        Err(error) => {
+            drop(start);
+            Err(error)
+        }
+    }
+}
+
+// Lets a space go on, and answers how many events there were, where there was memory for each of them.
+#[tactic(auto, using(crate::proofs::Advancing::ended_within, crate::proofs::Advancing::ended_early))]
+fn advanced(
+    top: &mut Top,
+    depth: u8,
+    quantum: u32,
+    cache: &mut DecodeCache,
+) -> Result<u32, AllocError>
+    requires depth { depth ≤ greatest_depth }
+    requires quantum { 1 ≤ quantum }
+    ensures follows { IfOk result (λ n. Follows (levels_below depth) n top.old top.new) }
+    ensures within { IfOk result (λ n. n ≤ quantum) }
+    ensures fewer { IfOk result (λ n. n < quantum → IsNotLocal (next (levels_below depth) top.new)) }
+    ensures none { IfOk result (λ n. n ≡ 0 → IsNotLocal (next (levels_below depth) top.old)) }
+    ensures sound { (fuel : ℕ) (root : Bool) → IsSoundTop fuel root top.old → IsSoundTop fuel root top.new }
+{
+    let Advance { ran, next } = advance(top, depth, quantum, cache)?;
+    match next {
+        Some(_) => Ok(ran),
         None => Err(AllocError),
     }
 }

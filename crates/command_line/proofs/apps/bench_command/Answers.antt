@@ -8,8 +8,8 @@ use Rattle.command_line.proofs.apps.bench_command.Goals as goal
 pub returns : goal.returns
 unfolding bench_app
 returns c =
-    let one = arg_added _ _ (new_app (codes "bench")) _ _ c.in_ok-arg.ensures (c.new.ensures.app, c.new.ensures.local) c.engine_argument-engine.ensures in
-    let two = arg_added _ _ _ _ _ c.in_ok-arg-2.ensures one c.workers_argument-workers.ensures in
-    let three = arg_added _ _ _ _ _ c.in_ok-arg-3.ensures two c.nodes_argument-nodes.ensures in
-    let four = arg_added _ _ _ _ _ c.in_ok-arg-4.ensures three c.link_argument-link.ensures in
-    IfOk-weaker c.arg-5.result _ _ (λ r adds. arg_added _ r _ _ _ adds four c.seed_argument-seed.ensures) c.arg-5.ensures
+    let one = IfOk-weaker c.arg-bench.result _ _ (λ r adds. arg_added _ r (new_app (codes "bench")) _ _ adds (c.new.ensures.app, c.new.ensures.local) c.engine_argument.ensures) c.arg-bench.ensures in
+    let two = c.with_arg-bench.ensures _ _ one c.workers_argument.ensures in
+    let three = c.with_arg-bench-2.ensures _ _ two c.nodes_argument.ensures in
+    let four = c.with_arg-bench-3.ensures _ _ three c.link_argument.ensures in
+    c.with_arg.ensures _ _ four c.seed_argument.ensures

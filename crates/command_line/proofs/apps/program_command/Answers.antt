@@ -1,7 +1,5 @@
 use Rattle.std.proofs.Common.{◌∙◌, ap, true}
-use Rattle.std.proofs.lemmas.Result.{IfOk-weaker}
 use Rattle.clap.specs.Simple.{app_of_fields, on_top}
-use Rattle.command_line.proofs.AppLemmas.{subcommand_added}
 use Rattle.command_line.specs.Line.{IsApp, asm_app, bench_app, program_app, run_app, start, walk_app}
 use Rattle.command_line.proofs.apps.program_command.Goals as goal
 
@@ -9,12 +7,12 @@ pub returns : goal.returns
 unfolding program_app
 returns c =
     let required = c.subcommand_required.ensures in
-    let no_help = c.disable_help_subcommand.ensures in
-    let start_is : IsApp c.disable_help_subcommand.result start = (
+    let no_help = c.disable_help_subcommand-det.ensures in
+    let start_is : IsApp c.disable_help_subcommand-det.result start = (
       ap app_of_fields no_help ∙ ap (λ f. app_of_fields (record f { disable_help_subcommand = true })) required ∙ ap (on_top (λ s. record s { subcommand_required = true; disable_help_subcommand = true })) c.new.ensures.app,
       ap (λ f. f.has_globals) no_help ∙ ap (λ f. f.has_globals) required ∙ c.new.ensures.local,
     ) in
-    let one = subcommand_added _ _ _ start run_app c.in_ok-subcommand.ensures start_is c.in_ok-run.ensures in
-    let two = subcommand_added _ _ _ _ walk_app c.in_ok-subcommand-2.ensures one c.in_ok-walk.ensures in
-    let three = subcommand_added _ _ _ _ asm_app c.in_ok-subcommand-3.ensures two c.in_ok-asm.ensures in
-    IfOk-weaker c.subcommand-4.result _ _ (λ r adds. subcommand_added _ _ r _ bench_app adds three c.in_ok-bench.ensures) c.subcommand-4.ensures
+    let one = c.in_ok-det.ensures start run_app start_is c.run_command.ensures in
+    let two = c.in_ok-det-2.ensures _ walk_app one c.walk_command.ensures in
+    let three = c.in_ok-det-3.ensures _ asm_app two c.asm_command.ensures in
+    c.with_command-4.ensures _ bench_app three c.bench_command.ensures

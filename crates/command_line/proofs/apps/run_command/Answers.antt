@@ -8,11 +8,11 @@ use Rattle.command_line.proofs.apps.run_command.Goals as goal
 pub returns : goal.returns
 unfolding run_app
 returns c =
-    let one = arg_added _ _ (new_app (codes "run")) _ _ c.in_ok-arg.ensures (c.new.ensures.app, c.new.ensures.local) c.engine_argument-engine.ensures in
-    let two = arg_added _ _ _ _ _ c.in_ok-arg-2.ensures one c.workers_argument-workers.ensures in
-    let three = arg_added _ _ _ _ _ c.in_ok-arg-3.ensures two c.nodes_argument-nodes.ensures in
-    let four = arg_added _ _ _ _ _ c.in_ok-arg-4.ensures three c.link_argument-link.ensures in
-    let five = arg_added _ _ _ _ _ c.in_ok-arg-5.ensures four c.fuel_argument-fuel.ensures in
-    let six = arg_added _ _ _ _ _ c.in_ok-arg-6.ensures five c.flag-digest.ensures in
-    let seven = arg_added _ _ _ _ _ c.in_ok-arg-7.ensures six c.required_argument-image.ensures in
-    IfOk-weaker c.arg-8.result _ _ (λ r adds. arg_added _ r _ _ _ adds seven c.required_argument-script.ensures) c.arg-8.ensures
+    let one = IfOk-weaker c.arg-run.result _ _ (λ r adds. arg_added _ r (new_app (codes "run")) _ _ adds (c.new.ensures.app, c.new.ensures.local) c.engine_argument.ensures) c.arg-run.ensures in
+    let two = c.with_arg-run.ensures _ _ one c.workers_argument.ensures in
+    let three = c.with_arg-run-2.ensures _ _ two c.nodes_argument.ensures in
+    let four = c.with_arg-run-3.ensures _ _ three c.link_argument.ensures in
+    let five = c.with_arg-run-4.ensures _ _ four c.fuel_argument.ensures in
+    let six = c.with_arg-run-5.ensures _ _ five c.flag.ensures in
+    let seven = c.with_arg-run-6.ensures _ _ six c.required_argument.ensures in
+    c.with_arg.ensures _ _ seven c.required_argument-2.ensures

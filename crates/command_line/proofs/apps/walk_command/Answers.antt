@@ -8,7 +8,7 @@ use Rattle.command_line.proofs.apps.walk_command.Goals as goal
 pub returns : goal.returns
 unfolding walk_app
 returns c =
-    let one = arg_added _ _ (new_app (codes "walk")) _ _ c.in_ok-arg.ensures (c.new.ensures.app, c.new.ensures.local) c.fuel_argument-fuel.ensures in
-    let two = arg_added _ _ _ _ _ c.in_ok-arg-2.ensures one c.required_argument-image.ensures in
-    let three = arg_added _ _ _ _ _ c.in_ok-arg-3.ensures two c.required_argument-script.ensures in
-    IfOk-weaker c.arg-4.result _ _ (λ r adds. arg_added _ r _ _ _ adds three c.required_argument-schedule.ensures) c.arg-4.ensures
+    let one = IfOk-weaker c.arg-walk.result _ _ (λ r adds. arg_added _ r (new_app (codes "walk")) _ _ adds (c.new.ensures.app, c.new.ensures.local) c.fuel_argument.ensures) c.arg-walk.ensures in
+    let two = c.with_arg-walk.ensures _ _ one c.required_argument.ensures in
+    let three = c.with_arg-walk-2.ensures _ _ two c.required_argument-2.ensures in
+    c.with_arg.ensures _ _ three c.required_argument-3.ensures

@@ -10,7 +10,7 @@ loop-path-init c = refl
 pub loop-path-preserved : goal.loop-path-preserved
 loop-path-preserved c =
     goes_on (λ p. p.items) c.args.paths.now c.loop-path.path-index c.path-item.result c.loop-path.space c.step.new.space _ c.loop-path-test.true
-    (c.in_ok-step.ensures.stepped ∙ ap (λ p. try_step p.items 8 c.loop-path.space) c.path-item.is) c.loop-path.invariant
+    (c.in_default.ensures.stepped ∙ ap (λ p. try_step p.items 8 c.loop-path.space) c.path-item.is) c.loop-path.invariant
 
 pub returns-clause-value : goal.returns-clause-value
 returns-clause-value c = is_done (λ p. p.items) c.args.paths.now c.loop-path.path-index c.loop-path.space _ c.loop-path-test.false c.loop-path.invariant

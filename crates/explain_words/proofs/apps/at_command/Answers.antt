@@ -6,5 +6,5 @@ use Rattle.explain_words.proofs.apps.at_command.Goals as goal
 pub returns : goal.returns
 unfolding at_app
 returns c =
-    let one = arg_added _ _ _ _ _ c.in_ok-arg.ensures c.in_ok-run.ensures c.option-bytes.ensures in
-    IfOk-weaker c.arg-2.result _ _ (λ r adds. arg_added _ r _ _ _ adds one c.required_argument-moment.ensures) c.arg-2.ensures
+    let one = arg_added _ _ _ _ _ c.in_ok-arg.ensures c.in_ok-run_command.ensures c.option.ensures in
+    IfOk-weaker c.arg-2.result _ _ (λ r adds. arg_added _ r _ _ _ adds one c.required_argument.ensures) c.arg-2.ensures

@@ -15,6 +15,6 @@ returns c =
       ap app_of_fields no_help ∙ ap (λ f. app_of_fields (record f { disable_help_subcommand = true })) required ∙ ap (on_top (λ s. record s { subcommand_required = true; disable_help_subcommand = true })) c.new.ensures.app,
       ap (λ f. f.has_globals) no_help ∙ ap (λ f. f.has_globals) required ∙ c.new.ensures.local,
     ) in
-    let one = subcommand_added _ _ _ start at_app c.in_ok-subcommand.ensures start_is c.in_ok-at.ensures in
-    let two = subcommand_added _ _ _ _ trace_app c.in_ok-subcommand-2.ensures one c.in_ok-trace.ensures in
-    IfOk-weaker c.subcommand-3.result _ _ (λ r adds. subcommand_added _ _ r _ why_app adds two c.in_ok-why.ensures) c.subcommand-3.ensures
+    let one = subcommand_added _ _ _ start at_app c.in_ok-subcommand.ensures start_is c.in_ok-at_command.ensures in
+    let two = subcommand_added _ _ _ _ trace_app c.in_ok-subcommand-2.ensures one c.in_ok-trace_command.ensures in
+    IfOk-weaker c.subcommand-3.result _ _ (λ r adds. subcommand_added _ _ r _ why_app adds two c.in_ok-why_command.ensures) c.subcommand-3.ensures
