@@ -3,7 +3,6 @@
 -- Our choice: the numbers, which registers hold what, and the tests, their numbers and their order.
 use Rattle.std.specs.Prelude.{ℕ, zero, suc, ◌+◌, ◌==◌, Bool, true, false, not, ◌&&◌, ◌||◌, nat_lt, if◌then◌else◌, List, [], ◌∷◌, slice_index, Option, Some, None, Result, Ok, Err}
 use Rattle.std.specs.List.{find}
-use Rattle.call_model.specs.declared.TheConstants as numbers
 use Rattle.call_model.specs.declared.Kind.{Kind}
 use Rattle.call_model.specs.declared.Kind.TheVariants as kinds
 use Rattle.call_model.specs.declared.Row.{Row}
@@ -32,24 +31,24 @@ abbrev pub columns : ℕ → Options → Children → Ranges → Bool → ℕ �
 columns n o c r d levels tree_levels = record { number = n; options = o; children = c; ranges = r; device = d; levels = levels; tree_levels = tree_levels }
 
 abbrev pub row : Kind → Row
-row kinds.Put = columns numbers.PUT options.Put children.Tree Pages false 1 2
-row kinds.Get = columns numbers.GET options.Get children.Tree Pages false 0 0
-row kinds.Ret = columns numbers.RET Nothing Nobody Nowhere false 0 0
-row kinds.ConsoleOut = columns numbers.CONSOLE_OUT Nothing Nobody ranges.One true 0 0
-row kinds.ConsoleIn = columns numbers.CONSOLE_IN Nothing Nobody ranges.One true 0 0
-row kinds.Clock = columns numbers.CLOCK Nothing Nobody Nowhere true 0 0
-row kinds.Random = columns numbers.RANDOM Nothing Nobody Nowhere true 0 0
-row kinds.Fork = columns numbers.FORK Nothing children.One Nowhere false 1 1
-row kinds.Wait = columns numbers.WAIT Nothing children.One Nowhere false 0 0
-row kinds.Tfork = columns numbers.TFORK Nothing children.One Nowhere false 1 1
-row kinds.Tjoin = columns numbers.TJOIN Nothing children.One Nowhere false 0 0
-row kinds.Qstart = columns numbers.QSTART RowAndQuantum children.Row Nowhere false 0 0
-row kinds.Qcommit = columns numbers.QCOMMIT options.Row children.Row Nowhere false 0 0
-row kinds.FileNew = columns numbers.FILE_NEW ChoiceInA3 Nobody ranges.One false 0 0
-row kinds.FilePut = columns numbers.FILE_PUT ChoiceInA5 Nobody Two false 0 0
-row kinds.FileGet = columns numbers.FILE_GET Nothing Nobody Two false 0 0
-row kinds.FileLength = columns numbers.FILE_LENGTH Nothing Nobody ranges.One false 0 0
-row kinds.FileDelete = columns numbers.FILE_DELETE Nothing Nobody ranges.One false 0 0
+row kinds.Put = columns 1 options.Put children.Tree Pages false 1 2
+row kinds.Get = columns 2 options.Get children.Tree Pages false 0 0
+row kinds.Ret = columns 3 Nothing Nobody Nowhere false 0 0
+row kinds.ConsoleOut = columns 4 Nothing Nobody ranges.One true 0 0
+row kinds.ConsoleIn = columns 5 Nothing Nobody ranges.One true 0 0
+row kinds.Clock = columns 6 Nothing Nobody Nowhere true 0 0
+row kinds.Random = columns 7 Nothing Nobody Nowhere true 0 0
+row kinds.Fork = columns 16 Nothing children.One Nowhere false 1 1
+row kinds.Wait = columns 17 Nothing children.One Nowhere false 0 0
+row kinds.Tfork = columns 18 Nothing children.One Nowhere false 1 1
+row kinds.Tjoin = columns 19 Nothing children.One Nowhere false 0 0
+row kinds.Qstart = columns 20 RowAndQuantum children.Row Nowhere false 0 0
+row kinds.Qcommit = columns 21 options.Row children.Row Nowhere false 0 0
+row kinds.FileNew = columns 24 ChoiceInA3 Nobody ranges.One false 0 0
+row kinds.FilePut = columns 25 ChoiceInA5 Nobody Two false 0 0
+row kinds.FileGet = columns 26 Nothing Nobody Two false 0 0
+row kinds.FileLength = columns 27 Nothing Nobody ranges.One false 0 0
+row kinds.FileDelete = columns 28 Nothing Nobody ranges.One false 0 0
 
 abbrev pub all_kinds : List Kind
 all_kinds =

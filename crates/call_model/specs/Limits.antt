@@ -1,15 +1,14 @@
 -- The numbers that bound what a call may name.
 -- Our choice: the numbers.
 use Rattle.std.specs.Prelude.{ℕ, ◌+◌, ◌-◌, ◌<◌, List, [], ◌∷◌}
-use Rattle.call_model.specs.declared.limits.TheConstants as limits
 
 -- the greatest number of a child
 abbrev pub greatest_child : ℕ
-greatest_child = limits.GREATEST_CHILD
+greatest_child = 65535
 
 -- the most children that a call names in a row
 abbrev pub longest_row : ℕ
-longest_row = limits.LONGEST_ROW
+longest_row = 64
 
 -- a number that a child may have
 abbrev pub IsChild : ℕ → Type 0
@@ -22,7 +21,7 @@ AreChildren (n ∷ ns) = IsChild n × AreChildren ns
 
 -- the depth of the deepest spaces; the root is at depth 0
 abbrev pub greatest_depth : ℕ
-greatest_depth = limits.GREATEST_DEPTH
+greatest_depth = 8
 
 -- how many levels of children a space at this depth may have below it
 abbrev pub levels_below : ℕ → ℕ
@@ -30,12 +29,12 @@ levels_below depth = greatest_depth - depth
 
 -- the greatest length, in bytes, that a call of a device or on a file names
 abbrev pub greatest_length : ℕ
-greatest_length = limits.GREATEST_LENGTH
+greatest_length = 65536
 
 -- the bytes of a register block
 abbrev pub block_size : ℕ
-block_size = limits.BLOCK_SIZE
+block_size = 136
 
 -- the last address from which on there are the bytes of a register block
 abbrev pub last_block : ℕ
-last_block = limits.LAST_BLOCK
+last_block = 4294967160

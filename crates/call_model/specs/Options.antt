@@ -4,46 +4,45 @@
 -- Our choice: Agree, the bits, and which do not stand together.
 use Rattle.std.specs.Prelude.{◌≡◌, ◌≤◌, ℕ, ◌+◌, ◌/◌, ◌%◌, ◌^◌, ◌==◌, Bool, not, ◌&&◌, ◌||◌, nat_lt, bit_and}
 use Rattle.memory_model.specs.Sizes.{page_size}
-use Rattle.call_model.specs.declared.option_bits.TheConstants as bits
 use Rattle.call_model.specs.Limits.{last_block}
 
 abbrev pub regs : ℕ
-regs = bits.REGS
+regs = 1
 
 abbrev pub copy : ℕ
-copy = bits.COPY
+copy = 2
 
 abbrev pub zeroing : ℕ
-zeroing = bits.ZERO
+zeroing = 4
 
 abbrev pub merging : ℕ
-merging = bits.MERGE
+merging = 8
 
 abbrev pub perm : ℕ
-perm = bits.PERM
+perm = 16
 
 abbrev pub snap : ℕ
-snap = bits.SNAP
+snap = 32
 
 abbrev pub start : ℕ
-start = bits.START
+start = 64
 
 abbrev pub limit_option : ℕ
-limit_option = bits.LIMIT
+limit_option = 128
 
 abbrev pub tree : ℕ
-tree = bits.TREE
+tree = 256
 
 abbrev pub agreeing : ℕ
-agreeing = bits.AGREE
+agreeing = 512
 
 -- the bits of the permission
 abbrev pub permission_bits : ℕ
-permission_bits = bits.PERMISSION
+permission_bits = 28672
 
 -- all bits that may be set
 abbrev pub known_bits : ℕ
-known_bits = bits.KNOWN
+known_bits = 29695
 
 -- one of these bits is among the options
 abbrev pub has : ℕ → ℕ → Bool

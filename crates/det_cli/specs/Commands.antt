@@ -20,10 +20,26 @@ use Rattle.run_model.specs.Boot.{boot}
 use Rattle.run_model.specs.Demand.{settle_tree}
 use Rattle.report_model.specs.Report.{console_of, report}
 use Rattle.report_model.specs.Summary.{summary}
-use Rattle.det_cli.specs.declared.limits.TheConstants.{BENCH_FUEL, IMAGE_ROOM, SCHEDULE_ROOM, SCRIPT_ROOM, SOURCE_ROOM}
 use Rattle.det_cli.specs.declared.end.End.{End}
 use Rattle.det_cli.specs.declared.end.End.TheVariants.{Ret, Trapped, BadImage, BadElf, BadScript, BadSchedule, BadSource}
 use Rattle.det_cli.specs.Files.{Expectation, Step, judge, told_files}
+
+-- the most bytes of an image file, of a script, of a schedule and of a source
+abbrev pub image_room : ℕ
+image_room = 16777216
+
+abbrev pub script_room : ℕ
+script_room = 1048576
+
+abbrev pub schedule_room : ℕ
+schedule_room = 1048576
+
+abbrev pub source_room : ℕ
+source_room = 1048576
+
+-- how many events each space of a generated image may take
+abbrev pub bench_fuel : ℕ
+bench_fuel = 1000000
 
 -- what a file was read as, or the end that its first fault is
 abbrev pub read_or : {A E : Type 0} → (E → End) → Result A E → Result A End
@@ -50,16 +66,16 @@ refusal_of (Ok value) = None
 refusal_of (Err end) = Some end
 
 abbrev pub image_step : List ℕ → Step
-image_step name = record { name = name; room = IMAGE_ROOM; refuse = λ bytes. refusal_of (image_of_file bytes) }
+image_step name = record { name = name; room = image_room; refuse = λ bytes. refusal_of (image_of_file bytes) }
 
 abbrev pub script_step : List ℕ → Step
-script_step name = record { name = name; room = SCRIPT_ROOM; refuse = λ bytes. refusal_of (devices_of_file bytes) }
+script_step name = record { name = name; room = script_room; refuse = λ bytes. refusal_of (devices_of_file bytes) }
 
 abbrev pub schedule_step : List ℕ → Step
-schedule_step name = record { name = name; room = SCHEDULE_ROOM; refuse = λ bytes. refusal_of (paths_of_file bytes) }
+schedule_step name = record { name = name; room = schedule_room; refuse = λ bytes. refusal_of (paths_of_file bytes) }
 
 abbrev pub source_step : List ℕ → Step
-source_step name = record { name = name; room = SOURCE_ROOM; refuse = λ bytes. refusal_of (image_of_source bytes) }
+source_step name = record { name = name; room = source_room; refuse = λ bytes. refusal_of (image_of_source bytes) }
 
 -- the settled root of an image with these devices, where each space has so much fuel
 abbrev pub settled_root : Image → Devices → ℕ → Space
@@ -92,7 +108,7 @@ expectation_of_source (Err end) = None
 
 -- a generated image runs on an empty script
 abbrev pub expectation_of_bench : ℕ → Expectation
-expectation_of_bench seed = expectation_of_bytes (summary (settled_root (generated seed) (devices_from []) BENCH_FUEL))
+expectation_of_bench seed = expectation_of_bytes (summary (settled_root (generated seed) (devices_from []) bench_fuel))
 
 abbrev pub run_whole : ℕ → Bool → List (List ℕ) → Option Expectation
 run_whole fuel digest (image ∷ script ∷ rest) = expectation_of_run fuel digest (image_of_file image) (devices_of_file script)

@@ -4,8 +4,7 @@ ghost use Rattle.report_model.specs.Summary.{summary};
 ghost use Rattle.script_model.specs.Script.{devices_from};
 ghost use Rattle.command_line.specs.Line as line;
 ghost use Rattle.command_line.specs.Line.{engine_of, IsStaffed};
-ghost use Rattle.det_cli.specs.declared.limits.TheConstants.{BENCH_FUEL};
-ghost use Rattle.det_cli.specs.Commands.{expectation_of_bench, settled_root};
+ghost use Rattle.det_cli.specs.Commands.{bench_fuel, expectation_of_bench, settled_root};
 ghost use Rattle.det_cli.specs.Files.{input_of};
 ghost use Rattle.det_host.specs.Writing.{IsUntouched, Output, output_of};
 ghost use Rattle.det_cli.specs.Answers.{Course, Writes};
@@ -38,7 +37,7 @@ fn summary_of<F: Fn(Booted) -> Result<Space, AllocError>>(
     seed: u32,
 ) -> Result<Vec<u8>, AllocError>
     requires settles { BringsToEnds (F.pre settle.now) (F.post settle.now) }
-    ensures { IfOk result (λ v. v.items ≡ summary (settled_root (generated seed) (devices_from []) BENCH_FUEL)) }
+    ensures { IfOk result (λ v. v.items ≡ summary (settled_root (generated seed) (devices_from []) bench_fuel)) }
 {
     let image = generated(alloc, seed)?;
     let root = settled_root(settle, alloc, &image, no_script(alloc), plan, BENCH_FUEL)?;

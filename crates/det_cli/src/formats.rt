@@ -2,8 +2,7 @@ ghost use Rattle.std.specs.Prelude.{◌≡◌, ◌<◌, ◌^◌, ℕ, List, Opti
 ghost use Rattle.std.proofs.Common.{lit<};
 ghost use Rattle.det_core.specs.View.{path_views};
 ghost use Rattle.det_cli.specs.declared.end.End as end;
-ghost use Rattle.det_cli.specs.declared.limits.TheConstants.{IMAGE_ROOM, SCHEDULE_ROOM, SCRIPT_ROOM, SOURCE_ROOM};
-ghost use Rattle.det_cli.specs.Commands.{devices_of_file, image_of_file, image_of_source, paths_of_file, refusal_of};
+ghost use Rattle.det_cli.specs.Commands.{devices_of_file, image_of_file, image_of_source, image_room, paths_of_file, refusal_of, schedule_room, script_room, source_room};
 ghost use Rattle.det_cli.specs.Stages.{GivesRefusal};
 ghost use Rattle.elf_model.specs.Elf.{is_elf};
 
@@ -55,7 +54,7 @@ fn read_executable(alloc: Global, bytes: &[u8]) -> Result<Image, End>
 impl FileFormat for Image {
     const ROOM: u64 = IMAGE_ROOM;
 
-    ghost ROOM = { IMAGE_ROOM };
+    ghost ROOM = { image_room };
 
     ghost reads = { λ bytes image. image_of_file bytes ≡ Ok image };
 
@@ -79,7 +78,7 @@ impl FileFormat for Image {
 impl FileFormat for Devices {
     const ROOM: u64 = SCRIPT_ROOM;
 
-    ghost ROOM = { SCRIPT_ROOM };
+    ghost ROOM = { script_room };
 
     ghost reads = { λ bytes devices. devices_of_file bytes ≡ Ok devices };
 
@@ -100,7 +99,7 @@ impl FileFormat for Devices {
 impl FileFormat for Vec<Path> {
     const ROOM: u64 = SCHEDULE_ROOM;
 
-    ghost ROOM = { SCHEDULE_ROOM };
+    ghost ROOM = { schedule_room };
 
     ghost reads = { λ bytes paths. paths_of_file bytes ≡ Ok (path_views paths.items) };
 
@@ -126,7 +125,7 @@ pub(crate) struct Assembled {
 impl FileFormat for Assembled {
     const ROOM: u64 = SOURCE_ROOM;
 
-    ghost ROOM = { SOURCE_ROOM };
+    ghost ROOM = { source_room };
 
     ghost reads = { λ bytes made. image_of_source bytes ≡ Ok made.image };
 

@@ -4,14 +4,13 @@
 -- Our choice: the four fates, the row of numbers, and that the frame arrives at the sixteenth turn at the latest.
 use Rattle.std.specs.Prelude.{◌≡◌, ℕ, zero, suc, ◌+◌, ◌-◌, ◌/◌, ◌%◌, ◌<◌, ◌==◌, Bool, true, false, not, List, [], ◌∷◌, ◌++◌, length, slice_get, Some, if◌then◌else◌}
 use Rattle.bench_model.specs.Generated.{next, number}
-use Rattle.link_model.specs.declared.TheConstants as numbers
 use Rattle.link_model.specs.declared.fate.Fate.{Fate}
 use Rattle.link_model.specs.declared.fate.Fate.TheVariants.{Lost, Arrives, ArrivesTwice, EarlierArrives}
 use Rattle.link_model.specs.Link.{Link, Event, send, arrive, answer, receipt}
 
 -- the most turns that a parcel takes
 abbrev pub most_turns : ℕ
-most_turns = numbers.MOST_TURNS
+most_turns = 16
 
 -- which fate a number decides: by its bits 16 and 17
 abbrev pub fate_by : ℕ → Fate

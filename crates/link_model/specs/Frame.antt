@@ -4,7 +4,6 @@
 -- Our choice: the format. Numbers are little endian.
 use Rattle.std.specs.Prelude.{◌≡◌, ℕ, ◌≤◌, ◌<◌, List, ◌++◌, length, codes}
 use Rattle.std.specs.Int.{w64, to_le_bytes}
-use Rattle.link_model.specs.declared.TheConstants as numbers
 
 abbrev pub data_mark : List ℕ
 data_mark = codes "DTD1"
@@ -14,11 +13,11 @@ receipt_mark = codes "DTK1"
 
 -- the number that no parcel has: so many are offered at most
 abbrev pub no_number : ℕ
-no_number = numbers.NO_NUMBER
+no_number = 18446744073709551615
 
 -- the most parcels that a sender keeps without their receipt
 abbrev pub window : ℕ
-window = numbers.WINDOW
+window = 16
 
 -- the one spelling of a parcel with its number
 abbrev pub data_bytes : ℕ → List ℕ → List ℕ
