@@ -143,7 +143,7 @@ fn go_all(
 {
     let first = quantum.min(TRIAL);
     let went = advance_root(engine, space, first, output)?;
-    engine.root_calls = went && !engine.root_runs;
+    engine.note_root(went);
     let more = go_further(rt, engine, space, quantum - first, output)?;
     Ok(went || more)
 }

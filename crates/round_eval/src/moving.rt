@@ -1,4 +1,4 @@
-ghost use Rattle.std.specs.Prelude.{◌≡◌, true, IfOk, IfSome, IsNone, OnOk};
+ghost use Rattle.std.specs.Prelude.{◌≡◌, ◌≤◌, true, IfOk, IfSome, IsNone, OnOk};
 ghost use Rattle.std.specs.List.{All};
 ghost use Rattle.det_laws.specs.Moved.{AreOut, HasRunning, HasSpace, IsTaken, paths_of, with_tops};
 ghost use Rattle.round_eval.specs.Jobs.{dones_out, jobs_out};
