@@ -141,6 +141,7 @@ fn go_all(
     ensures ok { IfOk result (λ some. IsLater some space.old space.new) }
     ensures shows { OnOk result (Shows quantum output.old.items output.new.items space.old space.new) }
 {
+    engine.pace.begin();
     let first = quantum.min(TRIAL);
     let went = advance_root(engine, space, first, output)?;
     engine.note_root(went);
@@ -232,7 +233,6 @@ pub(crate) fn round_apart(
     ensures console { OnOk result (console_of space.new ≡ console_of space.old ++ output.new.items) }
     ensures bound { OnOk result (length output.new.items ≤ quantum * most_output) }
 {
-    engine.pace.begin();
     let some = round_found(rt, engine, space, quantum, output)?;
     Ok(some)
 }

@@ -9,4 +9,4 @@ returns-then-ne c = follows_append _ _ _ _ _ _ c.quanta.invariant.0 c.in_ok-more
 pub quanta-preserved : goal.quanta-preserved
 quanta-preserved c =
     let few = no_more _ _ _ _ _ c.in_ok-more.ensures.ok.ended in
-    (follows_append _ _ _ _ _ _ c.quanta.invariant.0 c.in_ok-more.ensures.ok.follows, omega (arith, c.quanta.invariant.1, few, c.min.ensures, c.quanta-test.true), c.well_formed.pace.some_further)
+    (follows_append _ _ _ _ _ _ c.quanta.invariant.0 c.in_ok-more.ensures.ok.follows, omega (arith, c.quanta.invariant.1, few, c.min.ensures, c.quanta-test.true), c.args.pace.now.some_further)
