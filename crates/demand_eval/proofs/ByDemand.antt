@@ -31,14 +31,18 @@ demand-none levels s = refl
 -- local events are events by demand
 pub demand-follows : (levels n : ℕ) (t u : Top) (cs : Children) → Follows levels n t u → by_demand levels n (space t cs) ≡ space u cs
 unfolding run_for
-demand-follows levels zero t u cs is = ap (λ v. space v cs) is
-demand-follows levels (suc n) t u cs is = rw is.1 (demand-follows levels n is.0 u cs is.2)
+demand-follows levels zero t u cs is = ap (λ v. space v cs) (sym is)
+demand-follows levels (suc n) t u cs is =
+    let first : (run_for (of_children levels) levels (suc n) (space t cs)).space ≡ (run_for (of_children levels) levels n (space is.0 cs)).space = rw is.1 refl in
+    first ∙ demand-follows levels n is.0 u cs is.2
 
 -- a call is one, once what it waits for is ready
 pub demand-meets : (levels : ℕ) (t u : Top) (k : Call) (cs : Children) → next levels t ≡ meets k u
     → by_demand levels 1 (space t cs) ≡ meet levels k u (wait_for (of_children levels) (awaits k) cs).children
 unfolding run_for
-demand-meets levels t u k cs e = rw e refl
+demand-meets levels t u k cs e =
+    let first : (run_for (of_children levels) levels (suc zero) (space t cs)).space ≡ meet levels k u (wait_for (of_children levels) (awaits k) cs).children = rw e refl in
+    first
 
 -- from a tree that itself came by demand
 pub one_event_from : (n count : ℕ) (s m at : Space) → m ≡ by_demand 8 n s → ByOneEvent count m at → ByOneEvent count s at

@@ -133,6 +133,11 @@ nothing_taken (Some before) = (0, ap Some (sym (append-nil before)))
 pub begins_same : (a : Option (List ℕ)) (f g : ℕ) (s : Space) → Begins (record { taken_before = a; taken_after = a; faults_before = f; faults_after = g }) s
 begins_same a f g s = record { at = s; same = refl; more = []; begins = sym (append-nil (console_of s)); prefix = nothing_taken a }
 
+-- nothing is written
+pub writes_none : (a : Option (List ℕ)) (f : ℕ) (s : Space) → Writes (record { taken_before = a; taken_after = a; faults_before = f; faults_after = f }) s s
+writes_none None f s = ([], (sym (append-nil (console_of s)), tt))
+writes_none (Some before) f s = ([], (sym (append-nil (console_of s)), ap Some (sym (append-nil before))))
+
 -- one after the other
 pub writes_then : (a b c : Option (List ℕ)) (f g h : ℕ) (s m t : Space) → Writes (record { taken_before = a; taken_after = b; faults_before = f; faults_after = g }) s m
     → Writes (record { taken_before = b; taken_after = c; faults_before = g; faults_after = h }) m t → Writes (record { taken_before = a; taken_after = c; faults_before = f; faults_after = h }) s t

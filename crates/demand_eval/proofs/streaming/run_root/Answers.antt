@@ -1,10 +1,19 @@
-use Rattle.std.proofs.Common.{◌≡◌, ◌∙◌, Err, ap, arith}
+use Rattle.std.proofs.Common.{◌≡◌, ◌∙◌, Err, ap, arith, refl}
 use Rattle.det_host.specs.declared.sink.SinkError.TheVariants.{Failed}
 use Rattle.demand_eval.specs.Streams.{ByOneEvent}
-use Rattle.demand_eval.proofs.ByDemand.{one_event_from}
+use Rattle.demand_eval.proofs.ByDemand.{demand-none, one_event_from}
 use Rattle.demand_eval.proofs.Turns.{came_further}
-use Rattle.demand_eval.proofs.Streams.{begins_then, lags_then, same_end, still_sound, writes_then}
+use Rattle.demand_eval.proofs.Streams.{begins_then, lags_then, same_end, still_sound, writes_none, writes_then}
 use Rattle.demand_eval.proofs.streaming.run_root.Goals as goal
+
+pub turns-init : goal.turns-init
+turns-init g c = record {
+  came = (0, demand-none 8 c.args.space.now);
+  same = refl;
+  sound = c.requires;
+  writes = writes_none (g.O.Sink.taken c.args.out.now) (g.O.Sink.faults c.args.out.now) c.args.space.now;
+  later = omega arith;
+}
 
 pub turns-preserved : goal.turns-preserved
 turns-preserved g c =
