@@ -173,9 +173,9 @@ pub(crate) fn serve<G: Gate, R: Wait>(
     requires { IsReady board.now.lock.table.shared.table_id pass }
     ensures { IfOk result (λ p. HasServed board.now.lock.table.shared.table_id (known pass) p) }
 {
-    bell.come(rt);
+    let here = bell.come(rt);
     bell.sleep_beside(rt, false);
     let served = take_turns(rt, board, bell, gate, pass);
-    bell.ring_at_the_end(rt, served.is_err());
+    bell.leave(rt, here, served.is_err());
     served
 }

@@ -1,6 +1,6 @@
 use Rattle.std.proofs.Common.{◌≡◌, cond}
 use Rattle.worker_pool.specs.Turns.{is_job}
-use Rattle.worker_pool.proofs.worker.serve.Given as goal
+use Rattle.worker_pool.proofs.worker.take_turns.Given as goal
 
 abbrev pub invariant-loop : goal.invariant-loop
 invariant-loop g l =
