@@ -1,23 +1,27 @@
 // What one worker does, from its first turn to its last.
 //
-// No worker sleeps for ever beside a job. A worker sleeps in `wait_for_turn`, where its own turn under the same lock was `Rest`, and in `hand_in` and `take_again`
-// beside another that is awake. Whoever changes the shop is awake and has the lock, and does not leave it to sleep before it has looked again, unless another is awake:
-// - A turn that is a job: the worker comes back with the result. If there may be more, it rings for one that sleeps: once it has left the lock, or, where
-//   the last jobs were short (`is_eager`), once it knows that this one lasts; if it does not, the worker is back soon, and looks again. The one that was rung for
-//   looks, and does the same in its turn, so one after another is woken for as long as there may be more. Nobody is rung for while one that
-//   was rung for is on its way to the lock (`rung`): that one looks at whatever there is by then. Whoever wakes takes the note away, rung for or not.
-// - A turn that met: the worker comes back at once, and sleeps only beside another that is awake and has no job in its hands (`is_beside_another`): that one comes
-//   to the lock, too. So turns that meet, one after another, are one worker's, and no lock goes from hand to hand for each; and a worker with a job, whether it works at
-//   it or is held in its gate, keeps no other from meeting.
-// - A result that was handed in: the same worker takes its next turn under the same lock. Where the last jobs were short it sleeps first, but only beside
-//   another that is awake and has no job that lasts (`is_crowded`): that one comes back to the lock, or rings when it finds that its job lasts.
-// - A turn that is `Rest` changes nothing, so whatever it found wanting is wanting still; the shop answers it only while a job is out, and whoever
-//   has that job comes back.
-// - `Over`, and want of memory, ring for all.
-// A ring is heard: a sleeper is counted under the lock, and has read the bell's number there, before it lets the lock go; who rings does so after it had
-// the lock. So either the sleeper looked later than the change, or the ring changes the number and the sleep does not begin, or it ends. That the
-// count is of sleepers that were rung for already does no harm: they are awake, and come under the lock. If the one that hears the ring finds the
-// job gone, then whoever took it has rung, too, or saw that there was no more.
+// No worker sleeps for ever beside a job. The first reason is proved, the others are read; `tools/sleeping_search`
+// tries every interleaving of a few workers that keep these rules.
+//
+// 1. The last worker that is awake never falls asleep: `Attendance` keeps it (`IsWatched`), and each sleep owes it. So
+//    where some sleep one is awake, until one goes home; and whoever goes home wakes all (`Attendance::leave`).
+// 2. Whoever is awake comes back to the lock and takes a turn: after a job, after a turn that met, after a sleep. So a
+//    job that may be taken is taken. A turn that is `Rest` changes nothing, so nothing may be taken until another
+//    worker has changed the shop; and a shop answers it only while a job is out.
+// 3. What may be taken grows only by a result that is handed in, and by a turn that met. Whoever did that has the lock,
+//    and looks before it sleeps, or sleeps beside another that is awake and comes back soon. After a result that other
+//    one has no job that is known to last (`is_crowded`); after a turn that met it has no job at all
+//    (`is_beside_another`).
+// 4. Who takes a job rings for one that sleeps, if there may be more. Where the last jobs were short (`is_eager`) it
+//    rings once it knows that its job lasts, or else is back soon. The one that was rung for looks, and does the same.
+//    Nobody is rung for while another is on its way (`rung`): that one looks at whatever there is by then.
+//
+// A ring is heard. A worker that sleeps was counted under the lock (`Sleeper`), and it lets the lock go and begins to
+// wait in one step. Whoever rings has had the lock since its change. So a sleeper was counted before, and is woken, or
+// looks later.
+//
+// So turns that meet, one after another, are one worker's, and no lock goes from hand to hand for each. A worker that
+// its gate holds with a job in its hands keeps no other from meeting.
 
 ghost use Rattle.std.specs.Prelude.{◌≡◌, ◌+◌, ◌^◌, ◌<◌, cond, IfOk};
 ghost use Rattle.worker_pool.specs.Turns.{is_job};
