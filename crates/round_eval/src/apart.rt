@@ -87,9 +87,11 @@ fn round_beside(
     ensures ok { IfOk result (λ some. IsLater some space.old space.new) }
     ensures shows { OnOk result (Shows events output.old.items output.new.items space.old space.new) }
 {
+    engine.pace.keep_step();
+    let pace = engine.pace.share()?;
     let place = Top::fresh(engine.alloc, NO_MATTER);
     let root = mem::replace(&mut space.top, place);
-    let begun = begin_root(rt, engine.alloc, root, events);
+    let begun = begin_root(rt, engine.alloc, root, events, pace);
     let below = round(rt, engine, space);
     let RootDone {
         top,
@@ -121,7 +123,6 @@ fn go_further(
         return Ok(some);
     }
     if engine.hints.some_run() {
-        engine.hints.hurry();
         round_beside(rt, engine, space, events, output)
     } else {
         advance_root(engine, space, events, output)
@@ -142,6 +143,7 @@ fn go_all(
 {
     let first = quantum.min(TRIAL);
     let went = advance_root(engine, space, first, output)?;
+    engine.root_calls = went && !engine.root_runs;
     let more = go_further(rt, engine, space, quantum - first, output)?;
     Ok(went || more)
 }
@@ -231,6 +233,7 @@ pub(crate) fn round_apart(
     ensures bound { OnOk result (length output.new.items ≤ quantum * most_output) }
     ensures root { OnOk result (RootWithin quantum space.old space.new) }
 {
+    engine.pace.begin();
     let some = round_found(rt, engine, space, quantum, output)?;
     Ok(some)
 }
