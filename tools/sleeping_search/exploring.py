@@ -1,4 +1,4 @@
-"""An exhaustive search: every state that some interleaving reaches, breadth first, and the shortest run to each break of a rule."""
+"""An exhaustive search: each state that some interleaving reaches, and the shortest run to each break of a rule."""
 
 
 class Found:
@@ -20,7 +20,11 @@ class Found:
 
 
 def explore(model, first_break_only=False):
-    """Searches all that a model can do. `model.steps` gives the steps of a state: name, whether it needs no reason, and the state behind it."""
+    """Searches all that a model can do, breadth first.
+
+    `model.steps(state)` gives the steps of a state: name, whether it is a wake for no reason, and the state behind it.
+    `model.RULES` has what must hold of each state, by name; `model.is_done(state)` says whether nothing is left to do.
+    """
     found = Found()
     start = model.start()
     found.reached_by[start] = None

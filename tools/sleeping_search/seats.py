@@ -1,5 +1,8 @@
-"""The engine `seats` (crates/seat_board/src/worker.rt, rings.rt): turns are had one by one in the order of tickets, and workers sleep under the
-lock of the bell. So between a turn and a sleep any other worker may have turns."""
+"""The engine `seats` (crates/seat_board/src/worker.rt, rings.rt).
+
+Turns are had one by one in the order of tickets, and workers sleep under the lock of the bell. So between a turn and a
+sleep any other worker may have turns.
+"""
 
 import workers as w
 
@@ -7,7 +10,7 @@ import workers as w
 class Seats(w.Engine):
     NAME = "seats"
     FAULTS = {
-        "old_bell": "the bell as it was: only a ring that wakes one is counted, and who has nothing to do sleeps though it is the last awake",
+        "old_bell": "only a ring that wakes one is counted, and a worker with nothing to do sleeps though it is the last awake",
         "unheard": "a worker that falls asleep beside another does not raise the count",
         "uncounted": "where nobody sleeps the count is not raised, though there may be more",
         "untold": "a worker for which memory was wanting goes home and wakes nobody",
@@ -95,7 +98,7 @@ class Seats(w.Engine):
         yield "falls asleep beside another", after._replace(at="asleep", then="draw"), change
 
     def turn(self, state, worker):
-        """A turn of the board. A worker that has a result hands it in first, and does no more if it leaves the turn to another."""
+        """A turn of the board, after a result that the worker hands in. It does no more if it leaves the turn to another."""
         board = state.board
         queue = tuple(one._replace(place=one.place - 1) if one.at == "turn" else one for one in state.workers)
         free = worker._replace(place=-1, result="")

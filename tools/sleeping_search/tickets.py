@@ -1,5 +1,8 @@
-"""The ticket lock (crates/ticket_lock/src/lock.rt): passes have turns in the order of their tickets, and sleep on words, each on that of its
-ticket. A pass looks once before it is counted among those that sleep, where the lock looks 128 times."""
+"""The ticket lock (crates/ticket_lock/src/lock.rt).
+
+Passes have turns in the order of their tickets, and sleep on words, each on that of its ticket. A pass looks once
+before it is counted among those that sleep, where the lock looks 128 times.
+"""
 
 from typing import NamedTuple
 

@@ -1,4 +1,4 @@
-"""What both engines with threads have: a board of jobs, and workers that come, work, sleep, wake each other and go home."""
+"""What both engines with threads have: a board of jobs, and workers that come, work, sleep, wake others and go home."""
 
 from typing import NamedTuple
 
