@@ -1,0 +1,84 @@
+# Programs that outlast their fuel (sdk/build --long): tests/long.elf as it is kept, and by each compiler tests/long.c and what is refused.
+
+# Runs a file of ELF at a limit: console and root's line of the report are those of a run with fuel enough.
+lasts() {
+    local limit=$1 file=$2
+    shift 2
+    "$det" run --limit "$limit" "$@" "$file" tests/long.script > "$room/console" 2> "$room/report" < /dev/null
+    ends "$room/report" | head -n 1 > "$room/ends"
+    echo "/ ret 0000004d" > "$room/ends.want"
+    same tests/long.console "$room/console" "$file at $limit, $*: another console" &&
+        same "$room/ends.want" "$room/ends" "$file at $limit, $*: another end"
+}
+
+try_limits() {
+    local limit well=yes
+    for limit in 4294967295 200001 77777 50021 50033; do lasts $limit "$1" || well=no; done
+    count $well
+}
+
+try_kept() {
+    local engine well=yes
+    for engine in demand rounds pool seats; do lasts 60013 tests/long.elf --engine $engine || well=no; done
+    count $well
+    if [ -n "$explain" ]; then
+        DET=$det EXPLAIN=$explain ./files out --limit 60013 tests/long.elf tests/long.script "$room/long.files"
+        if [ "$(stat -c %s "$room/long.files/sums")" = 80 ]; then count yes; else echo "the file of tests/long.elf is not the root's"; count no; fi
+    fi
+}
+
+# Builds a program --long that is stopped, and compares console and the first two lines of the report with what is said.
+stops() {
+    local name=$1 limit=$2 console=$3 report=$4
+    cat > "$room/$name.c"
+    if ! CC=$compiler ./build --long "$room/$name.c" -o "$room/x.elf" > "$room/said" 2>&1; then
+        echo "$compiler does not build $name --long:"; head -n 8 "$room/said"; count no; return
+    fi
+    run "$room/x.elf" none --limit "$limit"
+    if [ "$(cat "$room/console")" = "$console" ] && [ "$(ends "$room/report" | head -n 2 | sed 's/^\/ breakpoint .*/root/' | tr '\n' ';')" = "$report" ]; then
+        count yes
+    else
+        echo "$compiler, $name --long:"; head -n 3 "$room/console" "$room/report"; count no
+    fi
+}
+
+try_stops() {
+    stops trap 1000000 "" "root;/0 load-fault 00000010;" <<< 'int main(void) { return *(volatile int *)16; }'
+    stops jump 1000000 "before" "root;/0 fetch-fault 00000000;" <<< '
+        #include "det.h"
+        int main(void) { det_write("before\n", 7); ((void (*)(void))0)(); return 0; }'
+    stops reaching 1000000 "" "root;/0 badcall 00000006;" <<< '
+        #include "det.h"
+        int main(void) { det_write((void *)0xDFFFFFFF, 2); return 0; }'
+    stops too_long 1000000 "" "root;/0 badcall 00000006;" <<< '
+        #include "det.h"
+        int main(void) { det_call(DET_CALL_WRITE, 0, 0x10000, 65537, 0, 0, 0, 0); return 0; }'
+    stops forks 100000 "sdk/build --long: the program has made spaces, and has to go on in one whose fuel is not used up" "root;/0 fuel 00000000;" <<< '
+        #include "det.h"
+        static volatile uint32_t number = DET_CALL_FORK, n;
+        int main(void) { det_call(number, 0, 7, 0, 0, 0, 0, 0); while (n < 100000) n++; return 0; }'
+}
+
+# A program whose code asks for a space is not built.
+try_refused() {
+    if CC=$compiler ./build --long examples/sort.c -o "$room/x.elf" > /dev/null 2> "$room/said"; then
+        echo "$compiler builds examples/sort.c --long"; count no
+    elif ! grep -q 'TFORK at 000.*has one space' "$room/said" || [ -e "$room/x.elf" ]; then
+        echo "$compiler, examples/sort.c --long:"; head -n 3 "$room/said"; count no
+    else
+        count yes
+    fi
+}
+
+try_kept
+for compiler in "${compilers[@]}"; do
+    there "$compiler" || continue
+    if CC=$compiler ./build -Wall -Wextra --long -s tests/long.c -o "$room/long.elf" > "$room/said" 2>&1; then
+        try_limits "$room/long.elf"
+    else
+        echo "$compiler does not build tests/long.c --long:"; head -n 8 "$room/said"; count no
+    fi
+    rm -f "$room/x.elf"
+    try_refused
+    try_stops
+done
