@@ -46,7 +46,8 @@ try_stops() {
     stops trap 1000000 "" "root;/0 load-fault 00000010;" <<< 'int main(void) { return *(volatile int *)16; }'
     stops jump 1000000 "before" "root;/0 fetch-fault 00000000;" <<< '
         #include "det.h"
-        int main(void) { det_write("before\n", 7); ((void (*)(void))0)(); return 0; }'
+        static void (*volatile nothing)(void);
+        int main(void) { det_write("before\n", 7); nothing(); return 0; }'
     stops reaching 1000000 "" "root;/0 badcall 00000006;" <<< '
         #include "det.h"
         int main(void) { det_write((void *)0xDFFFFFFF, 2); return 0; }'
@@ -73,7 +74,7 @@ try_refused() {
 try_kept
 for compiler in "${compilers[@]}"; do
     there "$compiler" || continue
-    if CC=$compiler ./build -Wall -Wextra --long -s tests/long.c -o "$room/long.elf" > "$room/said" 2>&1; then
+    if CC=$compiler ./build --long -Wall -Wextra -s tests/long.c -o "$room/long.elf" > "$room/said" 2>&1; then
         try_limits "$room/long.elf"
     else
         echo "$compiler does not build tests/long.c --long:"; head -n 8 "$room/said"; count no
