@@ -70,6 +70,7 @@ thread_exit(uint32_t value)
 static void
 begin(struct thread *thread)
 {
+  det_console_forget();
   self = thread;
   me = (int)(thread - threads);
   thread_exit(thread->function(thread->argument));
