@@ -1,23 +1,28 @@
 /*
  * The console's buffers. They are each space's own, since what two threads write into one buffer would be in conflict when they
- * are joined. A space that is not the root writes nothing to it: it stops with badcall 6 where its buffer goes out.
+ * are joined. A space that is not the root has no console: it stops with badcall 6 when its buffer goes out.
  */
 #include "console.h"
 #include "det.h"
 
-enum { ROOM = 4096 };
+/* The last two pages of those for _Thread_local variables (det.ld) are the buffers. */
+#define OUT 0xC07FE000u
+#define IN 0xC07FF000u
+
+enum { ROOM = DET_PAGE };
 
 static _Thread_local enum console_mode mode;
-static _Thread_local char *out, *in;            /* ROOM bytes each, made when they are used first */
+static _Thread_local char *out, *in;            /* ROOM bytes each; NULL until they are used first */
 static _Thread_local uint32_t held;             /* of out: how many wait */
 static _Thread_local uint32_t next, got;        /* of in: where the next byte is, and how many there are */
 
 static char *
-room(void)
+room(uint32_t at)
 {
   if (det_in_thread != NULL && det_in_thread())
     return det_thread_allocate(ROOM);
-  return det_allocate_own(ROOM);
+  det_get(DET_PERM | DET_READABLE | DET_WRITABLE, DET_NOBODY, NULL, 0, at, ROOM);
+  return (char *)(uintptr_t)at;
 }
 
 static void
@@ -56,7 +61,7 @@ det_console_mode(enum console_mode new_mode)
 void
 det_console_put(char c)
 {
-  if (out == NULL && (out = room()) == NULL) {
+  if (out == NULL && (out = room(OUT)) == NULL) {
     send(&c, 1);
     return;
   }
@@ -78,7 +83,7 @@ det_console_get(void)
   if (next == got) {
     det_console_flush();
     next = got = 0;
-    if (in == NULL && (in = room()) == NULL)
+    if (in == NULL && (in = room(IN)) == NULL)
       return -1;
     got = det_read(in, ROOM);
     if (got == 0)

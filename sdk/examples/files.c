@@ -11,7 +11,7 @@
 #include <sys/stat.h>
 #include <unistd.h>
 
-enum { TURNS = 20, CALLS = 100, OPEN = 5, NAMES = 4, LONGEST = 200000 };
+enum { TURNS = 8, CALLS = 100, OPEN = 5, NAMES = 4, LONGEST = 150000 };
 
 static const char *const names[NAMES] = { "one", "two", "three", "four" };
 static int open_files[OPEN];                     /* descriptors, or -1 */
@@ -135,7 +135,7 @@ static void
 stream(const char *mode)
 {
   FILE *file = fopen("stream", mode);
-  int turns = 60, c, writes = *mode != 'r' || mode[1] != 0, reads = *mode == 'r' || mode[1] != 0, way;
+  int turns = 40, c, writes = *mode != 'r' || mode[1] != 0, reads = *mode == 'r' || mode[1] != 0, way;
   uint32_t count;
   long got;
 
@@ -178,7 +178,7 @@ stream(const char *mode)
 int
 main(void)
 {
-  static const char *const modes[] = { "w", "r", "a", "r+", "w+", "a+", "r+", "r" };
+  static const char *const modes[TURNS] = { "w", "r", "a", "r+", "w+", "a+", "r+", "r" };
   char line[32];
   int turn, i;
 
@@ -189,10 +189,8 @@ main(void)
     for (i = 0; i < CALLS; i++)
       call();
     printf("%08x after %d calls\n", (unsigned)sum, (turn + 1) * CALLS);
-    if (turn % 2 != 0) {
-      stream(modes[turn / 2 % 8]);
-      printf("%08x after a stream \"%s\"\n", (unsigned)sum, modes[turn / 2 % 8]);
-    }
+    stream(modes[turn]);
+    printf("%08x after a stream \"%s\"\n", (unsigned)sum, modes[turn]);
   }
   for (i = 0; i < NAMES; i++)
     remove(names[i]);
