@@ -150,17 +150,17 @@ pub lags_then : (most : ℕ) (far : Far) (a b c : Option (List ℕ)) (f g h : �
 lags_then most far a b c f g h s m t le same carry one two =
     let counted : length (console_of m) + two.count ≡ length (console_of s) + (length one.0 + two.count) = omega (arith, ap length one.1.0, length-append (console_of s) one.0) in
     record {
-  sound = two.sound;
-  same = two.same ∙ same;
-  more = one.0 ++ two.more;
-  begins = two.begins ∙ ap (λ l. l ++ two.more) one.1.0 ∙ append_assoc (console_of s) one.0 two.more;
-  count = length one.0 + two.count;
-  taken = subst (Takes a c) (sym (take_past one.0 two.more two.count)) (takes_then a b c one.0 (take two.count two.more) one.1.1 two.taken);
-  not_all = omega (arith, two.not_all, length-append one.0 two.more);
-  near = omega (arith, two.near, length-append one.0 two.more);
-  went = subst (λ k. far k s t) counted (carry (length (console_of m) + two.count) two.went);
-  fault = rose_later f g h le two.fault;
-}
+      sound = two.sound;
+      same = two.same ∙ same;
+      more = one.0 ++ two.more;
+      begins = two.begins ∙ ap (λ l. l ++ two.more) one.1.0 ∙ append_assoc (console_of s) one.0 two.more;
+      count = length one.0 + two.count;
+      taken = subst (Takes a c) (sym (take_past one.0 two.more two.count)) (takes_then a b c one.0 (take two.count two.more) one.1.1 two.taken);
+      not_all = omega (arith, two.not_all, length-append one.0 two.more);
+      near = omega (arith, two.near, length-append one.0 two.more);
+      went = subst (λ k. far k s t) counted (carry (length (console_of m) + two.count) two.went);
+      fault = rose_later f g h le two.fault;
+    }
 
 pub begins_then : (a b c : Option (List ℕ)) (f g h : ℕ) (s m : Space) → settle_tree m ≡ settle_tree s → Writes (record { taken_before = a; taken_after = b; faults_before = f; faults_after = g }) s m
     → Begins (record { taken_before = b; taken_after = c; faults_before = g; faults_after = h }) m → Begins (record { taken_before = a; taken_after = c; faults_before = f; faults_after = h }) s

@@ -101,8 +101,7 @@ pub shows_all : (events : ℕ) (ready output : List ℕ) (s t : Space) → ready
     → (console_of t ≡ console_of s ++ output) × ((length output ≤ events * most_output) × RootWithin events s t)
 shows_all events ready output s t none then =
     let shows = then.1.0 in
-    let all : output ≡ shows.more = shows.appended ∙ ap (λ l. l ++ shows.more) none in
-    (
+    let all : output ≡ shows.more = shows.appended ∙ ap (λ l. l ++ shows.more) none in (
       then.1.1 ∙ shows.console ∙ ap (λ l. console_of s ++ l) (sym all),
       (
         subst (λ l. length l ≤ events * most_output) (sym all) shows.few,
