@@ -17,9 +17,9 @@
 #include <unistd.h>
 
 /* Names are short, and nothing else is in the folder that it runs in. */
-#define LONG 150001
+#define LONG 125001
 
-static unsigned char bytes[LONG], back[LONG];
+static unsigned char bytes[LONG], back[LONG + 1000];
 static int number;
 
 /* A line of a number of its own. */
@@ -49,14 +49,11 @@ sum(const unsigned char *from, size_t count)
 static void
 show(const char *what, const char *name)
 {
-  FILE *file = fopen(name, "rb");
-  size_t count = 0;
+  int fd = open(name, O_RDONLY);
+  long count = fd < 0 ? -1 : (long)read(fd, back, sizeof back);
 
-  if (file != NULL) {
-    count = fread(back, 1, sizeof back, file);
-    fclose(file);
-  }
-  line("%s: %s, %u bytes, %08x", what, file != NULL ? "there" : "not there", (unsigned)count, sum(back, count));
+  close(fd);
+  line("%s: %ld bytes, %08x", what, count, count < 0 ? 0 : sum(back, (size_t)count));
 }
 
 static void
@@ -212,7 +209,10 @@ long_files(void)
   line("fwrite %d", (int)fwrite(bytes, 1, LONG, file));
   fclose(file);
   show("a long file", "long");
-  line("the same bytes %d", memcmp(bytes, back, LONG) == 0);
+  file = fopen("long", "r");
+  a = (int)fread(back, 1, LONG, file);
+  line("fread %d, the same bytes %d", a, memcmp(bytes, back, LONG) == 0);
+  fclose(file);
   a = stat("long", &found);
   line("stat %d, %ld bytes, a file %d", a, (long)found.st_size, S_ISREG(found.st_mode) != 0);
 
