@@ -39,11 +39,14 @@
 #include <unistd.h>
 
 enum {
-    /* A call or a place naps once in NAP_ONE_IN times; else it yields once in YIELD_ONE_IN times. The allocator's
-       calls are so frequent that the shim disturbs only one in HEAP_ONE_IN. */
+    /* A call or a place naps once in NAP_ONE_IN times, and yields as often. Naps and signals of a thread become rarer
+       with each RARER_AFTER of them, so that a long program ends in good time. The calls of the allocator are so frequent
+       that the shim disturbs only one in HEAP_ONE_IN. */
     NAP_ONE_IN = 4,
-    YIELD_ONE_IN = 4,
+    RARER_AFTER = 64,
     HEAP_ONE_IN = 16,
+    /* The longest of each nap is that of all, halved 0 to NAP_SCALES - 1 times. */
+    NAP_SCALES = 8,
     WAKE_ONE_IN = 3,
     IO_ONE_IN = 2,
     PLACE_ROOM = 64,
@@ -91,17 +94,23 @@ static void begin_stream(uint64_t number) { stream = (seed << 16) ^ (number * 0x
 
 /* ---- Naps ---- */
 
+/* Sleeps: in most naps much shorter than in the longest, so that naps of each scale come. */
 static void sleep_some(void) {
-    uint64_t ns = draw() % (nap_us * 1000 + 1);
+    uint64_t longest = (nap_us * 1000) >> (draw() % NAP_SCALES);
+    uint64_t ns = draw() % (longest + 1);
     struct timespec t = {.tv_sec = ns / 1000000000, .tv_nsec = ns % 1000000000};
     nanosleep(&t, NULL);
 }
 
+/* How often this thread might have had a nap, and a signal. */
+static __thread unsigned chances, signals;
+
 /* A nap, a yield or nothing, by chance. It keeps errno. */
 static void nap(void) {
     int kept = errno;
-    if (one_in(NAP_ONE_IN)) sleep_some();
-    else if (one_in(YIELD_ONE_IN)) real_yield();
+    unsigned often = NAP_ONE_IN + chances++ / RARER_AFTER;
+    if (one_in(often)) sleep_some();
+    else if (one_in(often)) real_yield();
     errno = kept;
 }
 
@@ -119,7 +128,7 @@ static __thread int timer;
 
 /* The timer goes off once more, after a time by chance. */
 static void arm(void) {
-    uint64_t ns = 1 + draw() % (2000 * signal_us);
+    uint64_t ns = 1 + draw() % (2000 * signal_us * (1 + signals++ / RARER_AFTER));
     struct itimerspec t = {.it_value = {.tv_sec = ns / 1000000000, .tv_nsec = ns % 1000000000}};
     real_syscall(SYS_timer_settime, timer, 0, &t, NULL);
 }

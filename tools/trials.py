@@ -22,8 +22,8 @@ RAN = (0, 1)
 NO_MEMORY = 6
 # how many times its time limit a busy run may have
 PATIENCE = 4
-# how long a command may take that does little
-SHORT_SECONDS = 60
+# how long a command may take that does little, on a host that is very busy
+SHORT_SECONDS = 600
 # options that say how a program is run, and those that say what is run
 ENGINE_OPTIONS = ("--engine", "--workers", "--nodes", "--link")
 KEPT_OPTIONS = ("--limit",)
@@ -133,10 +133,11 @@ class Runner:
         self.running = set()
         self.stopped = False
 
-    def run(self, command, settings, is_busy=None, **more):
+    def run(self, command, settings, look=None, **more):
         """The outcome of a command; None if it does not end in time, or if runs are stopped.
 
-        `is_busy` looks at a process that is late, and says whether it may have the same time again.
+        If the time limit is over, `look` gets the process, and whether this was the last time that it gets. It answers
+        whether the process is busy, which then has the same time again.
         """
         with self.lock:
             if self.stopped:
@@ -145,19 +146,19 @@ class Runner:
             process = subprocess.Popen(command, env=dict(os.environ, **settings), **words)
             self.running.add(process)
         try:
-            written = self.wait(process, is_busy)
+            written = self.wait(process, look)
             return None if written is None or self.stopped else Outcome(process.returncode, *written)
         finally:
             end(process)
             self.running.discard(process)
 
-    def wait(self, process, is_busy):
+    def wait(self, process, look):
         """What a process writes until it ends; None if it does not end in time."""
-        for _ in range(PATIENCE):
+        for left in reversed(range(PATIENCE)):
             try:
                 return process.communicate(timeout=self.seconds)
             except subprocess.TimeoutExpired:
-                if is_busy is None or not is_busy(process):
+                if look is None or not look(process, left == 0):
                     break
         return None
 
@@ -175,10 +176,16 @@ def end(process):
     process.communicate()
 
 
+def leave(number, _):
+    """Ends the tool, once."""
+    signal.signal(number, signal.SIG_IGN)
+    sys.exit(1)
+
+
 def end_by_signals():
     """Lets a signal that ends the tool go the way of any other end, so that temporary folders and processes go, too."""
     for number in (signal.SIGTERM, signal.SIGHUP):
-        signal.signal(number, lambda *_: sys.exit(1))
+        signal.signal(number, leave)
 
 
 def reader(name, page):
