@@ -1,8 +1,8 @@
 ghost use Rattle.std.specs.Prelude.{◌≡◌, ◌*◌, ◌≤◌, ◌++◌, ◌||◌, [], length, IfOk, OnOk};
-ghost use Rattle.space_model.specs.Space.{Space};
+ghost use Rattle.space_model.specs.Space.{Space, top_of};
 ghost use Rattle.report_model.specs.Report.{console_of};
 ghost use Rattle.run_model.specs.Console.{most_output};
-ghost use Rattle.round_eval.specs.Apart.{Shows};
+ghost use Rattle.round_eval.specs.Apart.{RootWithin, Shows, ShowsThen};
 ghost use Rattle.round_eval.specs.Later.{IsLater};
 
 use crate::beside::{RootDone, begin_root, end_root, run_root};
@@ -66,7 +66,7 @@ fn round_below(
     space: &mut Space,
 ) -> Result<bool, AllocError>
     ensures ok { IfOk result (λ some. IsLater some space.old space.new) }
-    ensures console { OnOk result (console_of space.new ≡ console_of space.old) }
+    ensures root { OnOk result (top_of space.new ≡ top_of space.old) }
 {
     let place = Top::fresh(engine.alloc, NO_MATTER);
     let root = mem::replace(&mut space.top, place);
@@ -144,7 +144,11 @@ fn go_all(
     engine.pace.begin();
     let first = quantum.min(TRIAL);
     let went = advance_root(engine, space, first, output)?;
+<<<<<<< HEAD
     engine.note_root(went);
+=======
+    engine.root_calls = went && !engine.root_runs;
+>>>>>>> 113464229004b336d82b81848d640d26b4c709b6
     let more = go_further(rt, engine, space, quantum - first, output)?;
     Ok(went || more)
 }
@@ -175,7 +179,7 @@ fn round_hinted(
 ) -> Result<bool, AllocError>
     requires { 1 ≤ quantum }
     ensures ok { IfOk result (λ some. IsLater some space.old space.new) }
-    ensures shows { OnOk result (Shows quantum output.old.items output.new.items space.old space.new) }
+    ensures shows { OnOk result (ShowsThen quantum output.old.items output.new.items space.old space.new) }
 {
     let went = go_all(rt, engine, space, quantum, output)?;
     let met = meet_root(engine, space)?;
@@ -206,7 +210,7 @@ fn round_found(
 ) -> Result<bool, AllocError>
     requires { 1 ≤ quantum }
     ensures ok { IfOk result (λ some. IsLater some space.old space.new) }
-    ensures shows { OnOk result (Shows quantum output.old.items output.new.items space.old space.new) }
+    ensures shows { OnOk result (ShowsThen quantum output.old.items output.new.items space.old space.new) }
 {
     let hinted = round_hinted(rt, engine, space, quantum, output)?;
     if hinted {
@@ -232,7 +236,9 @@ pub(crate) fn round_apart(
     ensures ok { IfOk result (λ some. IsLater some space.old space.new) }
     ensures console { OnOk result (console_of space.new ≡ console_of space.old ++ output.new.items) }
     ensures bound { OnOk result (length output.new.items ≤ quantum * most_output) }
+    ensures root { OnOk result (RootWithin quantum space.old space.new) }
 {
+    engine.pace.begin();
     let some = round_found(rt, engine, space, quantum, output)?;
     Ok(some)
 }
