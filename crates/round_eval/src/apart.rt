@@ -144,11 +144,7 @@ fn go_all(
     engine.pace.begin();
     let first = quantum.min(TRIAL);
     let went = advance_root(engine, space, first, output)?;
-<<<<<<< HEAD
     engine.note_root(went);
-=======
-    engine.root_calls = went && !engine.root_runs;
->>>>>>> 113464229004b336d82b81848d640d26b4c709b6
     let more = go_further(rt, engine, space, quantum - first, output)?;
     Ok(went || more)
 }
@@ -238,7 +234,6 @@ pub(crate) fn round_apart(
     ensures bound { OnOk result (length output.new.items ≤ quantum * most_output) }
     ensures root { OnOk result (RootWithin quantum space.old space.new) }
 {
-    engine.pace.begin();
     let some = round_found(rt, engine, space, quantum, output)?;
     Ok(some)
 }

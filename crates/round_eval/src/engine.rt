@@ -58,14 +58,11 @@ impl Engine {
         })
     }
 
-<<<<<<< HEAD
     /// Notes whether the root, which had an event in this round or had none, has come to what is no local event.
     pub(crate) fn note_root(&mut self, went: bool) {
         self.root_calls = went && !self.root_runs;
     }
 
-=======
->>>>>>> 113464229004b336d82b81848d640d26b4c709b6
     /// How many events a turn has at most, of so many in a round: any number where each has a processor of its own, since all are asked to end once one of
     /// them does; several quanta where others wait for a processor.
     pub(crate) fn most_events(&self, turns: usize) -> u32
