@@ -156,6 +156,7 @@ def try_paths_that_are_refused():
     refused([HELLO, "OUT", f"a={ROOM}"], f"file: {ROOM}: Is a directory")
     refused([ROOM / "nothing.elf", "OUT", "a=/dev/null"], f"image: {ROOM}/nothing.elf: No such file")
     refused([HELLO, "OUT", "--args", "a\nb"], "args: 'a\\nb': it has a line feed")
+    refused([HELLO, "OUT", "--args", *["a" * 1000] * 62], "args: 62062 bytes, and not at most 61440")
     status, _, err = kit("files", "in", HELLO, ROOM / "no" / "folder.elf", "a=/dev/null")
     same((status, err), (2, f"sdk/files: write: {ROOM}/no/folder.elf: No such file or directory\n".encode()), "in")
 
