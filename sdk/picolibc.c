@@ -17,6 +17,10 @@
 
 enum { BUFFER = 4096 };
 
+/* Those of console.c. Other files call the ones at the end of "Streams of files" by these names (sdk/build, --wrap). */
+void __real_det_console_flush(void);
+void __real_det_console_forget(void);
+
 /* ---- The console: three streams, 0, 1 and 2, over one buffer out and one in, so what is written comes in its order ---- */
 
 static int
@@ -40,7 +44,7 @@ static int
 flush_console(FILE *file)
 {
   (void)file;
-  det_console_flush();
+  __real_det_console_flush();
   return 0;
 }
 
@@ -194,10 +198,32 @@ fflush(FILE *file)
 
   if (file != NULL)
     return file->flush == NULL ? 0 : file->flush(file);
-  det_console_flush();
+  __real_det_console_flush();
   for (stream = streams; stream != NULL; stream = stream->next)
     failed |= __bufio_flush((FILE *)stream);
   return failed;
+}
+
+/*
+ * A fork and an end by det_return write what all streams have buffered, so that a child begins with none. A thread of threads.h
+ * has no files: it leaves the buffers alone, which are its parent's.
+ */
+static _Thread_local char is_thread;
+
+void
+__wrap_det_console_flush(void)
+{
+  if (is_thread)
+    __real_det_console_flush();
+  else
+    fflush(NULL);
+}
+
+void
+__wrap_det_console_forget(void)
+{
+  is_thread = 1;
+  __real_det_console_forget();
 }
 
 /* picolibc 1.8 declares these two, and has none. */
