@@ -2,6 +2,8 @@
 #![tactic(auto)]
 
 #[cfg(test)]
+mod greatest_number;
+#[cfg(test)]
 mod rounds;
 #[cfg(test)]
 mod threads;

@@ -14,6 +14,3 @@ pub use attendance::{Attendance, Here, Sleeper};
 pub use pool::run_pool;
 pub use ring::Ring;
 pub use shop::{Shop, Turn, Worked};
-
-#[cfg(test)]
-mod tests;

@@ -1,12 +1,14 @@
-use crate::{Shop, Turn, Worked, run_pool};
+//! A pool over a shop of numbered jobs: all are accepted, workers and gates count the same, and out of memory ends the run.
+
 use det_host::{Gate, GateEvent, OpenGate};
 use std::alloc::{AllocError, Global};
+use std::sync::Wait;
 use std::sync::atomic::{AtomicU64, Ordering};
-use std::sync::{Arc, Wait};
 use std::test::*;
 use std::thread::{Threads, yield_now};
+use worker_pool::{Shop, Turn, Worked, run_pool};
 
-// Where memory is wanting, if at all: once 500 results came back.
+// Where memory runs out, if at all: once 500 results came back.
 #[derive(Clone, Copy, PartialEq, Eq)]
 enum Want {
     Nowhere,
@@ -14,7 +16,7 @@ enum Want {
     InWork,
 }
 
-// So many turns are ready, of which so many are due to be meetings; so many jobs become ready when others come back; so many are out, and came back.
+// How many turns are ready, and how many of them are meetings; how many jobs become ready when others come back; how many are out, and how many came back.
 #[derive(Drop)]
 struct Row {
     ready: u32,
@@ -25,7 +27,7 @@ struct Row {
     want: Want,
 }
 
-// Runs so many jobs, of which `wide` may be out at once, by 1 to 64 workers. Answers how many came back, and the workers' counts.
+// Runs that many jobs, of which `wide` may be out at once, by 1 to 64 workers. Answers how many came back, and the workers' counts.
 fn run_jobs<R: Threads + Wait + Sync, G: Gate>(
     rt: &R,
     alloc: Global,
@@ -161,82 +163,6 @@ impl Gate for Counting {
     }
 }
 
-// Two jobs, each of which waits until both have begun.
-#[derive(Drop)]
-struct Pair {
-    left: u32,
-    out: u32,
-    met: u32,
-    begun: Arc<AtomicU64, Global>,
-}
-
-impl Shop for Pair {
-    ghost use Rattle.std.specs.Prelude.{◌≡◌};
-
-    type Job = Arc<AtomicU64, Global>;
-
-    type Done = bool;
-
-    type Tools = ();
-
-    ghost accepted = { λ p. p.met };
-
-    ghost owed = { λ p. p.out };
-
-    ghost idle = { λ p. p.left ≡ 0 };
-
-    fn turn(&mut self, worker: usize) -> Result<Turn<Arc<AtomicU64, Global>>, AllocError> {
-        let _ = worker;
-        if self.left == 0 {
-            return Ok(if self.out == 0 {
-                Turn::Over
-            } else {
-                Turn::Rest
-            });
-        }
-        if self.out == u32::MAX {
-            return Err(AllocError);
-        }
-        let begun = Arc::try_clone(&self.begun)?;
-        self.left -= 1;
-        self.out += 1;
-        Ok(Turn::Job(begun))
-    }
-
-    fn tools(alloc: Global) -> Result<(), AllocError> {
-        let _ = alloc;
-        Ok(())
-    }
-
-    fn work(tools: &mut (), job: Arc<AtomicU64, Global>) -> Result<Worked<bool>, AllocError> {
-        let _ = tools;
-        job.fetch_add(1, Ordering::SeqCst);
-        for _ in 0..10_000_000u32 {
-            if job.load(Ordering::SeqCst) >= 2 {
-                return Ok(Worked::Ended(true));
-            }
-            yield_now();
-        }
-        Ok(Worked::Ended(false))
-    }
-
-    fn go_on(tools: &mut (), done: bool) -> Result<bool, AllocError> {
-        let _ = tools;
-        Ok(done)
-    }
-
-    fn commit(&mut self, done: bool) -> bool {
-        if self.out > 0 {
-            self.out -= 1;
-        }
-        if !done || self.met == u32::MAX {
-            return false;
-        }
-        self.met += 1;
-        true
-    }
-}
-
 #[test]
 fn jobs_are_accepted_and_counted(rt: HostRuntime) -> Result<(), Fail> {
     for (wide, workers) in [(1000, 1), (1000, 4), (1000, 64), (1, 64), (3, 64)] {
@@ -257,21 +183,7 @@ fn jobs_are_accepted_and_counted(rt: HostRuntime) -> Result<(), Fail> {
 }
 
 #[test]
-fn two_at_work(rt: HostRuntime) -> Result<(), Fail> {
-    let pair = Pair {
-        left: 2,
-        out: 0,
-        met: 0,
-        begun: Arc::new(rt.alloc(), AtomicU64::new(0))?,
-    };
-    let (pair, counts) = run_pool(&rt, rt.alloc(), pair, 2, &OpenGate)?;
-    assert_eq!(rt; pair.met, 2);
-    assert_eq!(rt; counts.as_slice(), [1u64, 1].as_slice());
-    Ok(())
-}
-
-#[test]
-fn want_of_memory_ends_all(rt: HostRuntime) {
+fn out_of_memory_ends_all(rt: HostRuntime) {
     for want in [Want::InTurn, Want::InWork] {
         for (wide, workers) in [(1000, 1), (1000, 64), (1, 64)] {
             let all = (1000, wide, want);

@@ -1,7 +1,7 @@
 ghost use Rattle.std.specs.Prelude.{◌≡◌, true};
 ghost use Rattle.space_model.specs.Event.{MayPay};
 
-use crate::{qcommit, qstart};
+use quantum_sched::{qcommit, qstart};
 use space_tree::{Cause, Children, Space, Status, Top};
 use std::alloc::{AllocError, Global};
 use std::test::Fail;

@@ -1,5 +1,7 @@
-use crate::{FrameErrorKind, Offered, Receiver, Sender};
+//! The two ends of a link by hand: what is sent, sent again and refused.
+
 use fault_model::Fault;
+use node_link::{FrameErrorKind, Offered, Receiver, Sender};
 use std::alloc::{AllocError, Global};
 use std::test::Fail;
 
