@@ -2,8 +2,6 @@
 #![tactic(auto)]
 
 #[cfg(test)]
-mod greatest_number;
-#[cfg(test)]
 mod rounds;
 #[cfg(test)]
 mod threads;
