@@ -1,6 +1,6 @@
 /*
  * Where a program in C begins: start.S calls det_main. The words behind the program's name are the lines of the file args, if
- * there is one (docs/PROGRAMS.md, "Arguments"). What main returns is given to exit.
+ * there is one (docs/PROGRAMS.md, "Files"). What main returns is given to exit.
  */
 #include <stdlib.h>
 #include "det.h"

@@ -2,6 +2,7 @@
  * A program for ends.sh: the first line of its input says how it ends, or what it does before. The last that it writes has no
  * line feed.
  */
+#include <assert.h>
 #include <stdio.h>
 #include <stdlib.h>
 #include <string.h>
@@ -43,6 +44,8 @@ main(int count, char **words)
     det_return(2);
   if (strcmp(way, "abort") == 0)
     abort();
+  if (strcmp(way, "assert") == 0)
+    assert(count == 0);
   if (strcmp(way, "trap") == 0) {
     fflush(stdout);
     printf("lost");

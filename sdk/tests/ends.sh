@@ -16,6 +16,19 @@ try_end() {
     fi
 }
 
+# An end as breakpoint: how the input says it, and a pattern for the console.
+try_breakpoint() {
+    printf 'in %s\n' "$1" > "$room/ends.script"
+    "$det" run "$room/ends.elf" "$room/ends.script" > "$room/console" 2> "$room/report"
+    # shellcheck disable=SC2053
+    if [[ "$(cat "$room/console")" == $2 ]] && grep -q '^/ breakpoint' "$room/report"; then
+        count yes
+    else
+        echo "$compiler $library, ends.c, $1: another console or report: $(cat "$room/console"), $(cat "$room/report")"
+        count no
+    fi
+}
+
 try_ends() {
     local long many
     if ! CC=$compiler ./build "$library" -Wall -Wextra tests/ends.c -o "$room/ends.elf" > "$room/said" 2>&1; then
@@ -37,14 +50,8 @@ $many
 raw 7878"
     try_end 'thread cause 16 stderr atexit ' $'/ ret 00000004\n/0 badcall 00000006' 'in thread'
     try_end 'child cause 20: buffered stderr atexit ' '/ ret 00000004' 'in child'
-    printf 'in abort\n' > "$room/ends.script"
-    "$det" run "$room/ends.elf" "$room/ends.script" > "$room/console" 2> "$room/report"
-    if [ "$(cat "$room/console")" = 'abort ' ] && grep -q '^/ breakpoint' "$room/report"; then
-        count yes
-    else
-        echo "$compiler $library, ends.c, abort: $(cat "$room/console"), $(cat "$room/report")"
-        count no
-    fi
+    try_breakpoint abort 'abort '
+    try_breakpoint assert 'assert *count == 0*'
 }
 
 for compiler in "${compilers[@]}"; do
