@@ -33,12 +33,7 @@ fn carry_out<L: Loader, O: Sink>(
 }
 
 // Reads the words, and does what the command that they write asks for.
-fn begin<L: Loader, O: Sink>(
-    alloc: Global,
-    words: &[String],
-    files: &mut L,
-    out: &mut O,
-) -> End
+fn begin<L: Loader, O: Sink>(alloc: Global, words: &[String], files: &mut L, out: &mut O) -> End
     ensures begun { Begun (map string_bytes words.now) (input_of L.told L.asked L.faults files.old files.new) (output_of O.taken O.faults out.old out.new) result }
     ensures files_later { L.faults files.old ≤ L.faults files.new }
     ensures out_later { O.faults out.old ≤ O.faults out.new }
