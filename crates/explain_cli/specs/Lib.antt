@@ -1,4 +1,3 @@
-pub mod About
 pub mod Ends
 pub mod Explains
 pub mod Answers
