@@ -2,7 +2,8 @@ ghost use Rattle.std.specs.Prelude.{◌≡◌, ℕ, List, ◌∷◌, ◌++◌, l
 ghost use Rattle.space_model.specs.Space.{Space};
 ghost use Rattle.det_laws.specs.Near.{IsOnWay};
 ghost use Rattle.det_laws.specs.Tops.{top_at};
-ghost use Rattle.det_laws.specs.Tree.{MayHappen, NoneMayHappen, after, after_all};
+ghost use Rattle.det_laws.specs.Tree.{MayHappen, MayAllHappen, NoneMayHappen, after, after_all};
+ghost use Rattle.space_model.specs.Sound.{IsSound};
 ghost use Rattle.event_laws.specs.OwnEvents.{OwnEvent, IsOwnEvent, IsEntry, own_events};
 
 /// The own event of a number at a path is one and the same in every schedule in which it happens: the top before it, what its call sees of the
@@ -15,6 +16,12 @@ pub fn one_meaning()
 pub fn ended_schedules()
     ensures has_it { (s : Space) (ps qs : List (List ℕ)) (p : List ℕ) (k : ℕ) (e : OwnEvent) → NoneMayHappen (after_all ps s) → IsOwnEvent qs s p k e → IsOwnEvent ps s p k e }
     ensures alike { (s : Space) (ps qs : List (List ℕ)) (p : List ℕ) → NoneMayHappen (after_all ps s) → NoneMayHappen (after_all qs s) → own_events p ps s ≡ own_events p qs s }
+{}
+
+/// Every sound tree has a schedule that ends: each of its events may happen in its turn, and after them none may. So what is said of every schedule that has ended is said of one
+/// at least.
+pub fn some_schedule_ends()
+    ensures { (s : Space) → IsSound s → (ps : List (List ℕ)) × MayAllHappen ps s × NoneMayHappen (after_all ps s) }
 {}
 
 /// An own event of a schedule is an entry that is its path, at which an event may happen: its number is how many own events there are before the

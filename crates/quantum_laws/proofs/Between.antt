@@ -22,13 +22,13 @@ use Rattle.quantum_laws.specs.Between.{memory_of, status_of, MayHappenBetween, L
 use Rattle.quantum_laws.proofs.Keeping.{step_keeps}
 use Rattle.quantum_laws.proofs.Starting.{gives, shared_copy}
 
-local_children : (levels : ℕ) (e : NextEvent) (s : Space) → is_local e ≡ true → children_of (event levels e s) ≡ children_of s
+pub local_children : (levels : ℕ) (e : NextEvent) (s : Space) → is_local e ≡ true → children_of (event levels e s) ≡ children_of s
 local_children levels rests s is = cc
 local_children levels (moves u) s is = refl
 local_children levels (meets k u) s is = cc
 
 -- one event
-event_between : (levels n : ℕ) (m : Memory) (p : List ℕ) (s : Space) → MayHappenBetween levels p s → HasSnapshot n m s → HasSnapshot n m (step p levels s)
+pub event_between : (levels n : ℕ) (m : Memory) (p : List ℕ) (s : Space) → MayHappenBetween levels p s → HasSnapshot n m s → HasSnapshot n m (step p levels s)
 event_between levels n m [] s may has = record {
   child = has.child;
   snapshot = has.snapshot;
