@@ -100,12 +100,34 @@ det_address(const volatile void *p)
   return (uint32_t)(uintptr_t)p;
 }
 
+/*
+ * What stdio has buffered for the console goes out (console.c). A fork and an end do so first, so a child begins with an empty
+ * buffer. Where console.c is not linked there is none.
+ */
+void det_console_flush(void) __attribute__((weak));
+
+/* Begins with an empty buffer, as a thread of threads.h does: the buffer that the variables name is the root's. */
+void det_console_forget(void);
+
+/* Of pthread.c alone: what a thread there does in place of det_allocate and of det_write to the console. */
+int det_in_thread(void) __attribute__((weak));
+void *det_thread_allocate(uint32_t count) __attribute__((weak));
+void det_thread_write(const void *bytes, uint32_t count) __attribute__((weak));
+
 /* ---- The space itself ---- */
 
-/* Stops with the cause DET_RETURNED. (A parent may let a space go on behind it; it then returns again.) */
+/*
+ * Stops with the cause DET_RETURNED. (A parent may let a space go on behind it; it then returns again.) A space that has tp 0
+ * has none of the kit's variables, and so no buffer.
+ */
 static inline void __attribute__((noreturn))
 det_return(uint32_t value)
 {
+  uint32_t tp;
+
+  __asm__("mv %0, tp" : "=r"(tp));
+  if (det_console_flush != NULL && tp != 0)
+    det_console_flush();
   for (;;)
     det_call(DET_CALL_RET, value, 0, 0, 0, 0, 0, 0);
 }
@@ -163,6 +185,8 @@ det_random(uint32_t *number)
 static inline int
 det_fork(uint32_t child)
 {
+  if (det_console_flush != NULL)
+    det_console_flush();
   return (int)det_call(DET_CALL_FORK, 0, child, 0, 0, 0, 0, 0).a0;
 }
 
@@ -178,6 +202,8 @@ det_wait(uint32_t child)
 static inline int
 det_thread_fork(uint32_t child)
 {
+  if (det_console_flush != NULL)
+    det_console_flush();
   return (int)det_call(DET_CALL_TFORK, 0, child, 0, 0, 0, 0, 0).a0;
 }
 

@@ -46,7 +46,7 @@ SECTIONS
    */
   . = 0xC0400000;
   .tdata : { __own_start = .; KEEP(*(.tdata.start)) *(.tdata .tdata.*) *(.tbss .tbss.*) } :own :tls
-  ASSERT(. <= 0xC0800000, "there is room for 4 MB of _Thread_local variables")
+  ASSERT(. <= 0xC07FE000, "there is room for 4 MB of _Thread_local variables, less two pages (console.c)")
 
   /* Nothing runs them, so that a program that has some does not seem to work. */
   .init_array : { KEEP(*(.preinit_array .init_array .init_array.* .ctors .ctors.*)) } :data

@@ -1,5 +1,5 @@
 /*
- * A small C library: strings, memory, printf, files. It has no floating point; picolibc has more (sdk/build --picolibc).
+ * A small C library: strings, memory, printf, files. It has no floating point; picolibc has all (sdk/build).
  */
 #include <assert.h>
 #include <ctype.h>
@@ -8,6 +8,7 @@
 #include <stdio.h>
 #include <stdlib.h>
 #include <string.h>
+#include "console.h"
 #include "det.h"
 
 /* ---- Strings ---- */
@@ -271,15 +272,30 @@ realloc(void *old, size_t count)
 
 /* ---- Ends ---- */
 
+static void (*at_exit[32])(void);
+static int at_exits;
+
+int
+atexit(void (*function)(void))
+{
+  if (at_exits == sizeof at_exit / sizeof at_exit[0])
+    return -1;
+  at_exit[at_exits++] = function;
+  return 0;
+}
+
 void
 exit(int value)
 {
+  while (at_exits > 0)
+    at_exit[--at_exits]();
   det_return((uint32_t)value);
 }
 
 void
 abort(void)
 {
+  det_console_flush();
   for (;;)
     __asm__ volatile("ebreak");
 }
@@ -417,7 +433,7 @@ srand(unsigned new_seed)
 
 /* ---- Files ---- */
 
-/* The console has no name. An open file is a space's own, as its files are. */
+/* An open file is a space's own, as its files are. The console's streams have no name. */
 struct file {
   char name[DET_FILE_NAME];
   uint32_t length;              /* of the name; 0 where this file is not open */
@@ -425,16 +441,21 @@ struct file {
   char end, error, write;
 };
 
-static struct file console;
+static struct file console[3];
 static _Thread_local struct file opened[16];
 
-FILE *const stdin = &console, *const stdout = &console, *const stderr = &console;
+FILE *const stdin = console, *const stdout = console + 1, *const stderr = console + 2;
+
+static int is_console(FILE *file) { return file >= console && file < console + 3; }
 
 static size_t
 write_bytes(FILE *file, const char *from, size_t count)
 {
-  if (file == &console)
-    det_write(from, count);
+  size_t i;
+
+  if (is_console(file))
+    for (i = 0; i < count; i++)
+      det_console_put(from[i]);
   else if (!file->write || count > DET_CALL_BYTES || det_file_put(file->name, file->length, from, count, 1) != DET_OK) {
     file->error = 1;
     return 0;
@@ -446,13 +467,15 @@ static size_t
 read_bytes(FILE *file, char *to, size_t count)
 {
   uint32_t got = 0;
+  int c;
 
-  if (file == &console)
-    got = det_read(to, count);
+  if (is_console(file))
+    while (got < count && (c = det_console_get()) != EOF)
+      to[got++] = (char)c;
   else if (det_file_get(file->name, file->length, to, count < DET_CALL_BYTES ? count : DET_CALL_BYTES, file->offset, &got) != DET_OK)
     file->error = 1;
   file->offset += got;
-  if (got == 0 && count > 0)
+  if (got == 0 && count > 0 && !file->error)
     file->end = 1;
   return got;
 }
@@ -483,7 +506,15 @@ fopen(const char *restrict name, const char *restrict mode)
   return file;
 }
 
-int fclose(FILE *file) { file->length = 0; return file->error ? EOF : 0; }
+int
+fflush(FILE *file)
+{
+  if (file == NULL || is_console(file))
+    det_console_flush();
+  return 0;
+}
+
+int fclose(FILE *file) { fflush(file); file->length = 0; return file->error ? EOF : 0; }
 int remove(const char *name) { return det_file_delete(name, strlen(name)) == DET_OK ? 0 : -1; }
 int feof(FILE *file) { return file->end; }
 int ferror(FILE *file) { return file->error; }
@@ -712,6 +743,19 @@ put_conversion(struct sink *sink, const char *at, va_list *arguments)
       text = "(null)";
     field.sign = "";
     put_field(sink, &field, text, field.precision < 0 ? strlen(text) : strnlen(text, (size_t)field.precision), 0);
+    break;
+  case 'e':
+  case 'E':
+  case 'f':
+  case 'F':
+  case 'g':
+  case 'G':
+  case 'a':
+  case 'A':
+    /* no floats here, but what follows is in its place */
+    (void)va_arg(*arguments, double);
+    field.sign = "";
+    put_field(sink, &field, "?", 1, 0);
     break;
   case '%':
     put(sink, '%');

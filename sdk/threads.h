@@ -17,8 +17,15 @@
 
 enum {
   THREADS = 64,            /* so many at one time: the children 0 to 63 of the root */
-  THREAD_STACK = 16384     /* bytes, and below them a page that no one may touch */
+  THREAD_STACK = 16384,    /* bytes, and below them a page that no one may touch */
+  THREAD_QUANTUM = 100000  /* events */
 };
+
+/* How many bytes the stack of a thread has that is made from now on. */
+extern uint32_t thread_stack;
+
+/* How many events a round has where the root waits. threads_run sets it. */
+extern uint32_t thread_quantum;
 
 /*
  * A mutex has an owner from its first lock on, also while nobody holds it: the owner locks and unlocks it without the scheduler. It passes to the
@@ -27,7 +34,7 @@ enum {
 struct mutex {
   volatile uint8_t owner;            /* its number and 1; written by the scheduler alone */
   volatile uint8_t wanted;           /* some thread waits for it; written by the scheduler alone */
-  volatile uint8_t held[THREADS];    /* each byte is written by the thread of its number; the owner's counts */
+  volatile uint8_t held[THREADS + 1];  /* each byte is written by the thread of its number, the last by the root; the owner's counts */
 };
 
 /* All zeros is a condition for which nobody waits. */
@@ -54,13 +61,18 @@ int thread_create(uint32_t (*function)(void *), void *argument);
  */
 struct det_end thread_join(int thread);
 
-/* ---- For threads ---- */
+/* The same, but the root waits for it, too. */
+struct det_end thread_await(int thread);
 
+/* ---- For threads, and for the root. Where the root waits, the threads run in rounds; where none can go on it stops as breakpoint ---- */
+
+/* The number of a thread; 64 in the root. */
 int thread_self(void);
 
+/* Of a thread alone. */
 void __attribute__((noreturn)) thread_exit(uint32_t value);
 
-/* Ends this thread's part of the round: it goes on in the next one, with what all have written until now. */
+/* Ends this thread's part of the round: it goes on in the next one, with what all have written until now. The root lets the threads have a round. */
 void thread_yield(void);
 
 void mutex_lock(struct mutex *mutex);

@@ -69,6 +69,7 @@ main(void)
     fwrite(text, 1, got, program);
     fclose(object);
   }
+  fclose(program);
   show("log");
   show("program");
   return failed;

@@ -195,6 +195,7 @@ main(void)
   put_and_get();
   rounds();
   printf("unknown: ");
+  fflush(stdout);
   det_call(99, 0, 0, 0, 0, 0, 0, 0);
   return 0;
 }

@@ -1,5 +1,6 @@
 /*
- * The console, and the files of a space. Nothing is buffered: what is written is there when the function returns.
+ * The console, and the files of a space. What is written to a file is there when the function returns; what is written to the
+ * console goes out when the line ends, when 4,096 bytes wait, before a read of the console, a fork and an end, and by fflush.
  *
  * Only the root has a console: stdin, stdout and stderr of any other space stop it with the cause badcall and the value 6.
  */
@@ -14,7 +15,7 @@
 typedef struct file FILE;
 extern FILE *const stdin, *const stdout, *const stderr;
 
-/* %d %i %u %x %X %o %c %s %p %% with flags, width, precision and length; no floating point. */
+/* %d %i %u %x %X %o %c %s %p %% with flags, width, precision and length. A double is written as a question mark. */
 int printf(const char *restrict format, ...) __attribute__((format(printf, 1, 2)));
 int fprintf(FILE *restrict file, const char *restrict format, ...) __attribute__((format(printf, 2, 3)));
 int sprintf(char *restrict to, const char *restrict format, ...) __attribute__((format(printf, 2, 3)));
@@ -45,6 +46,6 @@ int fclose(FILE *file);
 int remove(const char *name);
 int feof(FILE *file);
 int ferror(FILE *file);
-static inline int fflush(FILE *file) { (void)file; return 0; }
+int fflush(FILE *file);
 
 #endif

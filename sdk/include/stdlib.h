@@ -13,7 +13,8 @@ void *calloc(size_t items, size_t size);
 void *realloc(void *old, size_t count);
 void free(void *old);
 
-/* The space returns the value. */
+/* The functions of atexit run, up to 32, the last one first; then the space returns the value. */
+int atexit(void (*function)(void));
 void exit(int value) __attribute__((noreturn));
 /* The space stops with the cause breakpoint. */
 void abort(void) __attribute__((noreturn));

@@ -1,4 +1,5 @@
 pub mod Children
+pub mod ByDemand
 pub mod Turns
 pub mod Everyone
 pub mod Awaited

@@ -1,5 +1,5 @@
 -- What a sink takes of a console piece by piece is what it takes of it in all.
-use Rattle.std.proofs.Common.{◌≡◌, ℕ, zero, suc, ◌+◌, ◌≤◌, Bool, true, List, [], ◌∷◌, ◌++◌, length, take, append_assoc, length-append, Option, Some, None, Result, Ok, Err, IfOk, OnErr, refl, sym, ap, ◌∙◌, subst, arith}
+use Rattle.std.proofs.Common.{◌≡◌, ℕ, zero, suc, ◌+◌, ◌≤◌, Bool, true, List, [], ◌∷◌, ◌++◌, length, take, append_assoc, length-append, Option, Some, None, Result, Ok, Err, IfOk, OnErr, inl, inr, refl, sym, ap, ◌∙◌, subst, arith}
 use Rattle.std.proofs.lemmas.List.{append-nil, take_all}
 use Rattle.det_host.specs.Outside.{Rose, Takes}
 use Rattle.det_host.specs.Writing.{Output, TakesPrefix, StopsWithin}
@@ -16,8 +16,9 @@ use Rattle.run_model.proofs.Run.{run-run_on, run_on-rests, run-stops}
 use Rattle.space_step.specs.ToSink.{GoesPartlyTo, GoesTo, StopsAtLast}
 use Rattle.space_step.proofs.Following.{follows_more}
 use Rattle.space_step.proofs.ToSink.{prefix_then, take_past, takes_then}
-use Rattle.demand_eval.specs.Turns.{IsSoundBelow, with_everyone}
-use Rattle.demand_eval.specs.Streams.{StandsStill, Writes, Lags, Begins}
+use Rattle.demand_eval.specs.Turns.{IsSoundBelow, by_demand, with_everyone}
+use Rattle.demand_eval.specs.Streams.{Far, ByOneEvent, StandsStill, Writes, Lags, Begins}
+use Rattle.demand_eval.proofs.ByDemand.{demand-follows}
 use Rattle.demand_eval.proofs.Everyone.{run_then}
 use Rattle.demand_eval.proofs.Turns.{advanced_sound, run-follows}
 
@@ -84,8 +85,20 @@ went_same n t u cs s is f = same_end s (space u cs) (run-follows 8 n t u cs f �
 pub went_writing : (t u : Top) (cs : Children) (s : Space) (more : List ℕ) → space t cs ≡ s → console_in u ≡ console_in t ++ more → console_of (space u cs) ≡ console_of s ++ more
 went_writing t u cs s more is wrote = wrote ∙ ap (λ (r : Space). console_of r ++ more) is
 
+-- the root came there by demand, and what it had written before its last event was taken
+stops_by_one : (t u : Top) (cs : Children) (s : Space) (o : Output) → space t cs ≡ s → (stops : StopsAtLast 8 o t u) → ByOneEvent (length (console_of s) + (length stops.early + stops.count)) s (space u cs)
+stops_by_one t u cs s o is stops =
+    let f = follows_more 8 stops.before t stops.top u stops.follows stops.last in
+    let first : by_demand 8 stops.before s ≡ space stops.top cs = ap (by_demand 8 stops.before) (sym is) ∙ demand-follows 8 stops.before t stops.top cs stops.follows in
+    let held : console_of (by_demand 8 stops.before s) ≡ console_of s ++ stops.early = ap console_of first ∙ went_writing t stops.top cs s stops.early is stops.console in
+    record {
+      before = stops.before;
+      last = sym (demand-follows 8 (stops.before + 1) t u cs f) ∙ ap (by_demand 8 (stops.before + 1)) is;
+      covered = omega (arith, ap length held, length-append (console_of s) stops.early);
+    }
+
 -- a sink that failed within what the last event wrote
-pub stops_behind : (t u : Top) (cs : Children) (s : Space) (o : Output) → IsSound s → space t cs ≡ s → StopsAtLast 8 o t u → Lags most_output o s (space u cs)
+pub stops_behind : (t u : Top) (cs : Children) (s : Space) (o : Output) → IsSound s → space t cs ≡ s → StopsAtLast 8 o t u → Lags most_output ByOneEvent o s (space u cs)
 stops_behind t u cs s o ok is stops =
     let f = follows_more 8 stops.before t stops.top u stops.follows stops.last in
     let grows = event_grows 8 stops.top u stops.last in
@@ -101,6 +114,7 @@ stops_behind t u cs s o ok is stops =
       taken = subst (Takes o.taken_before o.taken_after) (sym (take_past stops.early stops.piece stops.count)) stops.taken;
       not_all = omega (arith, stops.not_all, length-append stops.early stops.piece);
       near = omega (arith, few, length-append stops.early stops.piece);
+      went = stops_by_one t u cs s o is stops;
       fault = stops.fault;
     }
 
@@ -119,25 +133,34 @@ nothing_taken (Some before) = (0, ap Some (sym (append-nil before)))
 pub begins_same : (a : Option (List ℕ)) (f g : ℕ) (s : Space) → Begins (record { taken_before = a; taken_after = a; faults_before = f; faults_after = g }) s
 begins_same a f g s = record { at = s; same = refl; more = []; begins = sym (append-nil (console_of s)); prefix = nothing_taken a }
 
+-- nothing is written
+pub writes_none : (a : Option (List ℕ)) (f : ℕ) (s : Space) → Writes (record { taken_before = a; taken_after = a; faults_before = f; faults_after = f }) s s
+writes_none None f s = ([], (sym (append-nil (console_of s)), tt))
+writes_none (Some before) f s = ([], (sym (append-nil (console_of s)), ap Some (sym (append-nil before))))
+
 -- one after the other
 pub writes_then : (a b c : Option (List ℕ)) (f g h : ℕ) (s m t : Space) → Writes (record { taken_before = a; taken_after = b; faults_before = f; faults_after = g }) s m
     → Writes (record { taken_before = b; taken_after = c; faults_before = g; faults_after = h }) m t → Writes (record { taken_before = a; taken_after = c; faults_before = f; faults_after = h }) s t
 writes_then a b c f g h s m t one two =
     (one.0 ++ two.0, (two.1.0 ∙ ap (λ l. l ++ two.0) one.1.0 ∙ append_assoc (console_of s) one.0 two.0, takes_then a b c one.0 two.0 one.1.1 two.1.1))
 
-pub lags_then : (most : ℕ) (a b c : Option (List ℕ)) (f g h : ℕ) (s m t : Space) → f ≤ g → settle_tree m ≡ settle_tree s → Writes (record { taken_before = a; taken_after = b; faults_before = f; faults_after = g }) s m
-    → Lags most (record { taken_before = b; taken_after = c; faults_before = g; faults_after = h }) m t → Lags most (record { taken_before = a; taken_after = c; faults_before = f; faults_after = h }) s t
-lags_then most a b c f g h s m t le same one two = record {
-  sound = two.sound;
-  same = two.same ∙ same;
-  more = one.0 ++ two.more;
-  begins = two.begins ∙ ap (λ l. l ++ two.more) one.1.0 ∙ append_assoc (console_of s) one.0 two.more;
-  count = length one.0 + two.count;
-  taken = subst (Takes a c) (sym (take_past one.0 two.more two.count)) (takes_then a b c one.0 (take two.count two.more) one.1.1 two.taken);
-  not_all = omega (arith, two.not_all, length-append one.0 two.more);
-  near = omega (arith, two.near, length-append one.0 two.more);
-  fault = rose_later f g h le two.fault;
-}
+pub lags_then : (most : ℕ) (far : Far) (a b c : Option (List ℕ)) (f g h : ℕ) (s m t : Space) → f ≤ g → settle_tree m ≡ settle_tree s → ((count : ℕ) → far count m t → far count s t)
+    → Writes (record { taken_before = a; taken_after = b; faults_before = f; faults_after = g }) s m
+    → Lags most far (record { taken_before = b; taken_after = c; faults_before = g; faults_after = h }) m t → Lags most far (record { taken_before = a; taken_after = c; faults_before = f; faults_after = h }) s t
+lags_then most far a b c f g h s m t le same carry one two =
+    let counted : length (console_of m) + two.count ≡ length (console_of s) + (length one.0 + two.count) = omega (arith, ap length one.1.0, length-append (console_of s) one.0) in
+    record {
+      sound = two.sound;
+      same = two.same ∙ same;
+      more = one.0 ++ two.more;
+      begins = two.begins ∙ ap (λ l. l ++ two.more) one.1.0 ∙ append_assoc (console_of s) one.0 two.more;
+      count = length one.0 + two.count;
+      taken = subst (Takes a c) (sym (take_past one.0 two.more two.count)) (takes_then a b c one.0 (take two.count two.more) one.1.1 two.taken);
+      not_all = omega (arith, two.not_all, length-append one.0 two.more);
+      near = omega (arith, two.near, length-append one.0 two.more);
+      went = subst (λ k. far k s t) counted (carry (length (console_of m) + two.count) two.went);
+      fault = rose_later f g h le two.fault;
+    }
 
 pub begins_then : (a b c : Option (List ℕ)) (f g h : ℕ) (s m : Space) → settle_tree m ≡ settle_tree s → Writes (record { taken_before = a; taken_after = b; faults_before = f; faults_after = g }) s m
     → Begins (record { taken_before = b; taken_after = c; faults_before = g; faults_after = h }) m → Begins (record { taken_before = a; taken_after = c; faults_before = f; faults_after = h }) s
@@ -150,9 +173,9 @@ begins_then a b c f g h s m same one two = record {
 }
 
 -- behind the console as it was at first
-pub stands_behind : (most : ℕ) (a b c : Option (List ℕ)) (f g h : ℕ) (s at : Space) → f ≤ g → Takes a b (console_of s) → Lags most (record { taken_before = b; taken_after = c; faults_before = g; faults_after = h }) s at
-    → StandsStill most (record { taken_before = a; taken_after = c; faults_before = f; faults_after = h }) s at
-stands_behind most a b c f g h s at le first lags =
+pub stands_behind : (most : ℕ) (far : Far) (a b c : Option (List ℕ)) (f g h : ℕ) (s at : Space) → f ≤ g → Takes a b (console_of s) → Lags most far (record { taken_before = b; taken_after = c; faults_before = g; faults_after = h }) s at
+    → StandsStill most far (record { taken_before = a; taken_after = c; faults_before = f; faults_after = h }) s at
+stands_behind most far a b c f g h s at le first lags =
     let all : take (length (console_of s) + lags.count) (console_of at) ≡ console_of s ++ take lags.count lags.more = ap (take (length (console_of s) + lags.count)) lags.begins ∙ take_past (console_of s) lags.more lags.count in
     let long = ap length lags.begins ∙ length-append (console_of s) lags.more in
     record {
@@ -164,12 +187,13 @@ stands_behind most a b c f g h s at le first lags =
       taken = subst (Takes a c) (sym all) (takes_then a b c (console_of s) (take lags.count lags.more) first lags.taken);
       not_all = omega (arith, long, lags.not_all);
       near = omega (arith, long, lags.near);
+      went = inr lags.went;
       fault = rose_later f g h le lags.fault;
     }
 
 -- within the console as it was at first
-pub stands_at_first : (most : ℕ) (o : Output) (s : Space) → IsSound s → StopsWithin o (console_of s) → StandsStill most o s s
-stands_at_first most o s ok stops = record {
+pub stands_at_first : (most : ℕ) (far : Far) (o : Output) (s : Space) → IsSound s → StopsWithin o (console_of s) → StandsStill most far o s s
+stands_at_first most far o s ok stops = record {
   sound = ok;
   same = refl;
   more = [];
@@ -178,6 +202,7 @@ stands_at_first most o s ok stops = record {
   taken = stops.0.1.1;
   not_all = stops.0.1.0;
   near = omega arith;
+  went = inl refl;
   fault = stops.1;
 }
 

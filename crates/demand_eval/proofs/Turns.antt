@@ -16,7 +16,8 @@ use Rattle.run_model.proofs.Fuel.{left_falls, stopped_rests}
 use Rattle.run_model.proofs.Run.{run_on, run-run_on, run_on-follows, run_on-rests, run_on-meets, meet_fuel, call_costs}
 use Rattle.run_model.proofs.Sound.{KeepsSound, wait_for_sound, meaning_sound, next_meets_sound}
 use Rattle.run_model.proofs.Console.{meet_devices}
-use Rattle.demand_eval.specs.Turns.{IsSoundBelow, GoesOn, KeepsDevices, IsTold, Comes, Turned, with_awaited}
+use Rattle.demand_eval.specs.Turns.{IsSoundBelow, GoesOn, KeepsDevices, IsTold, Comes, Turned, by_demand, with_awaited}
+use Rattle.demand_eval.proofs.ByDemand.{demand-add, demand-follows, demand-meets}
 
 -- what a space that has gone on is told of what is next
 told : (levels quantum ran : ℕ) (o p : Option Next) (t : Top) → Ended levels quantum ran o t → o ≡ p → Ended levels quantum ran p t
@@ -50,7 +51,13 @@ pub advanced : (levels n : ℕ) (t u : Top) (cs : Children) (s : Space) → IsSo
 advanced levels n t u cs s ok is follows some =
     let fewer = follows_left levels n t u follows in
     let top : top_of s ≡ t = ap top_of (sym is) in
-    record { same = run-follows levels n t u cs follows ∙ ap (run levels) is; sound = advanced_sound levels n t u cs s ok is follows; fewer = rw top (omega arith) }
+    record {
+      events = n;
+      came = sym (demand-follows levels n t u cs follows) ∙ ap (by_demand levels n) is;
+      same = run-follows levels n t u cs follows ∙ ap (run levels) is;
+      sound = advanced_sound levels n t u cs s ok is follows;
+      fewer = rw top (omega arith);
+    }
 
 -- or has stopped
 pub advanced_stopped : (levels n : ℕ) (t u : Top) (cs : Children) (s : Space) → space t cs ≡ s → Follows levels n t u → next levels u ≡ rests → space u cs ≡ run levels s
@@ -62,7 +69,14 @@ advanced_then levels n t u cs s r is follows on =
     let some = follows_left levels n t u follows in
     let top : top_of s ≡ t = ap top_of (sym is) in
     let fewer = on.fewer in
-    record { same = on.same ∙ run-follows levels n t u cs follows ∙ ap (run levels) is; sound = on.sound; fewer = rw top (omega arith) }
+    let first : space u cs ≡ by_demand levels n s = sym (demand-follows levels n t u cs follows) ∙ ap (by_demand levels n) is in
+    record {
+      events = n + on.events;
+      came = on.came ∙ ap (by_demand levels on.events) first ∙ sym (demand-add levels n on.events s);
+      same = on.same ∙ run-follows levels n t u cs follows ∙ ap (run levels) is;
+      sound = on.sound;
+      fewer = rw top (omega arith);
+    }
 
 -- what becomes of children keeps them sound
 children_keep : (levels fuel : ℕ) → KeepsSound (of_children levels) (pred levels) fuel
@@ -104,6 +118,8 @@ met_here levels k t cs ds ok e is =
     let kept : AreSound levels ok.fuel 0 ds = rw is (wait_for_sound (of_children levels) levels ok.fuel (awaits k) cs (children_keep levels ok.fuel) ok.sound.1) in
     let same : run_on (of_children levels) levels (space t cs) ≡ run_on (of_children levels) levels (meet levels k (after_payment t t) ds) = rw is (run_on-meets (of_children levels) levels t (after_payment t t) k cs e) in
     record {
+      events = 1;
+      came = ap (meet levels k (after_payment t t)) is ∙ sym (demand-meets levels t (after_payment t t) k cs e);
       same = run-run_on levels (meet levels k (after_payment t t) ds) ∙ sym same ∙ sym (run-run_on levels (space t cs));
       sound = record { root = ok.root; fuel = ok.fuel; sound = next_meets_sound levels ok.root ok.fuel t (after_payment t t) k ds e ok.sound.0 kept };
       fewer = call_leaves levels t (after_payment t t) k ds e;
@@ -142,3 +158,7 @@ came_devices levels None stopped s r c = absurd c
 came_devices levels (Some answers.Local) stopped s r c = ap (λ v. (top_of v).devices) c.1
 came_devices levels (Some (answers.Meet k)) stopped s r c = c.2
 came_devices levels (Some answers.Stopped) stopped s r c = ap (λ v. (top_of v).devices) c.1
+
+-- a space that came by demand has gone on
+pub came_further : (levels : ℕ) (s m r : Space) → (n : ℕ) × (m ≡ by_demand levels n s) → GoesOn levels m r → (n : ℕ) × (r ≡ by_demand levels n s)
+came_further levels s m r before on = (before.0 + on.events, on.came ∙ ap (by_demand levels on.events) before.1 ∙ sym (demand-add levels before.0 on.events s))

@@ -11,7 +11,7 @@ use Rattle.space_step.specs.declared.event.Next.TheVariants.{Local, Meet, Stoppe
 use Rattle.space_model.specs.Sound.{IsSoundAt}
 use Rattle.space_model.specs.Path.{under}
 use Rattle.space_model.specs.Meeting.{awaits}
-use Rattle.run_model.specs.Demand.{meaning, run, left_of, wait_for, everyone, of_children}
+use Rattle.run_model.specs.Demand.{meaning, run, run_for, left_of, wait_for, everyone, of_children}
 
 -- sound, with so many levels of children left below it, as a root or below one
 pub record IsSoundBelow (levels : ℕ) (s : Space) : Type 0 where
@@ -36,8 +36,15 @@ with_awaited levels k s = under (λ cs. (wait_for (of_children levels) (awaits k
 abbrev pub with_everyone : ℕ → Space → Space
 with_everyone levels s = under (λ cs. (wait_for (of_children levels) (everyone cs) cs).children) s
 
--- a space that has gone on: its run comes to the same, it is sound, and fewer of its events are left
+-- A space that has had this many events of its own by demand: what its calls waited for ran before each of them, and no other space did. One that stopped
+-- before has had fewer.
+abbrev pub by_demand : ℕ → ℕ → Space → Space
+by_demand levels n s = (run_for (of_children levels) levels n s).space
+
+-- a space that has gone on by demand: its run comes to the same, it is sound, and fewer of its events are left
 pub record GoesOn (levels : ℕ) (old new : Space) : Type 0 where
+  pub events : ℕ
+  pub came : new ≡ by_demand levels events old
   pub same : run levels new ≡ run levels old
   pub sound : IsSoundBelow levels new
   pub fewer : left_of (top_of new) < left_of (top_of old)

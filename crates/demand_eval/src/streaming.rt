@@ -7,7 +7,7 @@ ghost use Rattle.run_model.specs.Console.{most_output};
 ghost use Rattle.run_model.specs.Demand.{run, settle_tree};
 ghost use Rattle.det_host.specs.Outside.{Takes};
 ghost use Rattle.det_host.specs.Writing.{TakesPrefix, output_of};
-ghost use Rattle.demand_eval.specs.Streams.{Begins, Lags, StandsStill, Writes};
+ghost use Rattle.demand_eval.specs.Streams.{Begins, ByOneEvent, Lags, StandsStill, Writes};
 ghost use Rattle.demand_eval.specs.Turns.{Comes, IsSoundBelow, IsTold, Turned};
 
 use crate::console::write_console;
@@ -52,7 +52,7 @@ fn turn_root<O: Sink>(
     requires { IsSound space.old }
     ensures ok { IfOk result (λ stopped. Turned greatest_depth stopped space.old space.new) }
     ensures writes { OnOk result (Writes (output_of O.taken O.faults out.old out.new) space.old space.new) }
-    ensures failed { IsErrOf result SinkError.Failed → Lags most_output (output_of O.taken O.faults out.old out.new) space.old space.new }
+    ensures failed { IsErrOf result SinkError.Failed → Lags most_output ByOneEvent (output_of O.taken O.faults out.old out.new) space.old space.new }
     ensures begins { OnErr result (Begins (output_of O.taken O.faults out.old out.new) space.old) }
     ensures later { O.faults out.old ≤ O.faults out.new }
 {
@@ -71,7 +71,7 @@ fn run_root<O: Sink>(runner: &mut Runner, space: &mut Space, out: &mut O) -> Res
     requires { IsSound space.old }
     ensures ok { OnOk result (space.new ≡ run greatest_depth space.old) }
     ensures writes { OnOk result (Writes (output_of O.taken O.faults out.old out.new) space.old space.new) }
-    ensures failed { IsErrOf result SinkError.Failed → Lags most_output (output_of O.taken O.faults out.old out.new) space.old space.new }
+    ensures failed { IsErrOf result SinkError.Failed → Lags most_output ByOneEvent (output_of O.taken O.faults out.old out.new) space.old space.new }
     ensures begins { OnErr result (Begins (output_of O.taken O.faults out.old out.new) space.old) }
     ensures later { O.faults out.old ≤ O.faults out.new }
 {
@@ -89,7 +89,7 @@ fn stream<O: Sink>(runner: &mut Runner, space: &mut Space, out: &mut O) -> Resul
     requires { IsSound space.old }
     ensures ok { OnOk result (space.new ≡ settle_tree space.old) }
     ensures writes { OnOk result (Writes (output_of O.taken O.faults out.old out.new) space.old space.new) }
-    ensures failed { IsErrOf result SinkError.Failed → Lags most_output (output_of O.taken O.faults out.old out.new) space.old space.new }
+    ensures failed { IsErrOf result SinkError.Failed → Lags most_output ByOneEvent (output_of O.taken O.faults out.old out.new) space.old space.new }
     ensures begins { OnErr result (Begins (output_of O.taken O.faults out.old out.new) space.old) }
     ensures later { O.faults out.old ≤ O.faults out.new }
 {
@@ -113,7 +113,7 @@ pub fn settle_on<O: Sink>(
     ensures settled { IfOk result (λ s. is_settled s ≡ true) }
     ensures sound { IfOk result IsSound }
     ensures writes { IfOk result (λ s. Writes (output_of O.taken O.faults out.old out.new) space s) }
-    ensures write { (at : Space) → IsErrOf result (StreamFault.Write at) → Lags most_output (output_of O.taken O.faults out.old out.new) space at }
+    ensures write { (at : Space) → IsErrOf result (StreamFault.Write at) → Lags most_output ByOneEvent (output_of O.taken O.faults out.old out.new) space at }
     ensures begins { OnErr result (Begins (output_of O.taken O.faults out.old out.new) space) }
     ensures later { O.faults out.old ≤ O.faults out.new }
 {
@@ -132,15 +132,15 @@ pub fn settle_on<O: Sink>(
 /// writes to it, what that event wrote. The sink is never called with nothing to write. It takes exactly the console of the settled tree; at an
 /// error some first bytes of it.
 ///
-/// Where the sink fails, the tree stands still: it settles to the same, the sink has not taken all of its console, and is behind by what the
-/// console held at first, or by one event, which writes at most 65,536 bytes.
+/// Where the sink fails, the tree stands still: it settles to the same, and the sink has not taken all of its console. Either no event has happened, or the
+/// sink has taken all that the console held before the last event of the root, which came there by demand: what its calls waited for ran, and nothing else.
 pub fn settle_to<O: Sink>(alloc: Global, space: Space, out: &mut O) -> Result<Space, StreamFault>
     requires { IsSound space }
     ensures meaning { IfOk result (λ s. s ≡ settle_tree space) }
     ensures settled { IfOk result (λ s. is_settled s ≡ true) }
     ensures sound { IfOk result IsSound }
     ensures written { IfOk result (λ s. Takes (O.taken out.old) (O.taken out.new) (console_of s)) }
-    ensures write { (at : Space) → IsErrOf result (StreamFault.Write at) → StandsStill most_output (output_of O.taken O.faults out.old out.new) space at }
+    ensures write { (at : Space) → IsErrOf result (StreamFault.Write at) → StandsStill most_output ByOneEvent (output_of O.taken O.faults out.old out.new) space at }
     ensures prefix { TakesPrefix (O.taken out.old) (O.taken out.new) (console_of (settle_tree space)) }
     ensures later { O.faults out.old ≤ O.faults out.new }
 {

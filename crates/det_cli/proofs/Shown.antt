@@ -5,7 +5,7 @@ use Rattle.space_model.specs.Space.{Space, is_settled}
 use Rattle.run_model.specs.Demand.{settle_tree}
 use Rattle.run_model.proofs.Console.{settled_begins}
 use Rattle.report_model.specs.Report.{console_of, report}
-use Rattle.demand_eval.specs.Streams.{StandsStill}
+use Rattle.demand_eval.specs.Streams.{Far, StandsStill}
 use Rattle.demand_eval.proofs.Streams.{nothing_prefix}
 use Rattle.det_host.specs.Outside.{Takes}
 use Rattle.det_host.specs.Writing.{Output, IsUntouched, StopsWithin, Wrote, WrotePrefix}
@@ -19,7 +19,7 @@ use Rattle.det_cli.specs.Shown.{IsCutShort, ShowsConsole, ShowsReport}
 use Rattle.det_cli.proofs.Courses.{untouched_prefix, whole_prefix}
 
 -- a console that could not be written any further was stopped within what it would have been
-pub stands_within : (most : ℕ) (o : Output) (s at : Space) → StandsStill most o s at → StopsWithin o (console_of (settle_tree s))
+pub stands_within : (most : ℕ) {far : Far} (o : Output) (s at : Space) → StandsStill most far o s at → StopsWithin o (console_of (settle_tree s))
 stands_within most o s at still =
     let rest = settled_begins at in
     let all : console_of (settle_tree s) ≡ console_of at ++ rest.0 = ap console_of (sym still.same) ∙ rest.1 in

@@ -74,10 +74,10 @@ moment_in text = if nat_lt (position_or_len is_colon text) (length text)
 
 -- the most bytes that are shown, and the most digits of that number
 abbrev pub most_bytes : ℕ
-most_bytes = 65536
+most_bytes = 4194304
 
 abbrev pub most_digits_of_bytes : ℕ
-most_digits_of_bytes = 5
+most_digits_of_bytes = 7
 
 -- 1 to 8 hexadecimal digits, in either case
 abbrev pub is_hexadecimal : Text → Bool
@@ -175,7 +175,7 @@ pub record Command : Type 0 where
   pub script : Text
   pub source : Option Text
 
--- events are counted from 1, and from 1 to 65,536 bytes are shown
+-- events are counted from 1, and from 1 to 4,194,304 bytes are shown
 abbrev pub IsCounted : Question → Type 0
 IsCounted (at_moment m bytes) = IfSome m.event (λ k. 1 ≤ k) × IfSome bytes (λ b. (1 ≤ b.count) × (b.count ≤ most_bytes))
 IsCounted (trace_of path from to) = (1 ≤ from) × (1 ≤ to)

@@ -54,6 +54,6 @@ pub struct Moment {
 pub struct Bytes {
     /// The address of the first one.
     pub address: u32,
-    /// How many there are: 1 to 65,536.
+    /// How many there are: 1 to 4,194,304.
     pub count: u32,
 }

@@ -18,9 +18,9 @@ const MOST_DIGITS: usize = 10;
 const MOST_HEXADECIMAL: usize = 8;
 
 // The most bytes that are shown, and the most digits of that number.
-const MOST_BYTES: u32 = 65_536;
+const MOST_BYTES: u32 = 4_194_304;
 
-const MOST_DIGITS_OF_BYTES: usize = 5;
+const MOST_DIGITS_OF_BYTES: usize = 7;
 
 // The path of a schedule that has no other.
 fn only_path(paths: Vec<Path>) -> Option<Path>
@@ -124,7 +124,7 @@ fn address_in(text: &str) -> Option<u32>
     }
 }
 
-// How many bytes 1 to 5 digits write.
+// How many bytes 1 to 7 digits write.
 fn count_in(digits: &str) -> Option<u32>
     ensures { result ≡ count_in digits.now }
 {

@@ -40,15 +40,41 @@ impl Write for Narrow {
     }
 }
 
+/// A writer that is interrupted at its first call, and takes all of each later one.
+#[derive(Drop)]
+struct Interrupted {
+    taken: Vec<u8>,
+    was: bool,
+}
+
+impl Write for Interrupted {
+    fn write(&mut self, piece: &[u8]) -> io::Result<usize> {
+        if !self.was {
+            self.was = true;
+            return Err(io::ErrorKind::Interrupted.into());
+        }
+        match self.taken.extend_from_slice(piece) {
+            Ok(()) => Ok(piece.len()),
+            Err(_) => Err(io::ErrorKind::OutOfMemory.into()),
+        }
+    }
+
+    fn flush(&mut self) -> io::Result<()> {
+        Ok(())
+    }
+}
+
 /// More bytes than one turn reads.
 static LONG: [u8; 9000] = [7; 9000];
 
-/// Some files with known bytes. It counts the bytes that were read since a file was opened, and fails in the middle of "torn".
+/// Some files with known bytes. It counts the bytes that were read since a file was opened, fails in the middle of "torn", and is interrupted once before
+/// the first byte of "halting".
 #[derive(Drop)]
 struct Shelf {
     left: &'static [u8],
     read: usize,
     is_torn: bool,
+    is_halting: bool,
 }
 
 fn bytes_of(name: &str) -> Option<&'static [u8]> {
@@ -57,6 +83,7 @@ fn bytes_of(name: &str) -> Option<&'static [u8]> {
         "two" => Some(b"defgh"),
         "none" => Some(b""),
         "long" | "torn" => Some(&LONG),
+        "halting" => Some(b"abc"),
         _ => None,
     }
 }
@@ -73,12 +100,17 @@ impl FileReader for Shelf {
         self.left = bytes;
         self.read = 0;
         self.is_torn = name == "torn";
+        self.is_halting = name == "halting";
         Ok(())
     }
 
     fn read(&mut self, buffer: &mut [u8]) -> io::Result<usize> {
         if self.is_torn && self.read > 0 {
             return Err(io::ErrorKind::Other.into());
+        }
+        if self.is_halting {
+            self.is_halting = false;
+            return Err(io::ErrorKind::Interrupted.into());
         }
         let count = self.left.read(buffer)?;
         self.read = self.read.saturating_add(count);
@@ -186,6 +218,7 @@ fn a_shelf_of_files(rt: HostRuntime) {
         left: b"",
         read: 0,
         is_torn: false,
+        is_halting: false,
     };
     let mut files = FileLoader::over(rt.alloc(), shelf);
     let large = |read| Err(LoadError::TooLarge { read });
@@ -197,6 +230,7 @@ fn a_shelf_of_files(rt: HostRuntime) {
     one_read(&rt, &mut files, "long", 9000, Ok(&LONG), 9000);
     one_read(&rt, &mut files, "long", 4096, large(4097), 4097);
     one_read(&rt, &mut files, "long", 8999, large(9000), 9000);
+    one_read(&rt, &mut files, "halting", 3, Ok(b"abc"), 3);
     one_read(&rt, &mut files, "torn", 9000, Err(LoadError::Failed), 4096);
     one_read(&rt, &mut files, "three", 9, Err(LoadError::Failed), 4096);
 }
@@ -254,6 +288,17 @@ fn a_writer_that_fails_at_once(rt: HostRuntime) {
     let failed = Err(SinkError::Failed);
     narrow_write(&rt, &mut writer, b"abc", failed, b"");
     narrow_write(&rt, &mut writer, b"abc", Ok(3), b"abc");
+}
+
+#[test]
+fn a_writer_that_is_interrupted(rt: HostRuntime) {
+    let mut writer = Interrupted {
+        taken: Vec::new(rt.alloc()),
+        was: false,
+    };
+    let wrote = StdSink::new(&mut writer).write(b"abc");
+    assert_eq!(rt; wrote, Ok(3));
+    assert_bytes(&rt, &writer.taken, b"abc");
 }
 
 #[test]

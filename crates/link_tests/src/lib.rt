@@ -6,4 +6,6 @@ mod any_order;
 #[cfg(test)]
 mod carrying;
 #[cfg(test)]
+mod ends;
+#[cfg(test)]
 mod frames;

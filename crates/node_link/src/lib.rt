@@ -10,8 +10,6 @@ mod link;
 mod links;
 mod receiver;
 mod sender;
-#[cfg(test)]
-mod tests;
 mod way;
 
 pub use event::LinkEvent;

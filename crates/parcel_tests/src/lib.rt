@@ -7,4 +7,6 @@ mod faults;
 #[cfg(test)]
 mod lists;
 #[cfg(test)]
+mod nodes;
+#[cfg(test)]
 mod tops;

@@ -1,4 +1,4 @@
-//! Tests of a board in code: results that are handed in by hand, the history that a whole run leaves, and seats that take their turns by hand and in threads.
+//! Tests of a pool and of a board in code: jobs that workers do, a board's turns by hand, the history that a whole run leaves, and seats that take their turns by hand and in threads.
 #![tactic(auto)]
 
 #[cfg(test)]
@@ -13,3 +13,5 @@ mod seats_at_work;
 mod seats_by_hand;
 #[cfg(test)]
 mod test_board;
+#[cfg(test)]
+mod workers;

@@ -39,14 +39,6 @@ thread: lui t0, 2
         .byte 0
 ";
 
-/// One space, which returns 7.
-pub(crate) const RETURN_SEVEN: &[u8] = b"
-.segment 0x1000 1
-        addi a7, zero, 3
-        addi a0, zero, 7
-        ecall
-";
-
 /// The root forks process 256, which forks process 513, which does not end; none waits.
 pub(crate) const FAR: &[u8] = b"
 .segment 0x1000 1
@@ -127,15 +119,6 @@ turn:   addi t1, t1, -1
         addi a7, zero, 3
         ecall
 ";
-
-/// The source of two threads, with one byte more in its last segment.
-pub(crate) fn with_one_byte_more(rt: &impl Abort, alloc: Global) -> Vec<u8> {
-    let mut source = TWO_THREADS.to_vec(alloc).expect(rt, "memory");
-    source
-        .extend_from_slice(b"        .byte 1\n")
-        .expect(rt, "memory");
-    source
-}
 
 // The tree that an image boots to, each space of which may have so many events.
 fn booted_with(rt: &impl Abort, alloc: Global, image: &Image, limit: u32) -> Space

@@ -45,14 +45,6 @@ impl Model for TestBoard {
 }
 
 impl TestJob {
-    /// The same, as if it were of this slot and ticket.
-    pub(crate) fn as_of(self, slot: usize, ticket: u64) -> TestJob {
-        let mut job = self.job;
-        job.slot = slot;
-        job.ticket = ticket;
-        TestJob { job }
-    }
-
     /// What becomes of it.
     pub(crate) fn work(self, rt: &impl Abort, alloc: Global) -> TestDone {
         let mut cache = DecodeCache::new(alloc).expect(rt, "memory");

@@ -1,5 +1,5 @@
 use det_cli::{End, Exit, det_program, status};
-use det_host::{LoadError, Loader, MemLoader, MemSink, OpenGate};
+use det_host::{MemLoader, MemSink, OpenGate};
 use std::alloc::{AllocError, Global};
 use std::process::Abort;
 use std::sync::Wait;
@@ -28,16 +28,13 @@ pub(crate) const REPORT: &str = "/ ret 00000000 00001018 6\n";
 /// The line that sums up the image of the number 0.
 pub(crate) const SUMMARY: &[u8] = b"threads 1 spaces 2 used 25495 console 64 root ret 00000001\n";
 
-/// A call of the program: its words, the bytes of its image or source, of its script and of its schedule, how many bytes the sinks take
-/// a call, and which calls of the loader, of `out` and of `err` fail. Then how it ends, and what `out` and `err` have taken.
+/// A call of the program: its words, the bytes of its image or source, how many bytes the sinks take a call, and which calls of `out` and
+/// of `err` fail. Then how it ends, and what `out` and `err` have taken. Its script and its schedule are empty.
 #[derive(Clone, Copy)]
 pub(crate) struct Row<'a> {
     pub(crate) words: &'a str,
     pub(crate) image: &'a [u8],
-    pub(crate) script: &'a [u8],
-    pub(crate) schedule: &'a [u8],
     pub(crate) most: usize,
-    pub(crate) loads: &'a [u64],
     pub(crate) outs: &'a [u64],
     pub(crate) errs: &'a [u64],
     pub(crate) end: End,
@@ -56,10 +53,7 @@ pub(crate) fn plain<'a>(
     Row {
         words,
         image,
-        script: b"",
-        schedule: b"",
         most: 65536,
-        loads: &[],
         outs: &[],
         errs: &[],
         end,
@@ -86,9 +80,9 @@ fn file(alloc: Global, name: &str, bytes: &[u8]) -> Result<(String, Vec<u8>), Al
 pub(crate) fn files_of(alloc: Global, row: &Row<'_>) -> Result<MemLoader, AllocError> {
     let mut held = Vec::new(alloc);
     held.push(file(alloc, "image", row.image)?)?;
-    held.push(file(alloc, "script", row.script)?)?;
-    held.push(file(alloc, "schedule", row.schedule)?)?;
-    Ok(MemLoader::new(alloc, held, row.loads.to_vec(alloc)?))
+    held.push(file(alloc, "script", b"")?)?;
+    held.push(file(alloc, "schedule", b"")?)?;
+    Ok(MemLoader::new(alloc, held, Vec::new(alloc)))
 }
 
 /// A sink that takes at most so many bytes a call.
@@ -103,11 +97,10 @@ fn assert_row(rt: &impl Abort, row: &Row<'_>, exit: &Exit, out: &[u8], err: &[u8
     assert_eq!(rt; [out, err], [row.out, row.err.as_bytes()], "{words}");
 }
 
-// Calls the program, asserts what the row says, and gives the loader back.
-fn called<R: AllocGlobal + Abort + Threads + Wait + Sync>(
+fn call<R: AllocGlobal + Abort + Threads + Wait + Sync>(
     rt: &R,
     row: &Row<'_>,
-) -> Result<MemLoader, AllocError> {
+) -> Result<(), AllocError> {
     let alloc = rt.alloc();
     let words = words_of(alloc, row.words)?;
     let mut files = files_of(alloc, row)?;
@@ -115,35 +108,10 @@ fn called<R: AllocGlobal + Abort + Threads + Wait + Sync>(
     let mut err = sink(alloc, row.most, row.errs)?;
     let exit = det_program(rt, &words, &mut files, &mut out, &mut err, &OpenGate);
     assert_row(rt, row, &exit, out.taken(), err.taken());
-    Ok(files)
+    Ok(())
 }
 
 /// Calls the program, and asserts what the row says.
 pub(crate) fn check<R: AllocGlobal + Abort + Threads + Wait + Sync>(rt: &R, row: &Row<'_>) {
-    match called(rt, row) {
-        Ok(_) => {}
-        Err(_) => panic!(rt; "no memory"),
-    }
-}
-
-/// The same, where the load of number `next` would fail. The first load after the call fails, so the call has asked for just the files
-/// before it.
-pub(crate) fn check_loads<R: AllocGlobal + Abort + Threads + Wait + Sync>(
-    rt: &R,
-    row: &Row<'_>,
-    next: u64,
-) {
-    match called(
-        rt,
-        &Row {
-            loads: &[next],
-            ..*row
-        },
-    ) {
-        Ok(mut files) => match files.load(rt.alloc(), "image", 65536) {
-            Err(LoadError::Failed) => {}
-            _ => panic!(rt; "another load fails"),
-        },
-        Err(_) => panic!(rt; "no memory"),
-    }
+    assert!(rt; call(rt, row).is_ok());
 }

@@ -1,4 +1,4 @@
-//! Reads and writes that fail, and sinks that take a few bytes a call.
+//! Writes that fail, and sinks that take a few bytes a call.
 
 use crate::calls::{REPORT, RETURN_SEVEN, Row, SOURCE, SUMMARY, WRITE_TWO, check, plain};
 use det_cli::{End, write_fault};
@@ -87,35 +87,6 @@ fn a_sink_may_take_one_byte_a_call(rt: HostRuntime) -> Result<(), Fail> {
     one_of_pieces(&rt, (WALK, &WRITE_TWO), b"AB", REPORT);
     one_of_pieces(&rt, (ASM, SOURCE), &RETURN_SEVEN, "");
     one_of_pieces(&rt, (BENCH, b""), SUMMARY, "");
-    Ok(())
-}
-
-// A call in which the load of this number fails.
-fn one_of_loads<R: AllocGlobal + Abort + Threads + Wait + Sync>(
-    rt: &R,
-    words: &str,
-    loads: &[u64],
-) {
-    let fault = plain(words, SOURCE, End::ReadFault, b"", "det: read fault\n");
-    let image: &[u8] = if words == ASM { SOURCE } else { &WRITE_TWO };
-    check(
-        rt,
-        &Row {
-            image,
-            loads,
-            ..fault
-        },
-    );
-}
-
-#[test]
-fn a_load_that_fails_is_a_read_fault(rt: HostRuntime) -> Result<(), Fail> {
-    one_of_loads(&rt, RUN, &[1]);
-    one_of_loads(&rt, RUN, &[2]);
-    one_of_loads(&rt, WALK, &[1]);
-    one_of_loads(&rt, WALK, &[2]);
-    one_of_loads(&rt, WALK, &[3]);
-    one_of_loads(&rt, ASM, &[1]);
     Ok(())
 }
 

@@ -1,4 +1,4 @@
-//! The workers of a pool, as the gate sees them that `det_main` is handed.
+//! The workers of a pool and of seats, as the gate sees them that `det_main` gets.
 
 use crate::calls::{Row, files_of, plain, sink, words_of};
 use det_cli::{End, det_main, det_still};
@@ -155,20 +155,12 @@ const REPORT: &str = "/ ret 00004241 00001044 24
 /1 ret 00000001 00001068 4008
 ";
 
-// The line of the image of the number 1, which two threads make.
-const SUMMARY_OF_ONE: &[u8] = b"threads 2 spaces 3 used 27955 console 64 root ret 00000002\n";
-
 #[test]
 fn two_workers_take_jobs_side_by_side(rt: HostRuntime) -> Result<(), Fail> {
     let image = image_of(rt.alloc(), TWO_LONG_THREADS)?;
-    let run = "det run --engine pool --workers 2 image script";
-    one_row(&rt, &plain(run, &image, End::Ret, b"", REPORT));
-    Ok(())
-}
-
-#[test]
-fn workers_take_jobs_and_hand_them_in(rt: HostRuntime) -> Result<(), Fail> {
-    let bench = "det bench --engine pool --workers 2 1";
-    one_row(&rt, &plain(bench, b"", End::Ret, SUMMARY_OF_ONE, ""));
+    let pool = "det run --engine pool --workers 2 image script";
+    one_row(&rt, &plain(pool, &image, End::Ret, b"", REPORT));
+    let seats = "det run --engine seats --workers 2 image script";
+    one_row(&rt, &plain(seats, &image, End::Ret, b"", REPORT));
     Ok(())
 }

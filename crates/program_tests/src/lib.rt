@@ -1,11 +1,8 @@
-//! Tests of the whole program as one call, of what no run of the built program shows: reads and writes that fail at a numbered call, how a call
-//! ends, and which files it has asked for; of rounds of any quantum; of consoles that are written as they grow; and of a pool's workers side by side. Programs and what they print are files, in the folder `cases`.
+//! Tests of the whole program as one call, of what no run of the built program shows: writes that fail at a numbered call; of rounds of any quantum; of consoles that are written as they grow; and of a pool's workers side by side. Programs and what they print are files, in the folder `cases`.
 #![tactic(auto)]
 
 #[cfg(test)]
 mod calls;
-#[cfg(test)]
-mod ends;
 #[cfg(test)]
 mod faults;
 #[cfg(test)]

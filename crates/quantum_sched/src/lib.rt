@@ -4,8 +4,6 @@
 mod commit;
 mod prepared;
 mod start;
-#[cfg(test)]
-mod tests;
 mod threads;
 
 pub use commit::qcommit;

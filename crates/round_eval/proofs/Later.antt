@@ -87,3 +87,10 @@ later_fewer s t later sound =
     let last : events_left (after_all ps s) ≡ events_left t = ap events_left leads.1 in
     let some = later.some refl in
     omega (arith, all, many, as_long, last, some)
+
+-- that there was an event need not be said
+pub some_later : (b : Bool) (s t : Space) → IsLater b s t → IsLater false s t
+some_later b s t later = record { events = later.events; reached = later.reached; some = λ e. absurd (true≢false (sym e)) }
+
+pub later_then : (a b : Bool) (s t u : Space) → IsLater a s t → IsLater b t u → IsLater false s u
+later_then a b s t u first then = then_more false false s t u (some_later a s t first) (some_later b t u then)

@@ -3,3 +3,4 @@ pub mod Later
 pub mod Onward
 pub mod Moves
 pub mod RootFirst
+pub mod Quanta

@@ -1,12 +1,12 @@
 -- Rounds in which the root goes on by itself, and what they write to its console.
-use Rattle.std.proofs.Common.{◌≡◌, ℕ, zero, suc, ◌+◌, ◌*◌, ◌-◌, ◌≤◌, ◌<◌, Bool, true, false, ◌||◌, List, [], ◌∷◌, ◌++◌, length, append_assoc, length-append, Option, Some, None, Result, Ok, Err, IfOk, OnErr, refl, sym, ◌∙◌, ap, subst, arith}
-use Rattle.std.specs.Prelude.{nat_lt}
+use Rattle.std.proofs.Common.{◌≡◌, ℕ, zero, suc, ◌+◌, ◌*◌, ◌-◌, ◌≤◌, ◌<◌, Bool, true, false, ◌||◌, List, [], ◌∷◌, ◌++◌, length, append_assoc, length-append, Option, Some, None, Result, Ok, Err, IfOk, OnErr, inl, inr, refl, sym, ◌∙◌, ap, subst, arith}
+use Rattle.std.specs.Prelude.{◌⊎◌, nat_lt}
 use Rattle.std.proofs.lemmas.Bool.Decides.{nat_tests}
 use Rattle.std.proofs.lemmas.List.{append-nil}
 use Rattle.call_model.specs.declared.Call.{Call}
 use Rattle.det_host.specs.Writing.{Output, StopsWithin, TakesPrefix}
 use Rattle.space_model.specs.Stop.{is_stopped}
-use Rattle.space_model.specs.Space.{Space, space, Top, Children, over, console_bytes}
+use Rattle.space_model.specs.Space.{Space, space, Top, Children, top_of, over, console_bytes}
 use Rattle.space_model.specs.Beginning.{fresh_top}
 use Rattle.space_model.specs.Path.{replace_top}
 use Rattle.space_model.specs.Sound.{IsSound}
@@ -18,12 +18,16 @@ use Rattle.run_model.proofs.Console.{call_devices}
 use Rattle.run_model.proofs.Fuel.{stopped_rests}
 use Rattle.report_model.specs.Report.{console_of}
 use Rattle.det_laws.specs.Leads.{Leads}
-use Rattle.demand_eval.specs.Streams.{Begins, Lags, Writes}
+use Rattle.demand_eval.specs.Streams.{Begins, ByOneEvent, Lags, Writes}
 use Rattle.demand_eval.proofs.Streams.{begins_then, writes_then}
-use Rattle.space_step.specs.Output.{GoesWithOutput}
-use Rattle.round_eval.specs.Apart.{Shows, WentWriting}
+use Rattle.space_step.specs.declared.event.Advance.{Advance}
+use Rattle.space_step.specs.declared.event.Next.{Next}
+use Rattle.space_step.specs.declared.event.Next.TheVariants as answers
+use Rattle.space_step.specs.Output.{AdvancesWithOutput, EndedWithOutput}
+use Rattle.space_step.proofs.Following.{follows_append}
+use Rattle.round_eval.specs.Apart.{ByOneQuantum, InOneQuantum, RootWithin, Shows, ShowsThen, WentWriting}
 use Rattle.round_eval.specs.Later.{IsLater}
-use Rattle.round_eval.proofs.Later.{later_settles, later_sound, then_more, went}
+use Rattle.round_eval.proofs.Later.{later_settles, later_sound, later_then, nothing, then_more, went}
 use Rattle.round_eval.proofs.Onward.{here_reaches}
 
 -- the root goes on
@@ -31,22 +35,54 @@ pub root_went : (n : ℕ) (t u : Top) (s : Space) (cs : Children) → space t cs
 root_went n t u s cs is f = went s (space u cs) n (nat_lt 0 n) (here_reaches 8 n t u s cs is f) (λ some. grind (arith, nat_tests))
 
 -- and what it writes
-pub wrote_within : (quantum n enough : ℕ) (ready output : List ℕ) (t u : Top) → GoesWithOutput 8 enough n ready output t u → ready ≡ [] → length output < enough + most_output → enough + most_output ≡ quantum * most_output + 1
-    → WentWriting quantum n output t u
-wrote_within quantum n enough ready output t u goes none bound within =
+-- as the answers of an advance have it
+brief_so : (quantum enough ran : ℕ) (o : Option Next) (output : List ℕ) (t : Top) → EndedWithOutput 8 quantum enough ran o output t → ran ≤ quantum
+brief_so quantum enough ran None output t h = omega (arith, h.0)
+brief_so quantum enough ran (Some answers.Local) output t h = h.1
+brief_so quantum enough ran (Some (answers.Meet k)) output t h = omega (arith, h.0)
+brief_so quantum enough ran (Some answers.Stopped) output t h = omega (arith, h.0)
+
+pub wrote_within : (quantum enough : ℕ) (a : Advance) (ready output : List ℕ) (t u : Top) → AdvancesWithOutput 8 quantum enough a ready output t u → ready ≡ [] → length output < enough + most_output
+    → enough + most_output ≡ quantum * most_output + 1 → WentWriting quantum a.ran output t u
+wrote_within quantum enough a ready output t u advances none bound within =
+    let goes = advances.goes in
     let all : output ≡ goes.written = goes.appended ∙ ap (λ l. l ++ goes.written) none in
-    record { follows = goes.follows; console = goes.console ∙ ap (λ l. console_in t ++ l) (sym all); few = omega (arith, bound, within) }
+    record {
+      follows = goes.follows;
+      brief = brief_so quantum enough a.ran a.next output u advances.ended;
+      console = goes.console ∙ ap (λ l. console_in t ++ l) (sym all);
+      few = omega (arith, bound, within);
+    }
 
 pub root_shows : (events n : ℕ) (t u : Top) (s : Space) (cs : Children) (written ready output : List ℕ) → space t cs ≡ s → WentWriting events n written t u → output ≡ ready ++ written → Shows events ready output s (space u cs)
-root_shows events n t u s cs written ready output is w appended = record { more = written; console = w.console ∙ ap (λ (r : Space). console_of r ++ written) is; appended = appended; few = w.few }
+root_shows events n t u s cs written ready output is w appended = record {
+  ran = n;
+  brief = w.brief;
+  follows = subst (λ (r : Space). Follows 8 n (top_of r) u) is w.follows;
+  more = written;
+  console = w.console ∙ ap (λ (r : Space). console_of r ++ written) is;
+  appended = appended;
+  few = w.few;
+}
 
 -- nothing is written
-pub shows_quiet : (events : ℕ) (ready : List ℕ) (s t : Space) → console_of t ≡ console_of s → Shows events ready ready s t
-shows_quiet events ready s t same = record { more = []; console = same ∙ sym (append-nil (console_of s)); appended = sym (append-nil ready); few = omega arith }
+pub shows_quiet : (events : ℕ) (ready : List ℕ) (s t : Space) → top_of t ≡ top_of s → Shows events ready ready s t
+shows_quiet events ready s t same = record {
+  ran = 0;
+  brief = omega arith;
+  follows = same;
+  more = [];
+  console = ap console_in same ∙ sym (append-nil (console_of s));
+  appended = sym (append-nil ready);
+  few = omega arith;
+}
 
 -- some events, and some more
 pub shows_then : (a b events : ℕ) (ready now output : List ℕ) (s t u : Space) → a + b ≤ events → Shows a ready now s t → Shows b now output t u → Shows events ready output s u
 shows_then a b events ready now output s t u within first then = record {
+  ran = first.ran + then.ran;
+  brief = omega (arith, within, first.brief, then.brief);
+  follows = follows_append 8 first.ran then.ran (top_of s) (top_of t) (top_of u) first.follows then.follows;
   more = first.more ++ then.more;
   console = then.console ∙ ap (λ l. l ++ then.more) first.console ∙ append_assoc (console_of s) first.more then.more;
   appended = then.appended ∙ ap (λ l. l ++ then.more) first.appended ∙ append_assoc ready first.more then.more;
@@ -54,14 +90,24 @@ shows_then a b events ready now output s t u within first then = record {
 }
 
 -- some events, and then others that write nothing
-pub shows_still : (events : ℕ) (ready output : List ℕ) (s t u : Space) → Shows events ready output s t → console_of u ≡ console_of t → Shows events ready output s u
-shows_still events ready output s t u shows same = record { more = shows.more; console = same ∙ shows.console; appended = shows.appended; few = shows.few }
+pub shows_before : (events : ℕ) (ready output : List ℕ) (s t u : Space) → Shows events ready output s t → console_of u ≡ console_of t → ShowsThen events ready output s u
+shows_before events ready output s t u shows same = (t, (shows, same))
+
+pub shows_still : (events : ℕ) (ready output : List ℕ) (s t u : Space) → ShowsThen events ready output s t → console_of u ≡ console_of t → ShowsThen events ready output s u
+shows_still events ready output s t u shows same = (shows.0, (shows.1.0, same ∙ shows.1.1))
 
 -- all of it, where nothing was ready
-pub shows_all : (events : ℕ) (ready output : List ℕ) (s t : Space) → ready ≡ [] → Shows events ready output s t → (console_of t ≡ console_of s ++ output) × (length output ≤ events * most_output)
-shows_all events ready output s t none shows =
-    let all : output ≡ shows.more = shows.appended ∙ ap (λ l. l ++ shows.more) none in
-    (shows.console ∙ ap (λ l. console_of s ++ l) (sym all), subst (λ l. length l ≤ events * most_output) (sym all) shows.few)
+pub shows_all : (events : ℕ) (ready output : List ℕ) (s t : Space) → ready ≡ [] → ShowsThen events ready output s t
+    → (console_of t ≡ console_of s ++ output) × ((length output ≤ events * most_output) × RootWithin events s t)
+shows_all events ready output s t none then =
+    let shows = then.1.0 in
+    let all : output ≡ shows.more = shows.appended ∙ ap (λ l. l ++ shows.more) none in (
+      then.1.1 ∙ shows.console ∙ ap (λ l. console_of s ++ l) (sym all),
+      (
+        subst (λ l. length l ≤ events * most_output) (sym all) shows.few,
+        record { ran = shows.ran; brief = shows.brief; top = top_of then.0; follows = shows.follows; wrote = then.1.1 },
+      ),
+    )
 
 -- a call of the root leaves its console
 after_call : (t : Top) (cs : Children) (x : NextEvent) (done : Bool) → next 8 t ≡ x → console_of (event 8 x (space t cs)) ≡ console_of (space t cs) → console_of (where_some (ready_call x cs) (event 8 x (space t cs)) (space t cs)) ≡ console_of (space t cs)
@@ -117,14 +163,20 @@ either_later a b r s t is later = subst (λ x. IsLater x s t) (sym is) later
 pub beside_shows : (events n : ℕ) (t t' v : Top) (cs ds : Children) (s : Space) (written ready output : List ℕ) → space t cs ≡ s → t' ≡ t → WentWriting events n written t' v → output ≡ ready ++ written
     → Shows events ready output s (space v ds)
 beside_shows events n t t' v cs ds s written ready output is same w appended =
-    record { more = written; console = w.console ∙ ap (λ x. console_in x ++ written) same ∙ ap (λ (r : Space). console_of r ++ written) is; appended = appended; few = w.few }
-
-pub below_quiet : (t : Top) (cs ds : Children) (s : Space) → space t cs ≡ s → console_of (space t ds) ≡ console_of s
-below_quiet t cs ds s is = ap console_of is
+    record {
+      ran = n;
+      brief = w.brief;
+      follows = subst (λ x. Follows 8 n x v) (same ∙ ap top_of is) w.follows;
+      more = written;
+      console = w.console ∙ ap (λ x. console_in x ++ written) same ∙ ap (λ (r : Space). console_of r ++ written) is;
+      appended = appended;
+      few = w.few;
+    }
 
 -- a sink that fails behind a round
-pub fails_behind : (most : ℕ) (some : Bool) (s r : Space) (more : List ℕ) (o : Output) → IsSound s → IsLater some s r → console_of r ≡ console_of s ++ more → length more ≤ most → StopsWithin o more → Lags most o s r
-fails_behind most some s r more o ok later wrote few stops = record {
+pub fails_behind : (most quantum : ℕ) (some : Bool) (s r : Space) (more : List ℕ) (o : Output) → IsSound s → IsLater some s r → console_of r ≡ console_of s ++ more → length more ≤ most → RootWithin quantum s r → StopsWithin o more
+    → Lags most (ByOneQuantum quantum) o s r
+fails_behind most quantum some s r more o ok later wrote few root stops = record {
   sound = later_sound some s r later ok;
   same = later_settles some s r later ok;
   more = more;
@@ -133,14 +185,19 @@ fails_behind most some s r more o ok later wrote few stops = record {
   taken = stops.0.1.1;
   not_all = stops.0.1.0;
   near = omega (arith, few);
+  went = (s, (nothing s, inl (record { covered = omega arith; root = root })));
   fault = stops.1;
 }
 
 pub begins_behind : (some : Bool) (s r : Space) (more : List ℕ) (o : Output) → IsSound s → IsLater some s r → console_of r ≡ console_of s ++ more → TakesPrefix o.taken_before o.taken_after more → Begins o s
 begins_behind some s r more o ok later wrote prefix = record { at = r; same = later_settles some s r later ok; more = more; begins = wrote; prefix = prefix }
 
--- a bound that holds in more events
-pub lags_more : (most quantum : ℕ) (o : Output) (s at : Space) → 1 ≤ quantum → Lags most o s at → Lags (quantum * most) o s at
+-- from a tree that a schedule led to
+pub one_quantum_from : (some : Bool) (quantum count : ℕ) (s m at : Space) → IsLater some s m → ByOneQuantum quantum count m at → ByOneQuantum quantum count s at
+one_quantum_from some quantum count s m at later h = (h.0, (later_then some false s m h.0 later h.1.0, h.1.1))
+
+-- what holds on demand holds in rounds
+pub lags_more : (most quantum : ℕ) (o : Output) (s at : Space) → 1 ≤ quantum → Lags most ByOneEvent o s at → Lags (quantum * most) (ByOneQuantum quantum) o s at
 lags_more most quantum o s at some lags = record {
   sound = lags.sound;
   same = lags.same;
@@ -150,6 +207,7 @@ lags_more most quantum o s at some lags = record {
   taken = lags.taken;
   not_all = lags.not_all;
   near = omega (arith, lags.near, at_least most quantum some);
+  went = (s, (nothing s, inr lags.went));
   fault = lags.fault;
 }
   where

@@ -1,8 +1,8 @@
 ghost use Rattle.std.specs.Prelude.{◌≡◌, ◌*◌, ◌≤◌, ◌++◌, ◌||◌, [], length, IfOk, OnOk};
-ghost use Rattle.space_model.specs.Space.{Space};
+ghost use Rattle.space_model.specs.Space.{Space, top_of};
 ghost use Rattle.report_model.specs.Report.{console_of};
 ghost use Rattle.run_model.specs.Console.{most_output};
-ghost use Rattle.round_eval.specs.Apart.{Shows};
+ghost use Rattle.round_eval.specs.Apart.{RootWithin, Shows, ShowsThen};
 ghost use Rattle.round_eval.specs.Later.{IsLater};
 
 use crate::beside::{RootDone, begin_root, end_root, run_root};
@@ -66,7 +66,7 @@ fn round_below(
     space: &mut Space,
 ) -> Result<bool, AllocError>
     ensures ok { IfOk result (λ some. IsLater some space.old space.new) }
-    ensures console { OnOk result (console_of space.new ≡ console_of space.old) }
+    ensures root { OnOk result (top_of space.new ≡ top_of space.old) }
 {
     let place = Top::fresh(engine.alloc, NO_MATTER);
     let root = mem::replace(&mut space.top, place);
@@ -87,9 +87,11 @@ fn round_beside(
     ensures ok { IfOk result (λ some. IsLater some space.old space.new) }
     ensures shows { OnOk result (Shows events output.old.items output.new.items space.old space.new) }
 {
+    engine.pace.keep_step();
+    let pace = engine.pace.share()?;
     let place = Top::fresh(engine.alloc, NO_MATTER);
     let root = mem::replace(&mut space.top, place);
-    let begun = begin_root(rt, engine.alloc, root, events);
+    let begun = begin_root(rt, engine.alloc, root, events, pace);
     let below = round(rt, engine, space);
     let RootDone {
         top,
@@ -121,7 +123,6 @@ fn go_further(
         return Ok(some);
     }
     if engine.hints.some_run() {
-        engine.hints.hurry();
         round_beside(rt, engine, space, events, output)
     } else {
         advance_root(engine, space, events, output)
@@ -140,8 +141,10 @@ fn go_all(
     ensures ok { IfOk result (λ some. IsLater some space.old space.new) }
     ensures shows { OnOk result (Shows quantum output.old.items output.new.items space.old space.new) }
 {
+    engine.pace.begin();
     let first = quantum.min(TRIAL);
     let went = advance_root(engine, space, first, output)?;
+    engine.note_root(went);
     let more = go_further(rt, engine, space, quantum - first, output)?;
     Ok(went || more)
 }
@@ -172,7 +175,7 @@ fn round_hinted(
 ) -> Result<bool, AllocError>
     requires { 1 ≤ quantum }
     ensures ok { IfOk result (λ some. IsLater some space.old space.new) }
-    ensures shows { OnOk result (Shows quantum output.old.items output.new.items space.old space.new) }
+    ensures shows { OnOk result (ShowsThen quantum output.old.items output.new.items space.old space.new) }
 {
     let went = go_all(rt, engine, space, quantum, output)?;
     let met = meet_root(engine, space)?;
@@ -203,7 +206,7 @@ fn round_found(
 ) -> Result<bool, AllocError>
     requires { 1 ≤ quantum }
     ensures ok { IfOk result (λ some. IsLater some space.old space.new) }
-    ensures shows { OnOk result (Shows quantum output.old.items output.new.items space.old space.new) }
+    ensures shows { OnOk result (ShowsThen quantum output.old.items output.new.items space.old space.new) }
 {
     let hinted = round_hinted(rt, engine, space, quantum, output)?;
     if hinted {
@@ -229,6 +232,7 @@ pub(crate) fn round_apart(
     ensures ok { IfOk result (λ some. IsLater some space.old space.new) }
     ensures console { OnOk result (console_of space.new ≡ console_of space.old ++ output.new.items) }
     ensures bound { OnOk result (length output.new.items ≤ quantum * most_output) }
+    ensures root { OnOk result (RootWithin quantum space.old space.new) }
 {
     let some = round_found(rt, engine, space, quantum, output)?;
     Ok(some)

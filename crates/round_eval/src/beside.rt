@@ -4,6 +4,7 @@ ghost use Rattle.space_model.specs.Space.{Top};
 ghost use Rattle.run_model.specs.Console.{most_output};
 ghost use Rattle.round_eval.specs.Apart.{IsForRoot, RootWent, WentWriting};
 
+use crate::pace::Pace;
 use call_model::limits::GREATEST_LENGTH;
 use space_step::{Advance, DecodeCache, Next, advance_with_output};
 use space_tree::Top;
@@ -70,14 +71,15 @@ pub(crate) fn run_root(
     }
 }
 
-// A root goes on in a thread that has decoded nothing.
-fn run_new(alloc: Global, mut top: Top, quantum: u32) -> Result<RootDone, AllocError>
+// A root goes on in a thread that has decoded nothing. Behind that the spaces below it are asked to end.
+fn run_new(alloc: Global, mut top: Top, quantum: u32, pace: &Pace) -> Result<RootDone, AllocError>
     requires { 1 ≤ quantum }
     ensures { IfOk result (λ done. RootWent quantum top done) }
 {
     let mut cache = DecodeCache::new(alloc)?;
     let mut output = Vec::new(alloc);
     let (ran, came_through) = run_root(&mut top, quantum, &mut cache, &mut output)?;
+    pace.ask_to_end();
     Ok(RootDone {
         top,
         ran,
@@ -87,7 +89,13 @@ fn run_new(alloc: Global, mut top: Top, quantum: u32) -> Result<RootDone, AllocE
 }
 
 /// A thread for a root that is to go on for the quantum at most; where none can be started, it goes on here.
-pub(crate) fn begin_root(rt: &impl Threads, alloc: Global, top: Top, quantum: u32) -> BegunRoot
+pub(crate) fn begin_root(
+    rt: &impl Threads,
+    alloc: Global,
+    top: Top,
+    quantum: u32,
+    pace: Pace,
+) -> BegunRoot
     requires { 1 ≤ quantum }
     ensures { IsForRoot quantum top result }
 {
@@ -98,7 +106,7 @@ pub(crate) fn begin_root(rt: &impl Threads, alloc: Global, top: Top, quantum: u3
     let work = move || -> Result<RootDone, AllocError>
         requires { 1 ≤ quantum }
         ensures { IfOk result (λ done. RootWent quantum top done) }
-    { run_new(alloc, top, quantum) };
+    { run_new(alloc, top, quantum, &pace) };
     match thread::spawn_with(rt, promise, work) {
         Ok(handle) => BegunRoot::Running(handle),
         Err(SpawnError { value }) => BegunRoot::Ended(value()),

@@ -19,14 +19,6 @@ pub(crate) struct Runner {
     pub(crate) came_through: bool,
 }
 
-/// A space that is to go on, and for how many events.
-#[derive(Drop)]
-pub(crate) struct Turn {
-    pub(crate) path: Path,
-    pub(crate) left: u32,
-    pub(crate) ghost some: { 1 ≤ left },
-}
-
 /// Where to look next: the spaces that run, and those whose calls may find ready what they wait for. What is missing here is found by a search of
 /// the tree, and what is here for nothing changes nothing; so no clause speaks of it.
 #[derive(Drop)]
@@ -127,6 +119,19 @@ impl Hints {
     /// Whether a space may run.
     pub(crate) fn some_run(&self) -> bool {
         !self.running.is_empty()
+    }
+
+    /// Whether a call may find ready what it waits for.
+    pub(crate) fn some_calls(&self) -> bool {
+        !self.calls.is_empty()
+    }
+
+    /// These go on in the next round.
+    pub(crate) fn keep(&mut self, turns: Vec<Path>) -> Result<(), AllocError> {
+        for path in turns {
+            self.runs(path, true)?;
+        }
+        Ok(())
     }
 
     /// How many events a turn has, which is of several quanta where nobody waits.

@@ -11,6 +11,7 @@ mod hints;
 mod job;
 mod job_run;
 mod moving;
+mod pace;
 mod round;
 mod running;
 mod side_by_side;

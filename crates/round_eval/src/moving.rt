@@ -1,9 +1,9 @@
-ghost use Rattle.std.specs.Prelude.{◌≡◌, true, IfOk, IfSome, IsNone, OnOk};
+ghost use Rattle.std.specs.Prelude.{◌≡◌, ◌≤◌, true, IfOk, IfSome, IsNone, OnOk};
 ghost use Rattle.std.specs.List.{All};
 ghost use Rattle.det_laws.specs.Moved.{AreOut, HasRunning, HasSpace, IsTaken, paths_of, with_tops};
 ghost use Rattle.round_eval.specs.Jobs.{dones_out, jobs_out};
 
-use crate::hints::{Hints, Turn};
+use crate::hints::Hints;
 use crate::job::{Done, Job};
 use space_tree::{Path, Space, Top, at, swap_top};
 use std::alloc::{AllocError, Global};
@@ -34,17 +34,18 @@ fn take_out(alloc: Global, space: &mut Space, path: &Path) -> Option<Top>
     }
 }
 
-/// The tops of the spaces that are to go on and run, each once, out of their tree.
+/// The tops of the spaces that are to go on and run, each once, out of their tree, for so many events at most.
 pub(crate) fn take_all(
     alloc: Global,
     space: &mut Space,
-    turns: Vec<Turn>,
+    turns: Vec<Path>,
+    left: u32,
 ) -> Result<Vec<Job>, AllocError>
+    requires { 1 ≤ left }
     ensures { IfOk result (λ jobs. AreOut (jobs_out jobs.items) space.old space.new) }
 {
     let mut jobs = Vec::new(alloc);
-    for turn in turns {
-        let Turn { path, left } = turn;
+    for path in turns {
         if let Some(top) = take_out(alloc, space, &path) {
             jobs.push(Job { path, top, left })?;
         }

@@ -3,7 +3,7 @@ ghost use Rattle.round_eval.specs.Later.{IsLater};
 
 use crate::engine::Engine;
 use crate::going::go_on;
-use crate::hints::{Runner, Turn};
+use crate::hints::Runner;
 use crate::moving::{put_all, take_all};
 use crate::side_by_side::{any_ran, run_all};
 use det_core::meet;
@@ -21,21 +21,17 @@ fn try_out(
     engine: &mut Engine,
     space: &mut Space,
     runner: Runner,
-    turns: &mut Vec<Turn>,
+    turns: &mut Vec<Path>,
 ) -> Result<bool, AllocError>
     ensures { IfOk result (λ some. IsLater some space.old space.new) }
 {
-    let quantum = engine.quantum;
-    let first = quantum.min(TRIAL);
+    let first = engine.pace.quantum.min(TRIAL);
     let Some(Advance { ran, next }) = go_on(space, &runner.path, first, &mut engine.cache)? else {
         return Ok(false);
     };
     let next = next.ok_or(AllocError)?;
-    if next == Next::Local && first < quantum {
-        turns.push(Turn {
-            path: runner.path,
-            left: quantum - first,
-        })?;
+    if next == Next::Local {
+        turns.push(runner.path)?;
     } else {
         engine.hints.note(runner.path, next)?;
     }
@@ -48,17 +44,14 @@ fn begin(
     engine: &mut Engine,
     space: &mut Space,
     runner: Runner,
-    turns: &mut Vec<Turn>,
+    turns: &mut Vec<Path>,
 ) -> Result<bool, AllocError>
     ensures { IfOk result (λ some. IsLater some space.old space.new) }
 {
     if !runner.came_through {
         return try_out(engine, space, runner, turns);
     }
-    turns.push(Turn {
-        path: runner.path,
-        left: engine.hints.turn_of(engine.quantum),
-    })?;
+    turns.push(runner.path)?;
     Ok(false)
 }
 
@@ -67,7 +60,7 @@ fn begin(
 fn begin_all(
     engine: &mut Engine,
     space: &mut Space,
-    turns: &mut Vec<Turn>,
+    turns: &mut Vec<Path>,
 ) -> Result<bool, AllocError>
     ensures { IfOk result (λ some. IsLater some space.old space.new) }
 {
@@ -79,53 +72,22 @@ fn begin_all(
     Ok(some)
 }
 
-// A turn in its place, in the caller's thread.
-#[tactic(auto, using(crate::proofs::Later::nothing_new, crate::proofs::Later::went))]
-fn go_alone(engine: &mut Engine, space: &mut Space, turn: Turn) -> Result<bool, AllocError>
-    ensures { IfOk result (λ some. IsLater some space.old space.new) }
-{
-    let Turn { path, left } = turn;
-    let Some(Advance { ran, next }) = go_on(space, &path, left, &mut engine.cache)? else {
-        return Ok(false);
-    };
-    engine.hints.note(path, next.ok_or(AllocError)?)?;
-    Ok(ran > 0)
-}
-
 // Turns side by side, out of the tree.
 #[tactic(auto, using(crate::proofs::Jobs::all_back, crate::proofs::Later::went))]
 fn go_together(
     rt: &(impl Threads + Sync),
     engine: &mut Engine,
     space: &mut Space,
-    turns: Vec<Turn>,
+    turns: Vec<Path>,
 ) -> Result<bool, AllocError>
     ensures { IfOk result (λ some. IsLater some space.old space.new) }
 {
-    let jobs = take_all(engine.alloc, space, turns)?;
+    let most = engine.most_events(turns.len());
+    let jobs = take_all(engine.alloc, space, turns, most)?;
     let dones = run_all(rt, engine, jobs)?;
     let some = any_ran(&dones);
     put_all(space, dones, &mut engine.hints)?;
     Ok(some)
-}
-
-// The turns of a round: one alone in its place, more of them side by side.
-#[tactic(auto, using(crate::proofs::Later::nothing))]
-fn take_turns(
-    rt: &(impl Threads + Sync),
-    engine: &mut Engine,
-    space: &mut Space,
-    mut turns: Vec<Turn>,
-) -> Result<bool, AllocError>
-    ensures { IfOk result (λ some. IsLater some space.old space.new) }
-{
-    if turns.len() > 1 {
-        return go_together(rt, engine, space, turns);
-    }
-    match turns.pop() {
-        Some(turn) => go_alone(engine, space, turn),
-        None => Ok(false),
-    }
 }
 
 // The call at a path meets its children, where its time has come.
@@ -164,7 +126,11 @@ fn go_all(
 {
     let mut turns = Vec::new(engine.alloc);
     let began = begin_all(engine, space, &mut turns)?;
-    let went = take_turns(rt, engine, space, turns)?;
+    if engine.tries_calls(began) {
+        engine.hints.keep(turns)?;
+        return Ok(began);
+    }
+    let went = go_together(rt, engine, space, turns)?;
     Ok(began || went)
 }
 

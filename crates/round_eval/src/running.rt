@@ -21,6 +21,7 @@ fn next_round(
 ) -> Result<bool, AllocError>
     ensures { IfOk result (λ some. IsLater some space.old space.new) }
 {
+    engine.pace.begin();
     let hinted = round(rt, engine, space)?;
     if hinted {
         return Ok(hinted);

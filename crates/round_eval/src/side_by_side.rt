@@ -5,6 +5,7 @@ ghost use Rattle.round_eval.specs.Jobs.{WentOn, events_of};
 use crate::engine::Engine;
 use crate::job::{Done, Job};
 use crate::job_run::run;
+use crate::pace::Pace;
 use crate::starting::{begin_each, end_each};
 use rayon::prelude::*;
 use space_step::DecodeCache;
@@ -12,11 +13,15 @@ use std::alloc::{AllocError, Global};
 use std::thread::Threads;
 
 // As `run`, with the cache of the thread, if there was memory for it.
-fn run_in_thread(job: Job, cache: &mut Result<DecodeCache, AllocError>) -> Result<Done, AllocError>
+fn run_in_thread(
+    job: Job,
+    pace: &Pace,
+    cache: &mut Result<DecodeCache, AllocError>,
+) -> Result<Done, AllocError>
     ensures { IfOk result (λ done. WentOn job done) }
 {
     match cache {
-        Ok(cache) => run(job, cache),
+        Ok(cache) => run(job, pace, cache),
         Err(_) => Err(AllocError),
     }
 }
@@ -25,6 +30,7 @@ fn run_in_thread(job: Job, cache: &mut Result<DecodeCache, AllocError>) -> Resul
 fn run_pieces(
     rt: &(impl Threads + Sync),
     alloc: Global,
+    pace: &Pace,
     jobs: Vec<Job>,
 ) -> Result<Vec<Done>, AllocError>
     ensures { IfOk result (λ v. AllZip WentOn jobs.items v.items) }
@@ -35,7 +41,7 @@ fn run_pieces(
             || -> Result<DecodeCache, AllocError> { DecodeCache::new(alloc) },
             |cache: &mut Result<DecodeCache, AllocError>, job: Job| -> Result<Done, AllocError>
                 ensures { IfOk result (λ done. WentOn job done) }
-            { run_in_thread(job, cache) },
+            { run_in_thread(job, pace, cache) },
         )
         .collect::<Result<Vec<Done>, AllocError>>(rt, alloc)?
 }
@@ -52,8 +58,8 @@ fn run_each(
     let Some(last) = jobs.pop() else {
         return Ok(Vec::new(engine.alloc));
     };
-    let begun = begin_each(rt, engine.alloc, jobs)?;
-    let own = run(last, &mut engine.cache);
+    let begun = begin_each(rt, engine, jobs)?;
+    let own = run(last, &engine.pace, &mut engine.cache);
     let mut dones = end_each(rt, engine.alloc, begun)?;
     dones.push(own?)?;
     Ok(dones)
@@ -69,7 +75,7 @@ pub(crate) fn run_all(
     ensures { IfOk result (λ v. AllZip WentOn jobs.items v.items) }
 {
     if jobs.len() > engine.processors {
-        run_pieces(rt, engine.alloc, jobs)
+        run_pieces(rt, engine.alloc, &engine.pace, jobs)
     } else {
         run_each(rt, engine, jobs)
     }

@@ -1,4 +1,4 @@
-ghost use Rattle.std.specs.Prelude.{◌≡◌, ◌*◌, ◌≤◌, true, IfOk, IsErrOf, OnOk, OnErr};
+ghost use Rattle.std.specs.Prelude.{◌≡◌, ◌*◌, ◌≤◌, true, false, IfOk, IsErrOf, OnOk, OnErr};
 ghost use Rattle.space_model.specs.Space.{Space, is_settled};
 ghost use Rattle.space_model.specs.Sound.{IsSound};
 ghost use Rattle.report_model.specs.Report.{console_of};
@@ -7,6 +7,7 @@ ghost use Rattle.run_model.specs.Demand.{settle_tree};
 ghost use Rattle.det_host.specs.Outside.{Takes};
 ghost use Rattle.det_host.specs.Writing.{TakesPrefix, output_of};
 ghost use Rattle.demand_eval.specs.Streams.{Begins, Lags, StandsStill, Writes};
+ghost use Rattle.round_eval.specs.Apart.{ByOneQuantum};
 ghost use Rattle.round_eval.specs.Later.{IsLater};
 
 use crate::apart::round_apart;
@@ -29,7 +30,7 @@ fn round_to<O: Sink>(
     requires quantum { 1 ≤ quantum }
     ensures ok { IfOk result (λ some. IsLater some space.old space.new) }
     ensures writes { OnOk result (Writes (output_of O.taken O.faults out.old out.new) space.old space.new) }
-    ensures failed { IsErrOf result SinkError.Failed → Lags (quantum * most_output) (output_of O.taken O.faults out.old out.new) space.old space.new }
+    ensures failed { IsErrOf result SinkError.Failed → Lags (quantum * most_output) (ByOneQuantum quantum) (output_of O.taken O.faults out.old out.new) space.old space.new }
     ensures begins { OnErr result (Begins (output_of O.taken O.faults out.old out.new) space.old) }
     ensures later { O.faults out.old ≤ O.faults out.new }
 {
@@ -54,9 +55,10 @@ fn go_to<O: Sink>(
     requires sound { IsSound space.old }
     requires quantum { 1 ≤ quantum }
     ensures same { OnOk result (settle_tree space.new ≡ settle_tree space.old) }
+    ensures reached { OnOk result (IsLater false space.old space.new) }
     ensures sound { OnOk result (IsSound space.new) }
     ensures writes { OnOk result (Writes (output_of O.taken O.faults out.old out.new) space.old space.new) }
-    ensures failed { IsErrOf result SinkError.Failed → Lags (quantum * most_output) (output_of O.taken O.faults out.old out.new) space.old space.new }
+    ensures failed { IsErrOf result SinkError.Failed → Lags (quantum * most_output) (ByOneQuantum quantum) (output_of O.taken O.faults out.old out.new) space.old space.new }
     ensures begins { OnErr result (Begins (output_of O.taken O.faults out.old out.new) space.old) }
     ensures later { O.faults out.old ≤ O.faults out.new }
 {
@@ -86,7 +88,7 @@ fn rounds_on<O: Sink>(
     ensures settled { IfOk result (λ s. is_settled s ≡ true) }
     ensures sound { IfOk result IsSound }
     ensures writes { IfOk result (λ s. Writes (output_of O.taken O.faults out.old out.new) space s) }
-    ensures write { (at : Space) → IsErrOf result (StreamFault.Write at) → Lags (quantum * most_output) (output_of O.taken O.faults out.old out.new) space at }
+    ensures write { (at : Space) → IsErrOf result (StreamFault.Write at) → Lags (quantum * most_output) (ByOneQuantum quantum) (output_of O.taken O.faults out.old out.new) space at }
     ensures begins { OnErr result (Begins (output_of O.taken O.faults out.old out.new) space) }
     ensures later { O.faults out.old ≤ O.faults out.new }
 {
@@ -102,8 +104,8 @@ fn rounds_on<O: Sink>(
 /// the round wrote. The sink is never called with nothing to write. It takes exactly the console of the settled tree; at an error some first
 /// bytes of it. In a round the root goes on for the quantum at most, before the other spaces do.
 ///
-/// Where the sink fails, the tree stands still: it settles to the same, the sink has not taken all of its console, and is behind by what the
-/// console held at first, or by one round, which writes at most 65,536 bytes for each event of the quantum.
+/// Where the sink fails, the tree stands still: it settles to the same, and the sink has not taken all of its console. Either no event has happened, or the
+/// sink has taken all that the console held before the last round, in which the root had at most the quantum of local events.
 pub fn rounds_to<O: Sink>(
     rt: &(impl Threads + Sync),
     alloc: Global,
@@ -117,7 +119,7 @@ pub fn rounds_to<O: Sink>(
     ensures settled { IfOk result (λ s. is_settled s ≡ true) }
     ensures sound { IfOk result IsSound }
     ensures written { IfOk result (λ s. Takes (O.taken out.old) (O.taken out.new) (console_of s)) }
-    ensures write { (at : Space) → IsErrOf result (StreamFault.Write at) → StandsStill (quantum * most_output) (output_of O.taken O.faults out.old out.new) space at }
+    ensures write { (at : Space) → IsErrOf result (StreamFault.Write at) → StandsStill (quantum * most_output) (ByOneQuantum quantum) (output_of O.taken O.faults out.old out.new) space at }
     ensures prefix { TakesPrefix (O.taken out.old) (O.taken out.new) (console_of (settle_tree space)) }
     ensures later { O.faults out.old ≤ O.faults out.new }
 {

@@ -7,6 +7,7 @@ mod closed;
 mod desk;
 mod known;
 mod pass;
+mod rings;
 mod running;
 mod seat_board;
 mod seat_turn;

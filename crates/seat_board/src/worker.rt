@@ -1,13 +1,26 @@
 // What one worker does, from its first turn to its last.
 //
-// No worker sleeps for ever beside a job. A worker sleeps where two turns of its own were `Rest`, one behind the other, and the bell was not rung since it was read between them; or beside another that is awake:
-// - A worker that comes sleeps beside another that is awake and has no job in its hands: that one takes its turn.
-// - What there is to do comes from turns alone, and who has such a turn is awake. Where it meets, the worker takes the next turn itself, or sleeps beside another that is awake and has no job in its hands: that
-//   one takes its turn, too. So turns that meet, one after another, are one worker's.
-// - Where a turn hands out a job, and there may be more, the worker rings for one that sleeps; where the last jobs were short, as soon as this one is known to last. If it does not, the worker is back soon. Where
-//   the last jobs were short it hands in what came of its own and then sleeps, but only beside another that is awake and has none that is known to last: that one is back soon, or rings when its job lasts.
-// - A turn that is `Rest` changes nothing, and comes only while a job is out: whoever has that job comes back.
-// - `Over`, and want of memory, ring for all.
+// No worker sleeps for ever beside a job. Turns are had under the lock of the board and workers sleep under that of the
+// bell, so whatever a turn has found may be old when its worker comes to the bell. Clauses keep 1, 2, what is counted
+// in 3, and 6; the rest is read. `tools/sleeping_search` tries every interleaving of a few workers that keep these
+// rules.
+//
+// 1. The last worker that is awake never falls asleep: `Attendance` keeps it (`IsWatched`), and each sleep owes it. So
+//    where some sleep one is awake, until one goes home; and whoever goes home wakes all (`Rings::leave`).
+// 2. A worker with nothing to do has two turns that are `Rest`, and reads the count of rings between them. It sleeps
+//    only if the count is the same then (`Rings::fall_asleep`): else it has another turn.
+// 3. Each reason to look is counted, whether or not one sleeps: that a job was handed out beside which there may be
+//    more (`Rings::ring`), that a worker went to sleep beside another (`fall_asleep_beside`), that one went home. So a
+//    worker that stands between its second `Rest` and the bell's lock looks again.
+// 4. A worker sleeps beside another only where that one is awake: after a result, one that has no job that is known to
+//    last; as it comes and after a turn that met, one that has no job in its hands. That one is before a turn, or on
+//    its way home, or before the bell's lock, where by 3 it finds the count raised and has another turn.
+// 5. What there is to do grows only by turns. Whose turn it was has its next turn, or leaves it to another by 4, or has
+//    a job. Then it rings for one that sleeps, if there may be more; where the last jobs were short (`is_eager`), once
+//    it knows that its job lasts, or else it is back soon.
+// 6. A turn that is `Rest` changes nothing, and comes only while a job is out: whoever has that job comes back.
+//
+// A ring is heard, as in a pool (`worker_pool/src/worker.rt`). So turns that meet, one after another, are one worker's.
 
 ghost use Rattle.std.specs.Prelude.{◌≡◌, IfOk, None, Some, option_map};
 ghost use Rattle.board.specs.Turns.{IsOf};
@@ -173,9 +186,9 @@ pub(crate) fn serve<G: Gate, R: Wait>(
     requires { IsReady board.now.lock.table.shared.table_id pass }
     ensures { IfOk result (λ p. HasServed board.now.lock.table.shared.table_id (known pass) p) }
 {
-    bell.come(rt);
+    let here = bell.come(rt);
     bell.sleep_beside(rt, false);
     let served = take_turns(rt, board, bell, gate, pass);
-    bell.ring_at_the_end(rt, served.is_err());
+    bell.leave(rt, here, served.is_err());
     served
 }

@@ -216,7 +216,7 @@ module _ {S C : Type 0} (Fits : S → List C → Type 0) (lives : C → Bool) wh
   unfolding next passed ended
   may_end after slots id v old y said has noted may s h len at bound =
       let now : slice_index s.words 1 ≡ h.now = rw h.words refl in
-      rw now (with_ended v (after v.core old y), gives, tt, end_holds s h id v at has old noted y (after v.core old y) may, λ found value rest was e. told found value rest was e)
+      rw now (with_ended v (after v.core old y), gives, tt, end_holds s h id v at has old noted y (after v.core old y) may, ((mine s h id v at has old noted y (after v.core old y) may).0, λ found value rest was e. told found value rest was e))
     where
       told : (found value : S) (rest : List (ℕ × S)) → v.noted ≡ Some found → ◌≡◌ {A = List (ℕ × S)} ((0, y) ∷ []) ((0, value) ∷ rest)
           → ◌≡◌ {A = Me S (View S C)} (with_ended v (after v.core old y), []) (with_ended v (after v.core found value), rest)

@@ -1,6 +1,6 @@
 -- What contracts say of a pass and its lock.
 -- Our choice: a pass is idle between its turns; in its turn it has the value.
-use Rattle.std.specs.Prelude.{◌≡◌, ℕ, [], ◌∷◌, true, false, Some, None}
+use Rattle.std.specs.Prelude.{◌≡◌, ℕ, ◌+◌, ◌^◌, ◌%◌, [], ◌∷◌, true, false, Some, None}
 use Rattle.atomic_table.specs.Table.{Me}
 use Rattle.ticket_lock.specs.declared.view.View.{View}
 
@@ -22,3 +22,9 @@ module _ {S C : Type 0} where
     pub has : me.0.has ≡ true
     pub noted : me.0.noted ≡ Some found
     pub it : me.1 ≡ (0, value) ∷ []
+
+  -- this ticket's turn comes when that of the pass has ended; numbers go round
+  pub record IsNextTo (number : ℕ) (me : Me S (View S C)) : Type 0 where
+    pub before : ℕ
+    pub ticket : me.0.ticket ≡ Some before
+    pub follows : number ≡ (before + 1) % 2 ^ 64

@@ -45,9 +45,11 @@ module _ {S C : Type 0} where
       (me.0.ticket ≡ Some n → (slot : S) × (new ≡ (with_value me.0 slot, (0, slot) ∷ me.1)) × IsKnown fits me.0.core slot)
       × ((me.0.ticket ≡ Some n → ⊥) → new ≡ me)
 
-  -- it knows what follows from what it knew, the value as its turn found it, and the value as it gives it back
+  -- its turn was that of its ticket; it knows what follows from what it knew, the value as its turn found it, and the value as it gives it back
   abbrev pub ends : (C → S → S → C) → Play S C
-  ends after st me n new = (found value : S) (rest : List (ℕ × S)) → me.0.noted ≡ Some found → me.1 ≡ (0, value) ∷ rest → new ≡ (with_ended me.0 (after me.0.core found value), rest)
+  ends after st me n new =
+      (me.0.ticket ≡ Some n)
+      × ((found value : S) (rest : List (ℕ × S)) → me.0.noted ≡ Some found → me.1 ≡ (0, value) ∷ rest → new ≡ (with_ended me.0 (after me.0.core found value), rest))
 
   abbrev pub stays : Play S C
   stays st me n new = new ≡ me

@@ -1,5 +1,5 @@
-ghost use Rattle.std.specs.Prelude.{◌≡◌, ◌≢◌, ◌≤◌, ◌<◌, ◌∷◌, [], IfOk, Some, true};
-ghost use Rattle.ticket_lock.specs.Passes.{IsIdle, IsInTurn, IsWaiting};
+ghost use Rattle.std.specs.Prelude.{◌≡◌, ◌≢◌, ◌+◌, ◌%◌, ◌<◌, ◌∷◌, [], IfOk, Some, true};
+ghost use Rattle.ticket_lock.specs.Passes.{IsIdle, IsInTurn, IsNextTo, IsWaiting};
 ghost use Rattle.ticket_lock.specs.Plays.{IsKnown, IsLast, MayEnd, MayJoin, MaySplit};
 
 use crate::pass::Pass;
@@ -31,12 +31,28 @@ const WORDS: usize = 67;
 /// How often a pass looks whose turn it is before it sleeps.
 const LOOKS: u32 = 128;
 
+/// The ticket whose turn comes. It is not `Drop`, so whoever has it wakes the pass that has drawn it.
+struct Coming {
+    ticket: u64,
+}
+
+/// That a pass is counted among those that sleep, or are about to. It is not `Drop`, so whoever has it is taken off the count.
+struct Counted {
+    marker: (),
+}
+
 // The word on which a pass sleeps that has this ticket. While there are at most as many passes as such words, each that sleeps has its own.
 fn bed_of(ticket: u64) -> usize
-    ensures low { 2 ≤ result }
-    ensures high { result < 67 }
+    ensures { result ≡ 3 + ticket % 64 }
 {
     BEDS + (ticket % BED_COUNT) as usize
+}
+
+// Whether a pass is to be woken, where so many sleep, or are about to.
+fn is_any_asleep(count: u64) -> bool
+    ensures { 0 < count → result ≡ true }
+{
+    count > 0
 }
 
 /// A value that threads hand round, each in the turn that it has drawn: turns come in the order of their tickets. What is known of the value between turns is
@@ -99,13 +115,13 @@ impl<S: Drop, C, T, K: Custody<S, C> + Opening<C, T>> TicketLock<S, C, T, K> {
         ensures waits { result ≢ ticket → IsWaiting ticket pass.new.seat.me }
     {
         let bed = bed_of(ticket);
-        self.count_in(pass);
+        let counted = self.count_in(pass);
         let found = self.table.shared.peek(bed);
         let now = self.look(pass, ticket);
         if now != ticket {
-            self.table.shared.park(rt, bed, (found % (1 << 32)) as u32);
+            self.sleep(rt, &counted, bed, found);
         }
-        self.count_out(pass);
+        self.count_out(pass, counted);
         now
     }
 
@@ -124,32 +140,53 @@ impl<S: Drop, C, T, K: Custody<S, C> + Opening<C, T>> TicketLock<S, C, T, K> {
         self.look_or_sleep(rt, pass, ticket)
     }
 
+    // Sleeps while this word is as it was found, or for no reason less. This is the one place where a pass sleeps: one that is counted.
+    fn sleep<R: Wait>(&self, rt: &R, counted: &Counted, bed: usize, found: u64)
+        requires { bed < 67 }
+    {
+        let _counted = counted;
+        self.table.shared.park(rt, bed, (found % (1 << 32)) as u32);
+    }
+
     // One pass more sleeps, or is about to.
-    fn count_in(&self, pass: &mut Pass<S, C>)
+    fn count_in(&self, pass: &mut Pass<S, C>) -> Counted
         requires pass { pass.old.seat.table_id ≡ self.now.table.shared.table_id }
         ensures { (pass.new.seat.table_id ≡ pass.old.seat.table_id) × (pass.new.seat.id ≡ pass.old.seat.id) × (pass.new.seat.me ≡ pass.old.seat.me) }
     {
         self.table
             .shared
             .fetch_add::<Sleep>(&mut pass.seat, ASLEEP, 1);
+        Counted { marker: () }
     }
 
     // One pass fewer does.
-    fn count_out(&self, pass: &mut Pass<S, C>)
+    fn count_out(&self, pass: &mut Pass<S, C>, counted: Counted)
         requires pass { pass.old.seat.table_id ≡ self.now.table.shared.table_id }
         ensures { (pass.new.seat.table_id ≡ pass.old.seat.table_id) × (pass.new.seat.id ≡ pass.old.seat.id) × (pass.new.seat.me ≡ pass.old.seat.me) }
     {
+        let Counted { marker: _ } = counted;
         self.table
             .shared
             .fetch_sub::<Sleep>(&mut pass.seat, ASLEEP, 1);
     }
 
-    // Wakes the pass with a ticket, if it sleeps.
-    fn wake(&self, pass: &mut Pass<S, C>, ticket: u64)
+    // Wakes the pass whose turn comes, if any sleeps. Whoever is counted later finds that its turn has come.
+    fn wake(&self, pass: &mut Pass<S, C>, coming: Coming)
         requires pass { pass.old.seat.table_id ≡ self.now.table.shared.table_id }
         ensures { (pass.new.seat.table_id ≡ pass.old.seat.table_id) × (pass.new.seat.id ≡ pass.old.seat.id) × (pass.new.seat.me ≡ pass.old.seat.me) }
     {
-        let bed = bed_of(ticket);
+        let Coming { ticket } = coming;
+        if is_any_asleep(self.table.shared.peek(ASLEEP)) {
+            self.wake_bed(pass, bed_of(ticket));
+        }
+    }
+
+    // Changes a word, and wakes whoever sleeps on it.
+    fn wake_bed(&self, pass: &mut Pass<S, C>, bed: usize)
+        requires pass { pass.old.seat.table_id ≡ self.now.table.shared.table_id }
+        requires bed { (2 < bed) × (bed < 67) }
+        ensures { (pass.new.seat.table_id ≡ pass.old.seat.table_id) × (pass.new.seat.id ≡ pass.old.seat.id) × (pass.new.seat.me ≡ pass.old.seat.me) }
+    {
         self.table.shared.fetch_add::<Sleep>(&mut pass.seat, bed, 1);
         self.table.shared.wake_all(bed);
     }
@@ -183,17 +220,22 @@ impl<S: Drop, C, T, K: Custody<S, C> + Opening<C, T>> TicketLock<S, C, T, K> {
         self.wait(rt, pass, ticket);
     }
 
-    // The pass gives the value back. Answers the ticket whose turn has ended.
-    fn give(&self, pass: &mut Pass<S, C>) -> u64
+    // The pass gives the value back. Answers the ticket whose turn comes.
+    fn give(&self, pass: &mut Pass<S, C>) -> Coming
         requires pass { pass.old.seat.table_id ≡ self.now.table.shared.table_id }
         requires turn { (found : S) × (value : S) × IsInTurn found value pass.old.seat.me × MayEnd K.fits pass.old.seat.id pass.old.seat.me.0.core found value (K.after pass.old.seat.me.0.core found value) }
         ensures pass { (pass.new.seat.table_id ≡ pass.old.seat.table_id) × (pass.new.seat.id ≡ pass.old.seat.id) × (pass.new.seat.me.0.noted ≡ pass.old.seat.me.0.noted) }
         ensures idle { IsIdle pass.new.seat.me }
         ensures core { (found value : S) → IsInTurn found value pass.old.seat.me → pass.new.seat.me.0.core ≡ K.after pass.old.seat.me.0.core found value }
+        ensures next { IsNextTo result.ticket pass.old.seat.me }
     {
-        self.table
+        let ended = self
+            .table
             .shared
-            .fetch_add::<End<K>>(&mut pass.seat, NOW, 1)
+            .fetch_add::<End<K>>(&mut pass.seat, NOW, 1);
+        Coming {
+            ticket: ended.wrapping_add(1),
+        }
     }
 
     /// Ends the turn of a pass, and wakes the one whose turn comes, if it sleeps. The caller owes that the value is as the passes know then, this one with what it knows from then on.
@@ -204,10 +246,8 @@ impl<S: Drop, C, T, K: Custody<S, C> + Opening<C, T>> TicketLock<S, C, T, K> {
         ensures idle { IsIdle pass.new.seat.me }
         ensures core { (found value : S) → IsInTurn found value pass.old.seat.me → pass.new.seat.me.0.core ≡ K.after pass.old.seat.me.0.core found value }
     {
-        let ticket = self.give(pass);
-        if self.table.shared.peek(ASLEEP) > 0 {
-            self.wake(pass, ticket.wrapping_add(1));
-        }
+        let coming = self.give(pass);
+        self.wake(pass, coming);
     }
 
     /// Cuts an idle pass in two. The caller owes that the value stays as the passes know.

@@ -1,11 +1,27 @@
+ghost use Rattle.std.specs.Prelude.{◌≡◌, ◌+◌, ◌<◌, true, false};
+ghost use Rattle.worker_pool.specs.Sleeping.{IsBesideAnother, IsWatched};
+ghost use Rattle.worker_pool.specs.declared.ring.Whom.TheVariants.{All, One};
+
+use crate::ring::{Ring, Whom};
+
 /// How many jobs that did not last come one after another before workers are woken with less haste.
 const FEW_SHORT: u32 = 8;
 
 /// How many short jobs are done from one ring to the next then.
 const BETWEEN_RINGS: u32 = 64;
 
-/// Which workers are here, asleep and at work. By it they decide when one of them sleeps, and whether one that sleeps is rung for. It lies under a lock that all of them take; whom it lets sleep or wakes changes nothing of
-/// what is proved of a pool.
+/// A worker that is here. It is not `Drop`, so whoever has it goes home by `Attendance::leave`.
+pub struct Here {
+    counted: (),
+}
+
+/// A worker that is counted among those asleep. It is not `Drop`, so whoever has it wakes up by `Attendance::wake_up`.
+pub struct Sleeper {
+    counted: (),
+}
+
+/// Which workers are here, asleep and at work. It lies under a lock that all workers take. By it they decide when one sleeps, and whether one that
+/// sleeps is rung for. Results do not depend on it.
 #[derive(Drop)]
 pub struct Attendance {
     /// How many workers have come, and have not gone home.
@@ -22,6 +38,9 @@ pub struct Attendance {
     short: u32,
     /// Whether memory was wanting at a worker, which ends all.
     failed: bool,
+    /// Whether a worker has gone home, and all were rung for.
+    ended: bool,
+    ghost watched: { IsWatched ended asleep here },
 }
 
 impl Attendance {
@@ -35,23 +54,29 @@ impl Attendance {
             lasting: 0,
             short: 0,
             failed: false,
+            ended: false,
         }
     }
 
     /// One more worker is here.
-    pub fn come(&mut self) {
+    pub fn come(&mut self) -> Here {
         self.here = self.here.saturating_add(1);
+        Here { counted: () }
     }
 
-    /// A worker goes home. Answers whether others sleep, who are to see why.
-    pub fn leave(&mut self) -> bool {
+    /// A worker goes home, because there is nothing to do any more, or because memory was wanting. All that sleep are to see why.
+    pub fn leave(&mut self, worker: Here, failed: bool) -> Ring
+        ensures all { 0 < self.old.asleep → result.whom ≡ All }
+        ensures told { failed ≡ true → self.new.failed ≡ true }
+    {
+        let Here { counted: _ } = worker;
+        self.ended = true;
+        self.failed = self.failed || failed;
         self.here = self.here.saturating_sub(1);
-        self.asleep > 0
-    }
-
-    /// Memory was wanting at a worker.
-    pub fn fail(&mut self) {
-        self.failed = true;
+        if self.asleep > 0 {
+            return Ring { whom: Whom::All };
+        }
+        Ring::for_nobody()
     }
 
     /// Whether memory was wanting at a worker.
@@ -80,45 +105,72 @@ impl Attendance {
         }
     }
 
-    /// A worker begins to wait for the bell.
-    pub fn fall_asleep(&mut self) {
+    /// A worker begins to wait for the bell. It is never the last that is awake.
+    pub fn fall_asleep(&mut self) -> Sleeper
+        requires { IsBesideAnother self.old.asleep self.old.here }
+    {
         self.asleep = self.asleep.saturating_add(1);
+        Sleeper { counted: () }
     }
 
     /// A worker waits no longer, rung for or not.
-    pub fn wake_up(&mut self) {
+    pub fn wake_up(&mut self, worker: Sleeper) {
+        let Sleeper { counted: _ } = worker;
         self.asleep = self.asleep.saturating_sub(1);
         self.rung = false;
     }
 
     /// Whether one may be rung for: one sleeps, and nobody is on the way already.
-    pub fn may_ring(&self) -> bool {
+    pub fn may_ring(&self) -> bool
+        ensures { 0 < self.now.asleep → self.now.rung ≡ false → result ≡ true }
+    {
         self.asleep > 0 && !self.rung
     }
 
-    /// One that sleeps is rung for.
-    pub fn ring(&mut self) {
-        self.rung = true;
+    /// One that sleeps is rung for, where nobody is on the way already.
+    pub fn ring(&mut self) -> Ring
+        ensures { 0 < self.old.asleep → self.old.rung ≡ false → result.whom ≡ One }
+    {
+        if self.may_ring() {
+            self.rung = true;
+            return Ring { whom: Whom::One };
+        }
+        Ring::for_nobody()
     }
 
-    /// Whether it pays to ring for another worker right when a job is taken: while few jobs were short, and then at times, since what waits beside the short jobs may last.
+    /// Whether it pays to ring for another worker right when a job is taken: while few jobs were short, and then at times, since what waits beside the
+    /// short jobs may last.
     pub fn is_eager(&self) -> bool {
         self.short < FEW_SHORT || self.short % BETWEEN_RINGS == 0
     }
 
-    /// Whether a worker whose job has ended is to sleep though there may be more: where the last jobs were short, workers that come one after another for such do no more than one. Another is awake then, and has no job
-    /// that is known to last: it comes back at once, or rings when it finds that its job lasts.
-    pub fn is_crowded(&self) -> bool {
+    /// Whether a worker whose job has ended is to sleep though there may be more: where the last jobs were short, workers that come one after another
+    /// for such do no more than one. Another is awake then, and has no job that is known to last: it comes back at once, or rings when it finds that
+    /// its job lasts.
+    pub fn is_crowded(&self) -> bool
+        ensures { result ≡ true → IsBesideAnother self.now.asleep self.now.here }
+    {
         self.short >= FEW_SHORT && self.is_awake_beside(self.lasting)
     }
 
     /// Whether another worker is awake, and has no job in its hands: it is about to take its turn.
-    pub fn is_beside_another(&self) -> bool {
+    pub fn is_beside_another(&self) -> bool
+        ensures { result ≡ true → IsBesideAnother self.now.asleep self.now.here }
+    {
         self.is_awake_beside(self.busy)
     }
 
+    /// Whether another worker is awake.
+    pub fn has_other(&self) -> bool
+        ensures { result ≡ true → IsBesideAnother self.now.asleep self.now.here }
+    {
+        self.here.saturating_sub(self.asleep) > 1
+    }
+
     // Whether another worker is awake beside so many that need not come back soon.
-    fn is_awake_beside(&self, others: usize) -> bool {
+    fn is_awake_beside(&self, others: usize) -> bool
+        ensures { result ≡ true → IsBesideAnother self.now.asleep self.now.here }
+    {
         let awake = self.here.saturating_sub(self.asleep).saturating_sub(others);
         !self.failed && awake > 1
     }

@@ -1,12 +1,12 @@
-// What lies under the lock, and the bell that wakes workers.
+// What lies under the lock.
 
 ghost use Rattle.std.specs.Prelude.{◌≡◌, ◌+◌, ◌^◌, ◌<◌, cond, IfOk, OnErr};
 ghost use Rattle.worker_pool.specs.Turns.{is_job};
 
 use crate::attendance::Attendance;
+use crate::ring::Ring;
 use crate::shop::{Shop, Turn};
 use std::alloc::AllocError;
-use std::sync::Condvar;
 use std::sync::ledger::{Book, Ledger, Share};
 
 /// Lies under the lock: the shop, beside the books of the jobs that are out and of what was accepted, and which workers are here.
@@ -18,25 +18,6 @@ pub(crate) struct Desk<S: Shop, L: Ledger, M: Ledger> {
     pub(crate) attendance: Attendance,
     pub(crate) ghost owed_is: { S.owed shop ≡ out.total },
     pub(crate) ghost accepted_is: { S.accepted shop ≡ done.total },
-}
-
-/// Whom a worker rings for when it has left the lock.
-#[derive(Clone, Copy, PartialEq, Eq)]
-pub(crate) enum Ring {
-    Nobody,
-    One,
-    All,
-}
-
-impl Ring {
-    /// Wakes whom it is for.
-    pub(crate) fn sound(self, bell: &Condvar) {
-        match self {
-            Ring::Nobody => {}
-            Ring::One => bell.notify_one(),
-            Ring::All => bell.notify_all(),
-        }
-    }
 }
 
 impl<S: Shop, L: Ledger, M: Ledger> Desk<S, L, M> {
@@ -54,13 +35,12 @@ impl<S: Shop, L: Ledger, M: Ledger> Desk<S, L, M> {
         if self.attendance.has_failed() {
             return Err(AllocError);
         }
-        let turn = self.noted(worker, mine);
+        let turn = self.noted(worker, mine)?;
         match &turn {
-            Ok(Turn::Job(_)) => self.attendance.take_job(),
-            Ok(_) => {}
-            Err(_) => self.attendance.fail(),
+            Turn::Job(_) => self.attendance.take_job(),
+            _ => {}
         }
-        turn
+        Ok(turn)
     }
 
     // The shop's turn, whose job is noted.
@@ -116,30 +96,20 @@ impl<S: Shop, L: Ledger, M: Ledger> Desk<S, L, M> {
         self.ring_beside()
     }
 
-    /// Whom a worker with a job rings for: for one other where there may be more, and where nobody is on the way already.
-    pub(crate) fn ring_beside(&mut self) -> Ring {
+    // The ring of a worker with a job: for one other where there may be more, and where nobody is on the way already.
+    fn ring_beside(&mut self) -> Ring {
         if !self.attendance.may_ring() || !self.shop.has_more() {
-            return Ring::Nobody;
+            return Ring::for_nobody();
         }
-        self.attendance.ring();
-        Ring::One
+        self.attendance.ring()
     }
 
-    /// Whom a worker rings for that leaves the lock with this turn. One that took a job rings where it pays now, and else if the job lasts; one that met asks
-    /// again itself; at the end, and where memory is wanting, all are to see it.
+    /// The ring of a worker that leaves the lock with this turn. One that took a job rings where it pays now, and else if the job lasts; one that met
+    /// asks again itself; one that goes home rings as it leaves.
     pub(crate) fn ring_after(&mut self, turn: &Result<Turn<S::Job>, AllocError>) -> Ring {
         match turn {
             Ok(Turn::Job(_)) if self.attendance.is_eager() => self.ring_beside(),
-            Ok(Turn::Job(_) | Turn::Met | Turn::Rest) => Ring::Nobody,
-            Ok(Turn::Over) | Err(_) => self.ring_at_the_end(),
+            _ => Ring::for_nobody(),
         }
-    }
-
-    /// A worker goes home, and all that sleep are to see why.
-    pub(crate) fn ring_at_the_end(&mut self) -> Ring {
-        if self.attendance.leave() {
-            return Ring::All;
-        }
-        Ring::Nobody
     }
 }

@@ -3,14 +3,14 @@
 
 mod attendance;
 mod desk;
+mod hall;
 mod pool;
+mod ring;
 mod shop;
 mod side_by_side;
 mod worker;
 
-pub use attendance::Attendance;
+pub use attendance::{Attendance, Here, Sleeper};
 pub use pool::run_pool;
+pub use ring::Ring;
 pub use shop::{Shop, Turn, Worked};
-
-#[cfg(test)]
-mod tests;

@@ -4,14 +4,15 @@ ghost use Rattle.std.specs.Prelude.{◌≡◌, ◌+◌, ◌^◌, ◌<◌, IfOk, 
 
 use crate::attendance::Attendance;
 use crate::desk::Desk;
+use crate::hall::Hall;
 use crate::shop::{Shop, Turn, Worked};
 use crate::side_by_side::side_by_side;
 use crate::worker::{Served, Worker, serve};
 use det_host::Gate;
 use std::alloc::{AllocError, Global};
 use std::marker::Brand;
+use std::sync::Wait;
 use std::sync::ledger::{Blank, Book, Ledger, Share};
-use std::sync::{Condvar, Mutex, Wait};
 use std::thread::Threads;
 
 /// Runs a shop to its end, by `workers` workers (1 to 64), each in a thread of its own but the first, which this thread is. Jobs are worked at outside of
@@ -72,16 +73,15 @@ fn run<
     let (out, mut all_out) = jobs.open::<L>();
     let (done, mut all_done) = accepted.open::<M>();
     let staff = hired(alloc, workers, &mut all_out, &mut all_done)?;
-    let desk = Mutex::new(opened(shop, out, done));
-    let bell = Condvar::new();
+    let hall = Hall::new(opened(shop, out, done));
     let ended = side_by_side(
         rt,
         alloc,
-        &|worker: Worker<L, M>| serve(rt, alloc, &desk, &bell, gate, worker),
+        &|worker: Worker<L, M>| serve(rt, alloc, &hall, gate, worker),
         staff,
     )?;
     let counts = gathered(alloc, ended, &mut all_out, &mut all_done)?;
-    closed(rt, alloc, desk.into_inner(), counts, all_out, all_done)
+    closed(rt, alloc, hall.into_desk(), counts, all_out, all_done)
 }
 
 fn opened<S: Shop, L: Ledger, M: Ledger>(shop: S, out: Book<L>, done: Book<M>) -> Desk<S, L, M>

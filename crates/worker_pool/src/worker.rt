@@ -1,33 +1,38 @@
 // What one worker does, from its first turn to its last.
 //
-// No worker sleeps for ever beside a job. A worker sleeps in `wait_for_turn`, where its own turn under the same lock was `Rest`, and in `hand_in` and `take_again`
-// beside another that is awake. Whoever changes the shop is awake and has the lock, and does not leave it to sleep before it has looked again, unless another is awake:
-// - A turn that is a job: the worker comes back with the result. If there may be more, it rings for one that sleeps: once it has left the lock, or, where
-//   the last jobs were short (`is_eager`), once it knows that this one lasts; if it does not, the worker is back soon, and looks again. The one that was rung for
-//   looks, and does the same in its turn, so one after another is woken for as long as there may be more. Nobody is rung for while one that
-//   was rung for is on its way to the lock (`rung`): that one looks at whatever there is by then. Whoever wakes takes the note away, rung for or not.
-// - A turn that met: the worker comes back at once, and sleeps only beside another that is awake and has no job in its hands (`is_beside_another`): that one comes
-//   to the lock, too. So turns that meet, one after another, are one worker's, and no lock goes from hand to hand for each; and a worker with a job, whether it works at
-//   it or is held in its gate, keeps no other from meeting.
-// - A result that was handed in: the same worker takes its next turn under the same lock. Where the last jobs were short it sleeps first, but only beside
-//   another that is awake and has no job that lasts (`is_crowded`): that one comes back to the lock, or rings when it finds that its job lasts.
-// - A turn that is `Rest` changes nothing, so whatever it found wanting is wanting still; the shop answers it only while a job is out, and whoever
-//   has that job comes back.
-// - `Over`, and want of memory, ring for all.
-// A ring is heard: a sleeper is counted under the lock, and has read the bell's number there, before it lets the lock go; who rings does so after it had
-// the lock. So either the sleeper looked later than the change, or the ring changes the number and the sleep does not begin, or it ends. That the
-// count is of sleepers that were rung for already does no harm: they are awake, and come under the lock. If the one that hears the ring finds the
-// job gone, then whoever took it has rung, too, or saw that there was no more.
+// No worker sleeps for ever beside a job. The first reason is proved, the others are read; `tools/sleeping_search`
+// tries every interleaving of a few workers that keep these rules.
+//
+// 1. The last worker that is awake never falls asleep: `Attendance` keeps it (`IsWatched`), and each sleep owes it. So
+//    where some sleep one is awake, until one goes home; and whoever goes home wakes all (`Attendance::leave`).
+// 2. Whoever is awake comes back to the lock and takes a turn: after a job, after a turn that met, after a sleep. So a
+//    job that may be taken is taken. A turn that is `Rest` changes nothing, so nothing may be taken until another
+//    worker has changed the shop; and a shop answers it only while a job is out.
+// 3. What may be taken grows only by a result that is handed in, and by a turn that met. Whoever did that has the lock,
+//    and looks before it sleeps, or sleeps beside another that is awake and comes back soon. After a result that other
+//    one has no job that is known to last (`is_crowded`); after a turn that met it has no job at all
+//    (`is_beside_another`).
+// 4. Who takes a job rings for one that sleeps, if there may be more. Where the last jobs were short (`is_eager`) it
+//    rings once it knows that its job lasts, or else is back soon. The one that was rung for looks, and does the same.
+//    Nobody is rung for while another is on its way (`rung`): that one looks at whatever there is by then.
+//
+// A ring is heard. A worker that sleeps was counted under the lock (`Sleeper`), and it lets the lock go and begins to
+// wait in one step. Whoever rings has had the lock since its change. So a sleeper was counted before, and is woken, or
+// looks later.
+//
+// So turns that meet, one after another, are one worker's, and no lock goes from hand to hand for each. A worker that
+// its gate holds with a job in its hands keeps no other from meeting.
 
 ghost use Rattle.std.specs.Prelude.{◌≡◌, ◌+◌, ◌^◌, ◌<◌, cond, IfOk};
 ghost use Rattle.worker_pool.specs.Turns.{is_job};
 
-use crate::desk::{Desk, Ring};
+use crate::desk::Desk;
+use crate::hall::Hall;
 use crate::shop::{Shop, Turn, Worked};
 use det_host::{Gate, GateEvent};
 use std::alloc::{AllocError, Global};
 use std::sync::ledger::{Ledger, Share};
-use std::sync::{Condvar, Mutex, Wait};
+use std::sync::{MutexGuard, Wait};
 
 /// A worker that has not begun: its number, and its share of both books.
 #[derive(Drop)]
@@ -53,12 +58,25 @@ pub(crate) struct Served<L: Ledger, M: Ledger> {
     pub(crate) ghost counted: { done.amount ≡ count },
 }
 
-/// Serves the shop until it is over, or until memory is wanting somewhere.
+/// Serves the shop until it is over, or until memory is wanting somewhere. Whoever comes goes home, and wakes all that sleep.
 pub(crate) fn serve<S: Shop, L: Ledger, M: Ledger, G: Gate, R: Wait>(
     rt: &R,
     alloc: Global,
-    desk: &Mutex<Desk<S, L, M>>,
-    bell: &Condvar,
+    hall: &Hall<S, L, M>,
+    gate: &G,
+    worker: Worker<L, M>,
+) -> Result<Served<L, M>, AllocError> {
+    let here = hall.come(rt);
+    let served = take_turns(rt, alloc, hall, gate, worker);
+    hall.leave(rt, here, served.is_err());
+    served
+}
+
+// Takes turns until the shop is over, or until memory is wanting here or at another worker.
+fn take_turns<S: Shop, L: Ledger, M: Ledger, G: Gate, R: Wait>(
+    rt: &R,
+    alloc: Global,
+    hall: &Hall<S, L, M>,
     gate: &G,
     worker: Worker<L, M>,
 ) -> Result<Served<L, M>, AllocError> {
@@ -67,20 +85,15 @@ pub(crate) fn serve<S: Shop, L: Ledger, M: Ledger, G: Gate, R: Wait>(
         mut out,
         done: mut tally,
     } = worker;
-    come(rt, desk);
-    let Ok(mut tools) = S::tools(alloc) else {
-        return Err(fail(rt, desk, bell));
-    };
+    let mut tools = S::tools(alloc)?;
     let mut count: u64 = 0;
-    let mut turn = take(rt, desk, bell, number, &mut out)?;
+    let mut turn = take(rt, hall, number, &mut out)?;
     for _ in rt.forever() {
         turn = match turn {
             Turn::Job(job) => {
                 gate.pass(number, GateEvent::Took);
-                let Ok(done) = work(rt, desk, bell, &mut tools, job) else {
-                    return Err(fail(rt, desk, bell));
-                };
-                let (taken, next) = hand_in(rt, desk, bell, number, done, &mut out, &mut tally);
+                let done = work(rt, hall, &mut tools, job)?;
+                let (taken, next) = hand_in(rt, hall, number, done, &mut out, &mut tally);
                 if taken {
                     count += 1;
                 }
@@ -89,11 +102,11 @@ pub(crate) fn serve<S: Shop, L: Ledger, M: Ledger, G: Gate, R: Wait>(
             }
             Turn::Met => {
                 gate.pass(number, GateEvent::Met);
-                take_again(rt, desk, bell, number, &mut out)?
+                take_again(rt, hall, number, &mut out)?
             }
             Turn::Rest => {
                 gate.pass(number, GateEvent::Resting);
-                wait_for_turn(rt, desk, bell, number, &mut out)?
+                wait_for_turn(rt, hall, number, &mut out)?
             }
             Turn::Over => return Ok(ended_with(count, out, tally)),
         };
@@ -108,17 +121,10 @@ fn ended_with<L: Ledger, M: Ledger>(count: u64, out: Share<L>, done: Share<M>) -
     Served { count, out, done }
 }
 
-// One more worker is here.
-fn come<S: Shop, L: Ledger, M: Ledger, R: Wait>(rt: &R, desk: &Mutex<Desk<S, L, M>>) {
-    let mut guard = desk.lock(rt);
-    guard.attendance.come();
-}
-
 // One turn under the lock.
 fn take<S: Shop, L: Ledger, M: Ledger, R: Wait>(
     rt: &R,
-    desk: &Mutex<Desk<S, L, M>>,
-    bell: &Condvar,
+    hall: &Hall<S, L, M>,
     number: usize,
     out: &mut Share<L>,
 ) -> Result<Turn<S::Job>, AllocError>
@@ -126,19 +132,15 @@ fn take<S: Shop, L: Ledger, M: Ledger, R: Wait>(
     ensures parts { out.new.parts ≡ out.old.parts }
     ensures amount { IfOk result (λ t. out.new.amount ≡ cond (is_job t) (out.old.amount + 1) out.old.amount) }
 {
-    let mut guard = desk.lock(rt);
+    let mut guard = hall.lock(rt);
     let turn = guard.turn(number, out);
-    let ring = guard.ring_after(&turn);
-    drop(guard);
-    ring.sound(bell);
-    turn
+    hall.leave_with(guard, turn)
 }
 
 // The turn after one that met: beside another worker that is about to take its turn, this one sleeps first.
 fn take_again<S: Shop, L: Ledger, M: Ledger, R: Wait>(
     rt: &R,
-    desk: &Mutex<Desk<S, L, M>>,
-    bell: &Condvar,
+    hall: &Hall<S, L, M>,
     number: usize,
     out: &mut Share<L>,
 ) -> Result<Turn<S::Job>, AllocError>
@@ -146,24 +148,18 @@ fn take_again<S: Shop, L: Ledger, M: Ledger, R: Wait>(
     ensures parts { out.new.parts ≡ out.old.parts }
     ensures amount { IfOk result (λ t. out.new.amount ≡ cond (is_job t) (out.old.amount + 1) out.old.amount) }
 {
-    let mut guard = desk.lock(rt);
+    let mut guard = hall.lock(rt);
     if guard.attendance.is_beside_another() {
-        guard.attendance.fall_asleep();
-        guard = bell.wait(rt, guard);
-        guard.attendance.wake_up();
+        guard = hall.sleep(rt, guard);
     }
     let turn = guard.turn(number, out);
-    let ring = guard.ring_after(&turn);
-    drop(guard);
-    ring.sound(bell);
-    turn
+    hall.leave_with(guard, turn)
 }
 
 // A turn that is not `Rest`: the worker sleeps until there is one.
 fn wait_for_turn<S: Shop, L: Ledger, M: Ledger, R: Wait>(
     rt: &R,
-    desk: &Mutex<Desk<S, L, M>>,
-    bell: &Condvar,
+    hall: &Hall<S, L, M>,
     number: usize,
     out: &mut Share<L>,
 ) -> Result<Turn<S::Job>, AllocError>
@@ -171,45 +167,52 @@ fn wait_for_turn<S: Shop, L: Ledger, M: Ledger, R: Wait>(
     ensures parts { out.new.parts ≡ out.old.parts }
     ensures amount { IfOk result (λ t. out.new.amount ≡ cond (is_job t) (out.old.amount + 1) out.old.amount) }
 {
-    let mut guard = desk.lock(rt);
+    let mut guard = hall.lock(rt);
     for _ in rt.forever() {
         let turn = guard.turn(number, out);
         let Ok(Turn::Rest) = turn else {
-            let ring = guard.ring_after(&turn);
-            drop(guard);
-            ring.sound(bell);
-            return turn;
+            return hall.leave_with(guard, turn);
         };
-        guard.attendance.fall_asleep();
-        guard = bell.wait(rt, guard);
-        guard.attendance.wake_up();
+        guard = rest(rt, hall, guard);
     }
     unreachable!()
+}
+
+// A worker that has nothing to do sleeps, unless it is the last that is awake: then it lets others have the lock, and looks again.
+fn rest<'a, S: Shop, L: Ledger, M: Ledger, R: Wait>(
+    rt: &R,
+    hall: &'a Hall<S, L, M>,
+    guard: MutexGuard<'a, Desk<S, L, M>>,
+) -> MutexGuard<'a, Desk<S, L, M>> {
+    if guard.attendance.has_other() {
+        return hall.sleep(rt, guard);
+    }
+    drop(guard);
+    hall.lock(rt)
 }
 
 // Does a job, which wakes another worker where it lasts and there may be more. Answers what came of it, and whether it lasted.
 fn work<S: Shop, L: Ledger, M: Ledger, R: Wait>(
     rt: &R,
-    desk: &Mutex<Desk<S, L, M>>,
-    bell: &Condvar,
+    hall: &Hall<S, L, M>,
     tools: &mut S::Tools,
     job: S::Job,
 ) -> Result<(S::Done, bool), AllocError> {
     match S::work(tools, job)? {
         Worked::Ended(done) => Ok((done, false)),
         Worked::Lasts(done) => {
-            let ring = desk.lock(rt).ring_as_it_lasts();
-            ring.sound(bell);
+            let ring = hall.lock(rt).ring_as_it_lasts();
+            hall.sound(ring);
             Ok((S::go_on(tools, done)?, true))
         }
     }
 }
 
-// A result is handed in, and the next turn taken, under one lock; where the workers stand in each other's way, once the bell has rung. Answers whether the result was accepted.
+// A result is handed in, and the next turn taken, under one lock; where the workers stand in each other's way, once the bell has rung. Answers whether
+// the result was accepted.
 fn hand_in<S: Shop, L: Ledger, M: Ledger, R: Wait>(
     rt: &R,
-    desk: &Mutex<Desk<S, L, M>>,
-    bell: &Condvar,
+    hall: &Hall<S, L, M>,
     number: usize,
     done: (S::Done, bool),
     out: &mut Share<L>,
@@ -224,31 +227,12 @@ fn hand_in<S: Shop, L: Ledger, M: Ledger, R: Wait>(
     ensures small { tally.new.amount < 2 ^ 64 }
 {
     let (done, lasted) = done;
-    let mut guard = desk.lock(rt);
+    let mut guard = hall.lock(rt);
     guard.attendance.end_job(lasted);
     let taken = guard.commit(done, out, tally);
     if guard.attendance.is_crowded() {
-        guard.attendance.fall_asleep();
-        guard = bell.wait(rt, guard);
-        guard.attendance.wake_up();
+        guard = hall.sleep(rt, guard);
     }
     let turn = guard.turn(number, out);
-    let ring = guard.ring_after(&turn);
-    drop(guard);
-    ring.sound(bell);
-    (taken, turn)
-}
-
-// Memory is wanting at this worker, which ends all of them.
-fn fail<S: Shop, L: Ledger, M: Ledger, R: Wait>(
-    rt: &R,
-    desk: &Mutex<Desk<S, L, M>>,
-    bell: &Condvar,
-) -> AllocError {
-    let mut guard = desk.lock(rt);
-    guard.attendance.fail();
-    let ring = guard.ring_at_the_end();
-    drop(guard);
-    ring.sound(bell);
-    AllocError
+    (taken, hall.leave_with(guard, turn))
 }

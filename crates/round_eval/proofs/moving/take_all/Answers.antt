@@ -1,5 +1,5 @@
 use Rattle.round_eval.proofs.Moves.{one_more_job}
 use Rattle.round_eval.proofs.moving.take_all.Goals as goal
 
-pub loop-turn-preserved-in-Continue-1 : goal.loop-turn-preserved-in-Continue-1
-loop-turn-preserved-in-Continue-1 c = one_more_job _ _ _ _ _ _ c.in_ok-push.ensures.items c.loop-turn.invariant c.in-Some-take_out.ensures.some
+pub loop-path-preserved-in-Continue-1 : goal.loop-path-preserved-in-Continue-1
+loop-path-preserved-in-Continue-1 c = one_more_job _ _ _ _ _ _ c.in_ok-push.ensures.items c.loop-path.invariant c.in-Some-take_out.ensures.some

@@ -8,5 +8,4 @@ returns g c =
     let items = ap (λ it. vec_items it.base) c.map_init.ensures.base ∙ ap vec_items c.with_min_len.ensures.base ∙ c.into_par_iter.ensures in
     let h = c.in_ok-collect.ensures in
     let chain = h.1 in
-    let z = rw c.map_init.ensures.f at chain.2 in
-    all_answered (λ v. v.items) _ (λ j d t. t.2) c.args.jobs.items _ _ c.in_ok-collect.field-0 (chain.1 ∙ items) z h.2
+    all_answered (λ v. v.items) _ (λ j d t. t.2) c.args.jobs.items _ _ c.in_ok-collect.field-0 (chain.1 ∙ items) chain.2 h.2

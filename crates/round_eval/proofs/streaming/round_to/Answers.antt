@@ -12,8 +12,8 @@ returns-in_default-clause-begins g c = begins_same (g.O.Sink.taken c.args.out.no
 pub returns-in-Err-clause-failed : goal.returns-in-Err-clause-failed
 returns-in-Err-clause-failed g c = λ failed.
     let same : c.in-Err.error ≡ Failed = cc in
-    fails_behind _ _ _ _ _ _ c.requires.sound c.in-Ok.ensures.ok (subst (λ l. console_of c.round_apart.new.space ≡ console_of c.args.space.now ++ l) (sym c.deref.ensures.value) c.in-Ok.ensures.console)
-    (subst (λ l. length l ≤ c.args.quantum * most_output) (sym c.deref.ensures.value) c.in-Ok.ensures.bound) (c.in-Err.ensures.failed (ap Err same))
+    fails_behind _ _ _ _ _ _ _ c.requires.sound c.in-Ok.ensures.ok (subst (λ l. console_of c.round_apart.new.space ≡ console_of c.args.space.now ++ l) (sym c.deref.ensures.value) c.in-Ok.ensures.console)
+    (subst (λ l. length l ≤ c.args.quantum * most_output) (sym c.deref.ensures.value) c.in-Ok.ensures.bound) c.in-Ok.ensures.root (c.in-Err.ensures.failed (ap Err same))
 
 pub returns-in-Err-clause-begins : goal.returns-in-Err-clause-begins
 returns-in-Err-clause-begins g c =
