@@ -1,17 +1,15 @@
 -- Lines of last own events: what endings tell stays under events of others, counts events without a line, and takes a line.
-use Rattle.std.proofs.Common.{◌≡◌, ℕ, zero, suc, ◌+◌, ◌-◌, ◌<◌, ◌≤◌, Bool, true, false, List, [], ◌∷◌, ◌++◌, append_assoc, length, length-append, take, Option, Some, None, refl, sym, ap, ap₂, ◌∙◌, subst, arith, inl, inr, ◌⊎◌, true≢false}
+use Rattle.std.proofs.Common.{◌≡◌, ℕ, suc, ◌+◌, ◌-◌, ◌<◌, ◌≤◌, Bool, true, false, List, [], ◌∷◌, ◌++◌, append_assoc, length, length-append, take, Option, Some, None, refl, sym, ap, ap₂, ◌∙◌, subst, arith, inl, inr, ◌⊎◌, true≢false}
 use Rattle.std.proofs.lemmas.Bool.Decides.{nat_tests}
 use Rattle.std.proofs.lemmas.List.{append-nil}
 use Rattle.std.specs.BTreeMap.{BTreeMap, UpdatesBy}
 use Rattle.std.specs.Prelude.{IfSome, IsNone, IsSome, if◌then◌else◌, nat_le, option_map}
 use Rattle.arrayvec.specs.ArrayVec.{ArrayVec}
-use Rattle.memory_model.specs.Memory.{Memory}
 use Rattle.space_model.specs.Path.{at}
-use Rattle.space_model.specs.Space.{Children, Space, Top, space, top_of}
+use Rattle.space_model.specs.Space.{Space, Top, top_of}
 use Rattle.run_model.specs.Replay.{replay}
 use Rattle.run_model.specs.Schedule.{is_enabled, try_step}
 use Rattle.det_laws.specs.Tops.{top_at}
-use Rattle.det_laws.specs.Tree.{NoneMayHappen, after_all}
 use Rattle.event_laws.specs.OwnEvents.{OwnEvent, own_events}
 use Rattle.event_laws.proofs.Histories.{event_there}
 use Rattle.explain_core.specs.declared.last_lines.Ending.{Ending}
@@ -19,15 +17,12 @@ use Rattle.explain_core.specs.declared.last_lines.NextLine.TheVariants.{Line, Qu
 use Rattle.explain_core.specs.declared.watching.Before.{Before}
 use Rattle.explain_core.specs.declared.watching.Found.{Found}
 use Rattle.explain_core.specs.declared.watching.Moment.{Moment}
-use Rattle.explain_core.specs.declared.watching.Noticing.TheVariants.{Lines}
 use Rattle.explain_core.specs.declared.watching.Watched.{Watched}
-use Rattle.explain_core.specs.Going.{GoesBy}
 use Rattle.explain_core.specs.LastLines.{AreFresh, Becomes, CountsMore, Endings, FindsAt, FindsTop, GoesAlone, GoesWithLine, HasAll, HasLine, IsLineOf, LeavesLine, MayCount, TellsEndings, TellsOf, next_line}
 use Rattle.explain_core.specs.Reached.{IsTrace}
 use Rattle.explain_core.specs.Instructions.{instruction_at_pc}
 use Rattle.explain_core.specs.Trace.{calling_memory, trace_lines, traced_line}
 use Rattle.explain_core.specs.TurnsAt.{TurnsAt}
-use Rattle.explain_core.specs.Watch.{found_by, memory_before}
 use Rattle.explain_core.specs.WatchList.{entry_at}
 use Rattle.explain_core.proofs.Coming.{first_own}
 use Rattle.explain_core.proofs.LinksTell.{own_stays, own_then}
@@ -64,9 +59,9 @@ adds p xs ys d e count had lines t =
     record {
       had = length-append xs ys ∙ ap (λ n. n + length ys) t.had ∙ sym had;
       lines = lines
-      ∙ ap₂ (λ u n. u ++ trace_lines p (d.count - 1) n ys) t.lines here
-      ∙ sym (lines_then p (d.count - 1) 0 xs ys)
-      ∙ ap (λ n. trace_lines p (n - 1) 0 (xs ++ ys)) (sym count);
+          ∙ ap₂ (λ u n. u ++ trace_lines p (d.count - 1) n ys) t.lines here
+          ∙ sym (lines_then p (d.count - 1) 0 xs ys)
+          ∙ ap (λ n. trace_lines p (n - 1) 0 (xs ++ ys)) (sym count);
     }
 
 -- behind events without a line

@@ -40,16 +40,25 @@ pub(crate) enum NextLine {
     Over,
 }
 
+// How many more events of a path may go by without a line, at most as many as a stretch has.
+fn events_left(ending: &Ending) -> u32
+    ensures { MayCount result ending.now }
+{
+    let left = ending.count.saturating_sub(2).saturating_sub(ending.had);
+    if left < u64::from(STRETCH) {
+        left as u32
+    } else {
+        STRETCH
+    }
+}
+
 // How many instructions of a path may go by without a line, at most as many as a stretch has.
 fn quiet_events(endings: &Endings, path: &Path) -> u32
     ensures { IfSome (entry_at endings.now.entries path.now.items) (MayCount result) }
 {
     match endings.get(path) {
         None => STRETCH,
-        Some(ending) => {
-            let left = ending.count.saturating_sub(2).saturating_sub(ending.had);
-            left.min(u64::from(STRETCH)) as u32
-        }
+        Some(ending) => events_left(ending),
     }
 }
 

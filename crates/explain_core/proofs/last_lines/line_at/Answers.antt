@@ -1,4 +1,3 @@
-use Rattle.std.proofs.Common.{refl}
 use Rattle.std.proofs.lemmas.Result.{IfOk-weaker}
 use Rattle.explain_core.proofs.LastLines.{not_none}
 use Rattle.explain_core.proofs.last_lines.line_at.Goals as goal
