@@ -14,6 +14,9 @@ pub mod BothSides
 pub mod EventsBefore
 pub mod Walked
 pub mod NotedPaths
+pub mod WatchLists
+pub mod LastLines
+pub mod LineageRuns
 pub mod Lines
 pub mod Names
 pub mod Rows

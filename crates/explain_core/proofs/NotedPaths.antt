@@ -14,11 +14,11 @@ use Rattle.explain_core.specs.declared.lineage.Link.{Link}
 use Rattle.explain_core.specs.Notes.{Notes, Puts, note_at}
 use Rattle.explain_core.proofs.TurnsAt.{other_path}
 
-abbrev path_cmp : ArrayVec ℕ → ArrayVec ℕ → Ordering
+abbrev pub path_cmp : ArrayVec ℕ → ArrayVec ℕ → Ordering
 path_cmp p q = slice_cmp nat_cmp p.items q.items
 
 -- the test of paths is that of the order
-path_test : (p q : List ℕ) → is_same_path p q ≡ is_eq (slice_cmp nat_cmp p q)
+pub path_test : (p q : List ℕ) → is_same_path p q ≡ is_eq (slice_cmp nat_cmp p q)
 path_test [] [] = refl
 path_test [] (m ∷ q) = refl
 path_test (n ∷ p) [] = refl

@@ -204,7 +204,7 @@ other_path p q ne = go (is_same_path p q) refl
     go true is = absurd (ne (same_path p q is))
 
 -- where an event may happen there is an own event
-own_here : (p : List ℕ) (s : Space) → is_enabled p 8 s ≡ true → (e : OwnEvent) × (own_event_at p 8 s ≡ Some e)
+pub own_here : (p : List ℕ) (s : Space) → is_enabled p 8 s ≡ true → (e : OwnEvent) × (own_event_at p 8 s ≡ Some e)
 own_here p s may = go (own_event_at p 8 s) refl
   where
     none : own_event_at p 8 s ≡ None → own_events p (p ∷ []) s ≡ []
@@ -221,7 +221,7 @@ own_here p s may = go (own_event_at p 8 s) refl
     go None is = let h = is_own [] [] p s may in absurd (lost h.0 h.1 (none is))
     go (Some e) is = (e, is)
 
-stepped_to : (p : List ℕ) (s now : Space) → is_enabled p 8 s ≡ true → now ≡ try_step p 8 s → step p 8 s ≡ now
+pub stepped_to : (p : List ℕ) (s now : Space) → is_enabled p 8 s ≡ true → now ≡ try_step p 8 s → step p 8 s ≡ now
 stepped_to p s now may stepped = sym (stepped ∙ ap (λ b. cond b (step p 8 s) s) may)
 
 same : {x y : Top} → Some x ≡ Some y → x ≡ y

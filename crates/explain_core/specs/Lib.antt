@@ -7,7 +7,9 @@ pub mod Headers
 pub mod Hex
 pub mod Instructions
 pub mod Joins
+pub mod LastLines
 pub mod Lineage
+pub mod LineageRun
 pub mod Notes
 pub mod Pages
 pub mod Reached
@@ -16,3 +18,4 @@ pub mod Text
 pub mod Trace
 pub mod TurnsAt
 pub mod Watch
+pub mod WatchList

@@ -5,7 +5,7 @@ use Rattle.std.specs.Prelude.{◌≡◌, ℕ, suc, ◌+◌, List, [], ◌∷◌,
 use Rattle.space_model.specs.Space.{Space}
 use Rattle.event_laws.specs.OwnEvents.{OwnEvent, own_events}
 use Rattle.explain_core.specs.declared.lineage.Link.{Link}
-use Rattle.explain_core.specs.declared.through_joins.LineageLink.{LineageLink}
+use Rattle.explain_core.specs.declared.lineages.LineageLink.{LineageLink}
 use Rattle.explain_core.specs.declared.watching.Moment.{Moment}
 use Rattle.explain_core.specs.declared.watching.Watched.{Watched}
 use Rattle.explain_core.specs.Joins.{joined_path}

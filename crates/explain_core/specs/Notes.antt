@@ -1,6 +1,6 @@
 -- Notes of the spaces of a tree that goes on turn by turn.
 -- Our choice: a restatement for proofs. Notes are the entries of a map; of a path without one there are no links.
-use Rattle.std.specs.Prelude.{◌≡◌, ℕ, Bool, true, false, List, [], ◌∷◌, Option, Some, None, Vec, if◌then◌else◌}
+use Rattle.std.specs.Prelude.{◌≡◌, ℕ, Bool, true, false, List, [], ◌∷◌, ◌++◌, Option, Some, None, Vec, if◌then◌else◌}
 use Rattle.std.specs.declared.alloc.Global.{Global}
 use Rattle.arrayvec.specs.ArrayVec.{ArrayVec}
 use Rattle.space_model.specs.Space.{Space}
@@ -9,6 +9,7 @@ use Rattle.event_laws.specs.OwnEvents.{is_same_path}
 use Rattle.explain_core.specs.declared.lineage.Link.{Link}
 use Rattle.explain_core.specs.declared.watching.Moment.{Moment}
 use Rattle.explain_core.specs.declared.watching.Watched.{Watched}
+use Rattle.explain_core.specs.declared.watching.Watched.TheVariants.{Byte}
 use Rattle.explain_core.specs.Lineage.{Tells, changed_by, counted, joined_by}
 
 abbrev pub Notes : Type 0
@@ -49,8 +50,16 @@ IsKept p w count last old new None = Unit {0}
 IsKept p w count last old new (Some true) = KeepsTurn p w count last old new
 IsKept p w count last old new (Some false) = (count ≡ 0) × (new ≡ old)
 
--- a tree has come by a schedule in which the notes tell of every path
-pub record TellsAll (root : Space) (w : Watched) (ns : Notes) (now : Space) : Type 0 where
+-- what is watched at each path: a byte that is watched at one is watched at its children's, too
+abbrev pub Follows : (List ℕ → Watched) → Type 0
+Follows f = (p : List ℕ) (n a : ℕ) → f p ≡ Byte a → f (p ++ n ∷ []) ≡ Byte a
+
+-- a tree has come by a schedule in which the notes tell of every path, each by what is watched there
+pub record TellsAll (root : Space) (f : List ℕ → Watched) (ns : Notes) (now : Space) : Type 0 where
   pub schedule : List (List ℕ)
   pub leads : after_all schedule root ≡ now
-  pub each : (q : List ℕ) → Tells root w q schedule (note_at ns q)
+  pub each : (q : List ℕ) → Tells root (f q) q schedule (note_at ns q)
+
+-- notes that told of every path tell of every path still, behind a turn of one at which this is watched
+abbrev pub GoesOnTelling : List ℕ → Watched → Notes → Notes → Space → Space → Type 0
+GoesOnTelling p w old new s now = (root : Space) (f : List ℕ → Watched) → Follows f → f p ≡ w → TellsAll root f old s → TellsAll root f new now

@@ -2,7 +2,7 @@ ghost use Rattle.std.specs.Prelude.{◌≡◌, ◌+◌, ◌-◌, ◌≤◌, ◌^
 ghost use Rattle.call_model.specs.Limits.{greatest_depth};
 ghost use Rattle.space_model.specs.Path.{at};
 ghost use Rattle.space_model.specs.Space.{Space, top_of};
-ghost use Rattle.explain_core.specs.Notes.{TellsAll};
+ghost use Rattle.explain_core.specs.Notes.{GoesOnTelling};
 ghost use Rattle.explain_core.specs.Stretch.{IsWatchable};
 ghost use Rattle.explain_core.specs.TurnsAt.{TurnsAt};
 ghost use Rattle.explain_core.specs.Watch.{found_by, moment_of, watched_in};
@@ -38,7 +38,8 @@ fn stretch_itself(
 ) -> Stretch
     requires watchable { IsWatchable watched }
     requires fits { before + 1 + most ≤ 2 ^ 64 - 1 }
-    ensures { (levels : ℕ) → TurnsAt levels watched [] before result.count result.last space.old space.new }
+    ensures turns { (levels : ℕ) → TurnsAt levels watched [] before result.count result.last space.old space.new }
+    ensures within { result.count ≤ most }
 {
     if space.top.is_stopped() {
         return no_events();
@@ -59,7 +60,8 @@ fn stretch_below(
 ) -> Stretch
     requires watchable { IsWatchable watched }
     requires fits { before + 1 + most ≤ 2 ^ 64 - 1 }
-    ensures { (levels : ℕ) → TurnsAt levels watched (number ∷ rest.now) before result.count result.last space.old space.new }
+    ensures turns { (levels : ℕ) → TurnsAt levels watched (number ∷ rest.now) before result.count result.last space.old space.new }
+    ensures within { result.count ≤ most }
 {
     match space.children.get_mut(number) {
         Some(child) => stretch_at(cache, child, rest, watched, before, most),
@@ -79,7 +81,8 @@ pub(crate) fn stretch_at(
 ) -> Stretch
     requires watchable { IsWatchable watched }
     requires fits { before + 1 + most ≤ 2 ^ 64 - 1 }
-    ensures { (levels : ℕ) → TurnsAt levels watched path.now before result.count result.last space.old space.new }
+    ensures turns { (levels : ℕ) → TurnsAt levels watched path.now before result.count result.last space.old space.new }
+    ensures within { result.count ≤ most }
 {
     match path {
         [] => stretch_itself(cache, space, watched, before, most),
@@ -122,7 +125,8 @@ pub(crate) fn event_at(
     before: u64,
 ) -> Result<Stretch, AllocError>
     requires fits { before + 1 ≤ 2 ^ 64 - 1 }
-    ensures { IfOk result (λ s. TurnsAt greatest_depth watched path.now.items before s.count s.last tree.old tree.new) }
+    ensures turns { IfOk result (λ s. TurnsAt greatest_depth watched path.now.items before s.count s.last tree.old tree.new) }
+    ensures one { IfOk result (λ s. s.count ≤ 1) }
 {
     let Some(found) = found_at(tree, path, watched) else {
         return Ok(no_events());
@@ -153,7 +157,7 @@ fn stretch_kept(
     watched: Watched,
 ) -> Result<Option<bool>, AllocError>
     requires { IsWatchable watched }
-    ensures { IfOk result (λ o. IfSome o (λ _. (root : Space) → TellsAll root watched notes.old.entries tree.old → TellsAll root watched notes.new.entries tree.new)) }
+    ensures { IfOk result (λ o. IfSome o (λ _. GoesOnTelling path.now.items watched notes.old.entries notes.new.entries tree.old tree.new)) }
 {
     let before = count_at(notes, path);
     if before > MOST {
@@ -172,7 +176,7 @@ fn event_kept(
     path: &Path,
     watched: Watched,
 ) -> Result<Option<bool>, AllocError>
-    ensures { IfOk result (λ o. IfSome o (λ _. (root : Space) → TellsAll root watched notes.old.entries tree.old → TellsAll root watched notes.new.entries tree.new)) }
+    ensures { IfOk result (λ o. IfSome o (λ _. GoesOnTelling path.now.items watched notes.old.entries notes.new.entries tree.old tree.new)) }
 {
     let before = count_at(notes, path);
     if before > MOST {
@@ -195,7 +199,7 @@ pub(crate) fn turn_at(
     watched: Watched,
 ) -> Result<Option<bool>, AllocError>
     requires { IsWatchable watched }
-    ensures { IfOk result (λ o. IfSome o (λ _. (root : Space) → TellsAll root watched notes.old.entries tree.old → TellsAll root watched notes.new.entries tree.new)) }
+    ensures { IfOk result (λ o. IfSome o (λ _. GoesOnTelling path.now.items watched notes.old.entries notes.new.entries tree.old tree.new)) }
 {
     let Some(ran) = stretch_kept(alloc, cache, tree, notes, path, watched)? else {
         return Ok(None);

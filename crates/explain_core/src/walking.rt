@@ -1,12 +1,15 @@
 ghost use Rattle.std.specs.Prelude.{◌≡◌, ◌∷◌, true, IfOk, IfSome};
 ghost use Rattle.space_model.specs.Space.{Space, children_of};
-ghost use Rattle.explain_core.specs.Notes.{TellsAll};
+ghost use Rattle.explain_core.specs.Notes.{GoesOnTelling, TellsAll};
 ghost use Rattle.explain_core.specs.Stretch.{IsWatchable};
 ghost use Rattle.explain_core.specs.Going.{BelowStopped, WayStopped};
+ghost use Rattle.explain_core.specs.WatchList.{watched_at};
 
 use crate::choosing::next_path;
+use crate::going::is_watchable;
 use crate::lineage::Notes;
 use crate::turning::turn_at;
+use crate::watch_list::{WatchList, watched_at};
 use crate::watching::Watched;
 use space_step::DecodeCache;
 use space_tree::{Path, Space};
@@ -44,7 +47,7 @@ fn turns_at(
     watched: Watched,
 ) -> Result<Option<bool>, AllocError>
     requires { IsWatchable watched }
-    ensures { IfOk result (λ o. IfSome o (λ _. (root : Space) → TellsAll root watched notes.old.entries tree.old → TellsAll root watched notes.new.entries tree.new)) }
+    ensures { IfOk result (λ o. IfSome o (λ _. GoesOnTelling path.now.items watched notes.old.entries notes.new.entries tree.old tree.new)) }
 {
     let mut some = false;
     'turns: for _ in 0..u64::MAX {
@@ -57,28 +60,43 @@ fn turns_at(
     Ok(None)
 }
 
-/// Turns until a space and its child and all on the way to them have stopped; `false` where no answer is to come.
-pub(crate) fn walk(
+// The same by what a list watches there.
+fn listed_turns(
     alloc: Global,
+    cache: &mut DecodeCache,
     tree: &mut Space,
     notes: &mut Notes,
+    list: &WatchList,
     path: &Path,
-    below: &Path,
-    watched: Watched,
-) -> Result<bool, AllocError>
-    requires { IsWatchable watched }
-    ensures tells { IfOk result (λ over. over ≡ true → (root : Space) → TellsAll root watched notes.old.entries tree.old → TellsAll root watched notes.new.entries tree.new) }
-    ensures path { IfOk result (λ over. over ≡ true → WayStopped path.now.items tree.new) }
-    ensures below { IfOk result (λ over. over ≡ true → WayStopped below.now.items tree.new) }
+) -> Result<Option<bool>, AllocError>
+    ensures { IfOk result (λ o. IfSome o (λ _. (root : Space) → TellsAll root (watched_at list.now.wanted.entries) notes.old.entries tree.old → TellsAll root (watched_at list.now.wanted.entries) notes.new.entries tree.new)) }
 {
-    let mut cache = DecodeCache::new(alloc)?;
+    let watched = watched_at(list, path)?;
+    if !is_watchable(watched) {
+        return Ok(None);
+    }
+    turns_at(alloc, cache, tree, notes, path, watched)
+}
+
+/// Turns until a space and all on the way to it have stopped; `false` where no answer is to come.
+pub(crate) fn walk(
+    alloc: Global,
+    cache: &mut DecodeCache,
+    tree: &mut Space,
+    notes: &mut Notes,
+    list: &WatchList,
+    path: &Path,
+) -> Result<bool, AllocError>
+    ensures tells { IfOk result (λ over. over ≡ true → (root : Space) → TellsAll root (watched_at list.now.wanted.entries) notes.old.entries tree.old → TellsAll root (watched_at list.now.wanted.entries) notes.new.entries tree.new) }
+    ensures path { IfOk result (λ over. over ≡ true → WayStopped path.now.items tree.new) }
+{
     let mut last = Path::new();
     'turns: for _ in 0..u64::MAX {
-        if way_stopped(tree, below.as_slice()) && way_stopped(tree, path.as_slice()) {
+        if way_stopped(tree, path.as_slice()) {
             return Ok(true);
         }
-        last = next_path(tree, &last, below);
-        match turns_at(alloc, &mut cache, tree, notes, &last, watched)? {
+        last = next_path(tree, &last, path);
+        match listed_turns(alloc, cache, tree, notes, list, &last)? {
             Some(true) => {}
             Some(false) | None => return Ok(false),
         }

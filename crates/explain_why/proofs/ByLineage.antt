@@ -2,7 +2,7 @@
 use Rattle.std.proofs.Common.{◌≡◌, ◌<◌, ◌≤◌, ◌-◌, ℕ, suc, List, [], ◌∷◌, ◌++◌, length, map, take, drop, get_or, Option, Some, None, Bool, true, false, ◌==◌, if◌then◌else◌, refl, sym, ap, ap₂, ◌∙◌, subst, arith, codes, inl}
 use Rattle.std.proofs.lemmas.List.{append-nil, take_all}
 use Rattle.space_model.specs.Space.{Space}
-use Rattle.explain_core.specs.declared.through_joins.LineageLink.{LineageLink}
+use Rattle.explain_core.specs.declared.lineages.LineageLink.{LineageLink}
 use Rattle.explain_core.specs.declared.watching.Watched.{Watched}
 use Rattle.explain_core.specs.Joins.{joined_path}
 use Rattle.explain_core.specs.Lineage.{NotedLink, TellsLineage, child_joined, events_told, noted_link, number_told}

@@ -1,4 +1,5 @@
 pub mod Parts
+pub mod Runs
 pub mod Origin
 pub mod Texts
 pub mod Trapped

@@ -1,16 +1,18 @@
 ghost use Rattle.std.specs.Prelude.{◌≡◌, IfOk, IfSome, IsNone, codes};
 ghost use Rattle.memory_model.specs.Memory.{Memory, byte_at};
 ghost use Rattle.space_model.specs.Sound.{IsSound};
-ghost use Rattle.space_model.specs.Space.{Top};
+ghost use Rattle.space_model.specs.Space.{Space, Top};
 ghost use Rattle.explain_core.specs.Beside.{child_of};
 ghost use Rattle.explain_core.specs.declared.watching.Watched.TheVariants.{Byte};
 ghost use Rattle.explain_why.specs.Origin.{TellsOrigin};
 ghost use Rattle.explain_why.specs.Texts.{lone_conflict_text};
+ghost use Rattle.explain_why.specs.Runs.{StillTell, TellRuns};
 ghost use Rattle.explain_why.specs.Why.{ExplainsConflict, StandsAt, TellsConflict, all_events};
 
 use crate::origin::{byte_origin, changed_byte, lineage_byte};
+use crate::runs::{Runs, lineage_in};
 use crate::texts::{bytes_text, conflict_text, lone_conflict_text};
-use explain_core::{Watched, child_path, last_changes, lineages};
+use explain_core::{Watched, child_path, last_changes};
 use space_tree::{Mem, Path, Space, Top, at, copy_tree};
 use std::alloc::{AllocError, Global};
 
@@ -75,10 +77,37 @@ fn origins_beside(
     }
 }
 
-// The same, of which one run tells through all joins, unless it gives no answer.
+// The same by the lineages that runs tell, through all joins; none where they do not tell.
+fn lineages_told(
+    alloc: Global,
+    runs: &mut Runs,
+    path: &Path,
+    below: &Path,
+    child: &Mem,
+    parent: &Mem,
+    address: u32,
+) -> Result<Option<(Vec<u8>, Vec<u8>)>, AllocError>
+    ensures child { (root : Space) → IsSound root → TellRuns root runs.old → IfOk result (λ o. IfSome o (λ v. TellsOrigin root (Byte address) below.now.items all_events (byte_at child.now.memory address) (codes "child changed by") v.0.items)) }
+    ensures parent { (root : Space) → IsSound root → TellRuns root runs.old → IfOk result (λ o. IfSome o (λ v. TellsOrigin root (Byte address) path.now.items all_events (byte_at parent.now.memory address) (codes "parent changed by") v.1.items)) }
+    ensures runs { IfOk result (λ _. StillTell runs.old runs.new) }
+{
+    let watched = Watched::Byte(address);
+    let Some(of_child) = lineage_in(alloc, &mut runs.lineages, below, watched)? else {
+        return Ok(None);
+    };
+    let Some(of_parent) = lineage_in(alloc, &mut runs.lineages, path, watched)? else {
+        return Ok(None);
+    };
+    let by_child = lineage_byte(alloc, below, address, child, &of_child, CHILD)?;
+    let by_parent = lineage_byte(alloc, path, address, parent, &of_parent, PARENT)?;
+    Ok(Some((by_child, by_parent)))
+}
+
+// The same in runs of their own where those do not tell.
 fn both_origins(
     alloc: Global,
     root: &mut Space,
+    runs: &mut Runs,
     path: &Path,
     below: &Path,
     number: u16,
@@ -87,18 +116,15 @@ fn both_origins(
     address: u32,
 ) -> Result<(Vec<u8>, Vec<u8>), AllocError>
     requires sound { IsSound root.old }
+    requires runs { TellRuns root.old runs.old }
     requires child { below.now.items ≡ child_of path.now.items number }
     ensures child { IfOk result (λ v. TellsOrigin root.old (Byte address) below.now.items all_events (byte_at child.now.memory address) (codes "child changed by") v.0.items) }
     ensures parent { IfOk result (λ v. TellsOrigin root.old (Byte address) path.now.items all_events (byte_at parent.now.memory address) (codes "parent changed by") v.1.items) }
+    ensures runs { IfOk result (λ _. StillTell runs.old runs.new) }
     ensures same { root.new ≡ root.old }
 {
-    let tree = copy_tree(alloc, root)?;
-    match lineages(alloc, tree, path, below, Watched::Byte(address))? {
-        Some((of_child, of_parent)) => {
-            let by_child = lineage_byte(alloc, below, address, child, &of_child, CHILD)?;
-            let by_parent = lineage_byte(alloc, path, address, parent, &of_parent, PARENT)?;
-            Ok((by_child, by_parent))
-        }
+    match lineages_told(alloc, runs, path, below, child, parent, address)? {
+        Some(told) => Ok(told),
         None => origins_beside(alloc, root, path, below, number, child, parent, address),
     }
 }
@@ -107,6 +133,7 @@ fn both_origins(
 fn told_conflict(
     alloc: Global,
     root: &mut Space,
+    runs: &mut Runs,
     path: &Path,
     below: &Path,
     number: u16,
@@ -114,8 +141,10 @@ fn told_conflict(
     address: u32,
 ) -> Result<Vec<u8>, AllocError>
     requires sound { IsSound root.old }
+    requires runs { TellRuns root.old runs.old }
     requires child { below.now.items ≡ child_of path.now.items number }
     ensures told { IfOk result (λ v. TellsConflict root.old path.now.items below.now.items sides.now.parent.now sides.now.child.now sides.now.snapshot.now.memory address v.items) }
+    ensures runs { IfOk result (λ _. StillTell runs.old runs.new) }
     ensures same { root.new ≡ root.old }
 {
     let space = sides.parent;
@@ -131,7 +160,7 @@ fn told_conflict(
         parent.byte(address),
     )?;
     let (by_child, by_parent) = both_origins(
-        alloc, root, path, below, number, child, parent, address,
+        alloc, root, runs, path, below, number, child, parent, address,
     )?;
     let mut text = head.into_bytes();
     text.extend_from_slice(bytes.as_bytes())?;
@@ -171,13 +200,16 @@ fn lone_conflict(alloc: Global, path: &Path, address: u32) -> Result<Vec<u8>, Al
 pub(crate) fn explain_conflict(
     alloc: Global,
     root: &mut Space,
+    runs: &mut Runs,
     end: &Space,
     path: &Path,
     parent: &Top,
     address: u32,
 ) -> Result<Vec<u8>, AllocError>
-    requires { IsSound root.old }
+    requires sound { IsSound root.old }
+    requires runs { TellRuns root.old runs.old }
     ensures told { IfOk result (λ v. ExplainsConflict root.old end.now path.now.items parent.now address v.items) }
+    ensures runs { IfOk result (λ _. StillTell runs.old runs.new) }
     ensures same { root.new ≡ root.old }
 {
     let number = parent.registers.register(11);
@@ -187,5 +219,5 @@ pub(crate) fn explain_conflict(
     let Some(sides) = sides_of(end, &below, parent) else {
         return lone_conflict(alloc, path, address);
     };
-    told_conflict(alloc, root, path, &below, number as u16, &sides, address)
+    told_conflict(alloc, root, runs, path, &below, number as u16, &sides, address)
 }

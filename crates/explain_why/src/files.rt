@@ -1,12 +1,18 @@
-ghost use Rattle.std.specs.Prelude.{◌≡◌, ◌<◌, ◌≤◌, IfOk, option_map, take};
+ghost use Rattle.std.specs.Prelude.{◌≡◌, ◌<◌, ◌≤◌, IfOk, codes, option_map, take};
+ghost use Rattle.memory_model.specs.Memory.{byte_at};
 ghost use Rattle.file_model.specs.Sizes.{slot_count};
 ghost use Rattle.space_model.specs.Files.{file_bytes};
 ghost use Rattle.space_model.specs.Sound.{IsSound};
+ghost use Rattle.explain_core.specs.declared.watching.Watched.TheVariants.{Byte};
+ghost use Rattle.explain_why.specs.Origin.{TellsOrigin};
 ghost use Rattle.explain_why.specs.Parts.{HasParts, numbers_below};
-ghost use Rattle.explain_why.specs.Why.{ExplainsSlot, conflicted_name, flags_address};
+ghost use Rattle.explain_why.specs.Runs.{StillTell, TellRuns};
+ghost use Rattle.explain_why.specs.Why.{ExplainsSlot, all_events, conflicted_name, flags_address};
 
-use crate::origin::byte_origin;
+use crate::origin::{byte_origin, lineage_byte};
+use crate::runs::{Runs, lineage_in};
 use crate::texts::file_text;
+use explain_core::Watched;
 use file_image::Header;
 use memory_files::header_in;
 use space_tree::{Mem, Path, Space};
@@ -19,6 +25,9 @@ const SLOTS: u32 = 64;
 const FIRST_FLAGS: u32 = 0xC000_0014;
 
 const SLOT_SIZE: u32 = 65536;
+
+// The words before who changed the flags.
+const FLAGS: &str = "flags changed by";
 
 // The bytes of a header's name, before the zeros behind it.
 fn name_of(alloc: Global, header: &Header) -> Result<Vec<u8>, AllocError>
@@ -56,25 +65,62 @@ fn flags_address(slot: u32) -> u32
     FIRST_FLAGS + SLOT_SIZE * slot
 }
 
-// What is told of a slot: its file, where it is in conflict, and who changed its flags.
-fn explain_slot(
+/// Where the flags of all slots with a file in conflict stand in a memory.
+pub(crate) fn conflicted_flags(alloc: Global, memory: &Mem) -> Result<Vec<u32>, AllocError> {
+    let mut addresses = Vec::new(alloc);
+    for slot in 0..SLOTS {
+        if conflicted_name(alloc, memory, slot)?.is_some() {
+            addresses.push(flags_address(slot))?;
+        }
+    }
+    Ok(addresses)
+}
+
+// Who changed the flags of a slot, by the lineage that a run tells, or in runs of its own.
+fn flags_origin(
     alloc: Global,
     root: &mut Space,
+    runs: &mut Runs,
     path: &Path,
     memory: &Mem,
     slot: u32,
 ) -> Result<Vec<u8>, AllocError>
     requires sound { IsSound root.old }
+    requires runs { TellRuns root.old runs.old }
+    requires slot { slot < slot_count }
+    ensures told { IfOk result (λ v. TellsOrigin root.old (Byte (flags_address slot)) path.now.items all_events (byte_at memory.now.memory (flags_address slot)) (codes "flags changed by") v.items) }
+    ensures runs { IfOk result (λ _. StillTell runs.old runs.new) }
+    ensures same { root.new ≡ root.old }
+{
+    let address = flags_address(slot);
+    let watched = Watched::Byte(address);
+    match lineage_in(alloc, &mut runs.lineages, path, watched)? {
+        Some(links) => lineage_byte(alloc, path, address, memory, &links, FLAGS),
+        None => byte_origin(alloc, root, path, address, memory, FLAGS),
+    }
+}
+
+// What is told of a slot: its file, where it is in conflict, and who changed its flags.
+fn explain_slot(
+    alloc: Global,
+    root: &mut Space,
+    runs: &mut Runs,
+    path: &Path,
+    memory: &Mem,
+    slot: u32,
+) -> Result<Vec<u8>, AllocError>
+    requires sound { IsSound root.old }
+    requires runs { TellRuns root.old runs.old }
     requires slot { slot < slot_count }
     ensures told { IfOk result (λ v. ExplainsSlot root.old path.now.items memory.now.memory slot v.items) }
+    ensures runs { IfOk result (λ _. StillTell runs.old runs.new) }
     ensures same { root.new ≡ root.old }
 {
     let Some(name) = conflicted_name(alloc, memory, slot)? else {
         return Ok(Vec::new(alloc));
     };
     let head = file_text(alloc, path, slot, &name)?;
-    let address = flags_address(slot);
-    let side = byte_origin(alloc, root, path, address, memory, "flags changed by")?;
+    let side = flags_origin(alloc, root, runs, path, memory, slot)?;
     let mut text = head.into_bytes();
     text.extend_from_slice(&side)?;
     Ok(text)
@@ -84,16 +130,19 @@ fn explain_slot(
 pub(crate) fn explain_files(
     alloc: Global,
     root: &mut Space,
+    runs: &mut Runs,
     path: &Path,
     memory: &Mem,
 ) -> Result<Vec<u8>, AllocError>
-    requires { IsSound root.old }
+    requires sound { IsSound root.old }
+    requires runs { TellRuns root.old runs.old }
     ensures told { IfOk result (λ v. HasParts (ExplainsSlot root.old path.now.items memory.now.memory) (numbers_below slot_count) v.items) }
+    ensures runs { IfOk result (λ _. StillTell runs.old runs.new) }
     ensures same { root.new ≡ root.old }
 {
     let mut text = Vec::new(alloc);
     for slot in 0..SLOTS {
-        let part = explain_slot(alloc, root, path, memory, slot)?;
+        let part = explain_slot(alloc, root, runs, path, memory, slot)?;
         text.extend_from_slice(&part)?;
     }
     Ok(text)

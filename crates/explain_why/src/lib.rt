@@ -6,6 +6,8 @@ mod conflict;
 mod files;
 mod origin;
 mod paths;
+mod planning;
+mod runs;
 mod telling;
 mod texts;
 mod trap;

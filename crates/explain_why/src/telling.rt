@@ -1,11 +1,14 @@
 ghost use Rattle.std.specs.Prelude.{◌≡◌, Some, IfOk, map};
 ghost use Rattle.space_model.specs.Sound.{IsSound};
 ghost use Rattle.explain_why.specs.Parts.{HasParts};
+ghost use Rattle.explain_why.specs.Runs.{StillTell, TellRuns};
 ghost use Rattle.explain_why.specs.Why.{ExplainsSpace, ExplainsStop, ExplainsTop, IsWhy, ending_of, said};
 
 use crate::conflict::explain_conflict;
 use crate::files::explain_files;
 use crate::paths::paths_of;
+use crate::planning::runs_for;
+use crate::runs::Runs;
 use crate::trap::explain_trap;
 use demand_eval::settle;
 use space_tree::{Cause, Path, Space, Status, Top, at, copy_tree};
@@ -13,14 +16,14 @@ use std::alloc::{AllocError, Global};
 
 // What is to be told of a space by its status: nothing, a conflict at an address, or another trap.
 #[derive(Clone, Copy, Debug, PartialEq, Eq)]
-enum Ending {
+pub(crate) enum Ending {
     Quiet,
     Conflicting(u32),
     Trapped,
 }
 
 #[tactic(auto, unfolding(crate::specs::Why::ending_of))]
-fn ending_of(status: Status) -> Ending
+pub(crate) fn ending_of(status: Status) -> Ending
     ensures { result ≡ ending_of status }
 {
     match status {
@@ -37,18 +40,21 @@ fn ending_of(status: Status) -> Ending
 fn explain_stop(
     alloc: Global,
     root: &mut Space,
+    runs: &mut Runs,
     end: &Space,
     path: &Path,
     top: &Top,
 ) -> Result<Vec<u8>, AllocError>
-    requires { IsSound root.old }
+    requires sound { IsSound root.old }
+    requires runs { TellRuns root.old runs.old }
     ensures told { IfOk result (λ v. let t = top.now in ExplainsStop root.old end.now path.now.items t (ending_of t.status) v.items) }
+    ensures runs { IfOk result (λ _. StillTell runs.old runs.new) }
     ensures same { root.new ≡ root.old }
 {
     match ending_of(top.status) {
         Ending::Quiet => Ok(Vec::new(alloc)),
-        Ending::Conflicting(address) => explain_conflict(alloc, root, end, path, top, address),
-        Ending::Trapped => explain_trap(alloc, root, path, top),
+        Ending::Conflicting(address) => explain_conflict(alloc, root, runs, end, path, top, address),
+        Ending::Trapped => explain_trap(alloc, root, runs, path, top),
     }
 }
 
@@ -56,16 +62,19 @@ fn explain_stop(
 fn explain_top(
     alloc: Global,
     root: &mut Space,
+    runs: &mut Runs,
     end: &Space,
     path: &Path,
     top: &Top,
 ) -> Result<Vec<u8>, AllocError>
-    requires { IsSound root.old }
+    requires sound { IsSound root.old }
+    requires runs { TellRuns root.old runs.old }
     ensures told { IfOk result (λ v. ExplainsTop root.old end.now path.now.items (Some top.now) v.items) }
+    ensures runs { IfOk result (λ _. StillTell runs.old runs.new) }
     ensures same { root.new ≡ root.old }
 {
-    let mut text = explain_stop(alloc, root, end, path, top)?;
-    let files = explain_files(alloc, root, path, &top.memory)?;
+    let mut text = explain_stop(alloc, root, runs, end, path, top)?;
+    let files = explain_files(alloc, root, runs, path, &top.memory)?;
     text.extend_from_slice(&files)?;
     Ok(text)
 }
@@ -74,32 +83,37 @@ fn explain_top(
 fn explain_space(
     alloc: Global,
     root: &mut Space,
+    runs: &mut Runs,
     end: &Space,
     path: &Path,
 ) -> Result<Vec<u8>, AllocError>
-    requires { IsSound root.old }
+    requires sound { IsSound root.old }
+    requires runs { TellRuns root.old runs.old }
     ensures told { IfOk result (λ v. ExplainsSpace root.old end.now path.now.items v.items) }
+    ensures runs { IfOk result (λ _. StillTell runs.old runs.new) }
     ensures same { root.new ≡ root.old }
 {
     let Some(space) = at(end, path) else {
         return Ok(Vec::new(alloc));
     };
-    explain_top(alloc, root, end, path, space.top())
+    explain_top(alloc, root, runs, end, path, space.top())
 }
 
 // What is told of the spaces at these paths, one after the other.
 fn explain_all(
     alloc: Global,
     root: &mut Space,
+    runs: &mut Runs,
     end: &Space,
     paths: &[Path],
 ) -> Result<Vec<u8>, AllocError>
-    requires { IsSound root.old }
+    requires sound { IsSound root.old }
+    requires runs { TellRuns root.old runs.old }
     ensures told { IfOk result (λ v. HasParts (ExplainsSpace root.old end.now) (map (λ p. p.items) paths.now) v.items) }
 {
     let mut text = Vec::new(alloc);
     for path in paths {
-        let part = explain_space(alloc, root, end, path)?;
+        let part = explain_space(alloc, root, runs, end, path)?;
         text.extend_from_slice(&part)?;
     }
     Ok(text)
@@ -126,6 +140,7 @@ pub fn why(alloc: Global, root: Space) -> Result<Vec<u8>, AllocError>
     let mut root = root;
     let end = settle(alloc, copy_tree(alloc, &mut root)?)?;
     let paths = paths_of(alloc, &end)?;
-    let text = explain_all(alloc, &mut root, &end, &paths)?;
+    let mut runs = runs_for(alloc, &mut root, &end, &paths)?;
+    let text = explain_all(alloc, &mut root, &mut runs, &end, &paths)?;
     said(alloc, text)
 }

@@ -1,17 +1,22 @@
-ghost use Rattle.std.specs.Prelude.{◌≡◌, ◌<◌, ◌-◌, IfOk, IfSome, true, option_map};
+ghost use Rattle.std.specs.Prelude.{◌≡◌, ◌<◌, ◌-◌, IfOk, IfSome, true, map, option_map};
 ghost use Rattle.space_model.specs.Sound.{IsSound};
+ghost use Rattle.space_model.specs.Space.{Space};
 ghost use Rattle.space_model.specs.Stop.{is_stopped};
 ghost use Rattle.explain_core.specs.declared.watching.Watched.TheVariants.{Register};
 ghost use Rattle.explain_core.specs.Instructions.{instruction_at_pc};
+ghost use Rattle.explain_core.specs.Lineage.{noted_link};
 ghost use Rattle.explain_core.specs.Reached.{HasSoMany, IsTrace, TellsLastOf};
 ghost use Rattle.explain_core.specs.Watch.{noted_of};
 ghost use Rattle.explain_why.specs.Trapped.{TellsLastTwo};
+ghost use Rattle.explain_why.specs.Runs.{StillTell, TellRuns, TellsLineageOf};
 ghost use Rattle.explain_why.specs.Why.{TellsRegister, TellsTrap, address_register, all_events, base_register};
 
-use crate::origin::{changed_origin, last_origin};
+use crate::origin::{changed_origin, last_origin, lineage_origin};
+use crate::planning::{events_told, trap_watched};
+use crate::runs::{Runs, lineage_in, lines_in};
 use crate::texts::{register_word, trap_text};
 use explain_core::{
-    Change, LastEvents, Watched, count_events, instruction_at_pc, last_events, trace,
+    Change, LastEvents, LineageLink, Watched, count_events, instruction_at_pc, last_events, trace,
 };
 use rv_decode::{Instr, Instruction};
 use space_tree::{Cause, Path, Space, Status, Top, copy_tree};
@@ -28,8 +33,8 @@ fn base_register(instruction: Option<Instr>) -> Option<u8>
     }
 }
 
-// Of a space that a load or a store has stopped: that register.
-fn address_register(top: &Top) -> Option<u8>
+/// Of a space that a load or a store has stopped: that register.
+pub(crate) fn address_register(top: &Top) -> Option<u8>
     ensures base { let t = top.now in result ≡ address_register t.status (instruction_at_pc t) }
     ensures within { IfSome result (λ r. r < 32) }
 {
@@ -167,21 +172,93 @@ fn told_at_once(
     }
 }
 
+// Who changed a register of a space of a settled tree, where one is asked for, by the lineage of the path.
+fn register_lineage(
+    alloc: Global,
+    path: &Path,
+    top: &Top,
+    register: Option<u8>,
+    lineage: &[LineageLink],
+) -> Result<Vec<u8>, AllocError>
+    requires { IfSome register (λ r. r < 32) }
+    ensures { (root : Space) → TellsLineageOf root path.now.items register (map noted_link lineage.now) → IfOk result (λ v. TellsRegister root path.now.items top.now register v.items) }
+{
+    let Some(register) = register else {
+        return Ok(Vec::new(alloc));
+    };
+    let word = register_word(alloc, register)?;
+    let watched = Watched::Register(register);
+    let value = top.registers.register(register);
+    lineage_origin(alloc, path, watched, value, lineage, &word)
+}
+
+// The last two own events of a space of a settled tree, and who changed a register, where one is asked for, by runs that answer for many spaces; none where they do not tell.
+fn told_together(
+    alloc: Global,
+    runs: &mut Runs,
+    path: &Path,
+    top: &Top,
+    register: Option<u8>,
+) -> Result<Option<(Vec<u8>, Vec<u8>)>, AllocError>
+    requires { IfSome register (λ r. r < 32) }
+    ensures told { (root : Space) → IsSound root → TellRuns root runs.old → IfOk result (λ o. IfSome o (λ v. TellsLastTwo root path.now.items top.now register v.0.items v.1.items)) }
+    ensures runs { IfOk result (λ _. StillTell runs.old runs.new) }
+{
+    if runs.lines.is_none() {
+        return Ok(None);
+    }
+    let watched = trap_watched(register);
+    let Some(links) = lineage_in(alloc, &mut runs.lineages, path, watched)? else {
+        return Ok(None);
+    };
+    let count = events_told(&links);
+    let Some(events) = lines_in(alloc, &mut runs.lines, path, count)? else {
+        return Ok(None);
+    };
+    let source = register_lineage(alloc, path, top, register, &links)?;
+    Ok(Some((events, source)))
+}
+
+// The same in runs of its own where those do not tell.
+fn told_of_trap(
+    alloc: Global,
+    root: &mut Space,
+    runs: &mut Runs,
+    path: &Path,
+    top: &Top,
+    register: Option<u8>,
+) -> Result<(Vec<u8>, Vec<u8>), AllocError>
+    requires sound { IsSound root.old }
+    requires runs { TellRuns root.old runs.old }
+    requires within { IfSome register (λ r. r < 32) }
+    ensures told { IfOk result (λ v. TellsLastTwo root.old path.now.items top.now register v.0.items v.1.items) }
+    ensures runs { IfOk result (λ _. StillTell runs.old runs.new) }
+    ensures same { root.new ≡ root.old }
+{
+    match told_together(alloc, runs, path, top, register)? {
+        Some(told) => Ok(told),
+        None => told_at_once(alloc, root, path, top, register),
+    }
+}
+
 /// Why a trap has stopped a space of a settled tree: the event before it, the trap, and who changed the register of the address.
 pub(crate) fn explain_trap(
     alloc: Global,
     root: &mut Space,
+    runs: &mut Runs,
     path: &Path,
     top: &Top,
 ) -> Result<Vec<u8>, AllocError>
     requires sound { IsSound root.old }
+    requires runs { TellRuns root.old runs.old }
     requires stopped { let t = top.now in is_stopped t.status ≡ true }
     ensures told { IfOk result (λ v. TellsTrap root.old path.now.items top.now v.items) }
+    ensures runs { IfOk result (λ _. StillTell runs.old runs.new) }
     ensures same { root.new ≡ root.old }
 {
     let head = trap_text(alloc, path, top.status)?;
     let register = address_register(top);
-    let (events, source) = told_at_once(alloc, root, path, top, register)?;
+    let (events, source) = told_of_trap(alloc, root, runs, path, top, register)?;
     let mut text = head.into_bytes();
     text.extend_from_slice(&events)?;
     text.extend_from_slice(&source)?;

@@ -1,6 +1,5 @@
-use Rattle.space_model.specs.Space.{Space}
-use Rattle.explain_core.specs.Notes.{TellsAll}
+use Rattle.explain_core.specs.Notes.{GoesOnTelling}
 use Rattle.explain_core.proofs.walking.turns_at.Given as goal
 
 abbrev pub invariant-turns : goal.invariant-turns
-invariant-turns l = (root : Space) → TellsAll root l.watched l.fn.notes.entries l.fn.tree → TellsAll root l.watched l.notes.entries l.tree
+invariant-turns l = GoesOnTelling l.path.items l.watched l.fn.notes.entries l.notes.entries l.fn.tree l.tree

@@ -1,7 +1,14 @@
-use Rattle.std.proofs.Common.{◌++◌, ap, ◌∙◌}
+use Rattle.std.proofs.Common.{◌++◌, sym, ap, ◌∙◌, subst}
 use Rattle.space_model.specs.Space.{Top}
+use Rattle.explain_why.specs.Runs.{TellRuns}
 use Rattle.explain_why.proofs.Spaces.{top_told}
 use Rattle.explain_why.proofs.telling.explain_top.Goals as goal
+
+pub explain_files-requires-clause-runs : goal.explain_files-requires-clause-runs
+explain_files-requires-clause-runs c = subst (λ s. TellRuns s c.explain_stop.new.runs) (sym c.explain_stop.ensures.same) (c.in_ok-text.ensures.runs c.args.root.now c.requires.runs)
+
+pub returns-clause-runs : goal.returns-clause-runs
+returns-clause-runs c = λ root tell. c.in_ok-files.ensures.runs root (c.in_ok-text.ensures.runs root tell)
 
 pub returns-clause-told : goal.returns-clause-told
 returns-clause-told c =

@@ -1,5 +1,5 @@
 use Rattle.std.proofs.Common.{length}
-use Rattle.explain_core.proofs.through_joins.+push_told.Given as goal
+use Rattle.explain_core.proofs.lineages.+push_told.Given as goal
 
 abbrev pub decreases-push_told : goal.decreases-push_told
 decreases-push_told l = length l.links.now

@@ -1,0 +1,206 @@
+ghost use Rattle.std.specs.Prelude.{◌≡◌, IfOk, OnOk, map, option_map};
+ghost use Rattle.space_model.specs.Space.{Space};
+ghost use Rattle.explain_core.specs.LastLines.{IsFresh, TellsLines};
+ghost use Rattle.explain_core.specs.Lineage.{events_told, noted_link};
+ghost use Rattle.explain_why.specs.Runs.{TellAll, TellRuns, watched_by};
+
+use crate::files::conflicted_flags;
+use crate::paths::copy_path;
+use crate::runs::{Runs, lineage_in};
+use crate::telling::{Ending, ending_of};
+use crate::trap::address_register;
+use explain_core::{LineRun, LineageLink, LineageRun, Wanted, WatchList, Watched};
+use space_tree::{Path, Space, Top, at, copy_tree};
+use std::alloc::{AllocError, Global};
+
+// What is asked of a path: who changed this.
+#[derive(Drop)]
+struct Asked {
+    path: Path,
+    watched: Watched,
+}
+
+/// What is watched of a space that a trap has stopped: the register of the address, or x0, which never changes.
+pub(crate) fn trap_watched(register: Option<u8>) -> Watched
+    ensures { result ≡ watched_by register }
+{
+    match register {
+        Some(register) => Watched::Register(register),
+        None => Watched::Register(0),
+    }
+}
+
+// Adds what is asked of a space of a settled tree because of the way that it stopped.
+fn push_stop(asked: &mut Vec<Asked>, traps: &mut Vec<Asked>, path: &Path, top: &Top) -> Result<(), AllocError> {
+    let path = copy_path(path)?;
+    match ending_of(top.status) {
+        Ending::Quiet => {}
+        Ending::Conflicting(address) => asked.push(Asked {
+            path,
+            watched: Watched::Byte(address),
+        })?,
+        Ending::Trapped => traps.push(Asked {
+            path,
+            watched: trap_watched(address_register(top)),
+        })?,
+    }
+    Ok(())
+}
+
+// Adds what is asked of a space of a settled tree because of its files.
+fn push_files(alloc: Global, asked: &mut Vec<Asked>, path: &Path, top: &Top) -> Result<(), AllocError> {
+    let addresses = conflicted_flags(alloc, &top.memory)?;
+    for address in &addresses {
+        asked.push(Asked {
+            path: copy_path(path)?,
+            watched: Watched::Byte(*address),
+        })?;
+    }
+    Ok(())
+}
+
+// Adds a list that watches this to others, unless one of them can.
+fn watch(alloc: Global, lists: &mut Vec<WatchList>, asked: &Asked) -> Result<(), AllocError> {
+    for index in 0..lists.len() {
+        if lists[index].add(&asked.path, asked.watched)? {
+            return Ok(());
+        }
+    }
+    let mut list = WatchList::new(alloc);
+    list.add(&asked.path, asked.watched)?;
+    lists.push(list)?;
+    Ok(())
+}
+
+// What is asked of a space of a settled tree.
+fn push_asked(
+    alloc: Global,
+    asked: &mut Vec<Asked>,
+    traps: &mut Vec<Asked>,
+    path: &Path,
+    top: &Top,
+) -> Result<(), AllocError> {
+    push_stop(asked, traps, path, top)?;
+    push_files(alloc, asked, path, top)
+}
+
+// What is asked of the spaces at these paths of a settled tree, without the traps; and of those that another trap has stopped.
+fn all_asked(
+    alloc: Global,
+    end: &Space,
+    paths: &[Path],
+) -> Result<(Vec<Asked>, Vec<Asked>), AllocError> {
+    let mut asked = Vec::new(alloc);
+    let mut traps = Vec::new(alloc);
+    for path in paths {
+        if let Some(space) = at(end, path) {
+            push_asked(alloc, &mut asked, &mut traps, path, space.top())?;
+        }
+    }
+    Ok((asked, traps))
+}
+
+// Lists that watch all that is asked, as few as there are things that are watched at one path.
+fn watch_all(
+    alloc: Global,
+    lists: &mut Vec<WatchList>,
+    asked: &[Asked],
+) -> Result<(), AllocError> {
+    for one in asked {
+        watch(alloc, lists, one)?;
+    }
+    Ok(())
+}
+
+// A run for each list.
+fn lineage_runs(
+    alloc: Global,
+    root: &mut Space,
+    lists: Vec<WatchList>,
+) -> Result<Vec<LineageRun>, AllocError>
+    ensures runs { IfOk result (λ v. TellAll root.old v.items) }
+    ensures same { root.new ≡ root.old }
+{
+    let mut runs = Vec::new(alloc);
+    for list in lists {
+        let tree = copy_tree(alloc, root)?;
+        let run = LineageRun::new(alloc, tree, list)?;
+        runs.push(run)?;
+    }
+    Ok(runs)
+}
+
+// How many own events the first of these links tells of.
+pub(crate) fn events_told(links: &[LineageLink]) -> u64
+    ensures { result ≡ events_told (map noted_link links.now) }
+{
+    match links {
+        [] => 0,
+        [first, ..] => first.count,
+    }
+}
+
+// Adds the last two events of a space that a trap has stopped to what is wanted.
+fn want(
+    alloc: Global,
+    runs: &mut Vec<LineageRun>,
+    wanted: &mut Wanted,
+    trap: &Asked,
+) -> Result<(), AllocError>
+    ensures runs { OnOk result ((root : Space) → TellAll root runs.old.items → TellAll root runs.new.items) }
+    ensures fresh { OnOk result (IsFresh wanted.old → IsFresh wanted.new) }
+{
+    match lineage_in(alloc, runs, &trap.path, trap.watched)? {
+        Some(links) => wanted.add(alloc, &trap.path, events_told(&links)),
+        None => Ok(()),
+    }
+}
+
+// A run that tells the last two events of these spaces.
+fn line_run(
+    alloc: Global,
+    root: &mut Space,
+    runs: &mut Vec<LineageRun>,
+    traps: &[Asked],
+) -> Result<LineRun, AllocError>
+    ensures lines { IfOk result (TellsLines root.old) }
+    ensures runs { IfOk result (λ _. (r : Space) → TellAll r runs.old.items → TellAll r runs.new.items) }
+    ensures same { root.new ≡ root.old }
+{
+    let mut wanted = Wanted::new(alloc);
+    for trap in traps {
+        want(alloc, runs, &mut wanted, trap)?;
+    }
+    let tree = copy_tree(alloc, root)?;
+    LineRun::new(alloc, tree, wanted)
+}
+
+/// Runs of a tree that answer for the spaces at these paths of the settled tree.
+pub(crate) fn runs_for(
+    alloc: Global,
+    root: &mut Space,
+    end: &Space,
+    paths: &[Path],
+) -> Result<Runs, AllocError>
+    ensures runs { IfOk result (TellRuns root.old) }
+    ensures same { root.new ≡ root.old }
+{
+    let (asked, traps) = all_asked(alloc, end, paths)?;
+    let mut lists = Vec::new(alloc);
+    watch_all(alloc, &mut lists, &asked)?;
+    // One alone has a run of its own, which takes less.
+    if traps.len() < 2 {
+        let lineages = lineage_runs(alloc, root, lists)?;
+        return Ok(Runs {
+            lineages,
+            lines: None,
+        });
+    }
+    watch_all(alloc, &mut lists, &traps)?;
+    let mut lineages = lineage_runs(alloc, root, lists)?;
+    let lines = line_run(alloc, root, &mut lineages, &traps)?;
+    Ok(Runs {
+        lineages,
+        lines: Some(lines),
+    })
+}
