@@ -1,3 +1,4 @@
+pub mod About
 pub mod Courses
 pub mod Files
 pub mod Promises

@@ -1,7 +1,7 @@
 -- Words that ask about the program itself, and the text that answers them.
 -- Our choice: the words and the texts.
-use Rattle.std.specs.Prelude.{ℕ, ◌-◌, List, [], ◌∷◌, ◌++◌, length, Option, Some, None, codes, if◌then◌else◌, option_and_then, slice_get}
-use Rattle.std.specs.Str.{bytes_eq}
+use Rattle.std.specs.Prelude.{ℕ, List, drop, Option, Some, None, ◌++◌, codes, bytes_eq, ◌||◌, if◌then◌else◌, option_and_then}
+use Rattle.std.specs.List.{last_or}
 
 -- what `--help` prints
 unfoldable pub help_text : List ℕ
@@ -26,16 +26,10 @@ version_text = codes "explain 0.1.0\n"
 
 -- the text that a word asks for, if it asks for one
 unfoldable pub text_for : List ℕ → Option (List ℕ)
-text_for word = if bytes_eq word (codes "--help") then Some help_text
-    else if bytes_eq word (codes "-h") then Some help_text
+text_for word = if bytes_eq word (codes "-h") || bytes_eq word (codes "--help") then Some help_text
     else if bytes_eq word (codes "--version") then Some version_text
     else None
 
--- the last of the words after the program's name
-abbrev pub last_word : List (List ℕ) → Option (List ℕ)
-last_word [] = None
-last_word (program ∷ words) = slice_get words (length words - 1)
-
--- the text that the words ask for, if they ask about the program itself: their last word does
+-- the text that the last of the words asks for; the program's name, which is the first, asks for none
 unfoldable pub text_asked : List (List ℕ) → Option (List ℕ)
-text_asked words = option_and_then text_for (last_word words)
+text_asked words = option_and_then text_for (last_or None (drop 1 words))

@@ -25,19 +25,15 @@ fn help() -> &'static str
 fn text_for(word: &str) -> Option<&'static str>
     ensures { option_map (λ s. s.now) result ≡ text_for word.now }
 {
-    if word == "--help" {
-        Some(help())
-    } else if word == "-h" {
-        Some(help())
-    } else if word == "--version" {
-        Some("explain 0.1.0\n")
-    } else {
-        None
+    match word {
+        "-h" | "--help" => Some(help()),
+        "--version" => Some("explain 0.1.0\n"),
+        _ => None,
     }
 }
 
-/// The text that the words of a command line ask for, if they ask about the program itself: `-h`, `--help` or `--version` as the last word. The first is the
-/// program's name.
+/// The text that the words of a command line ask for about the program itself: the last word is `-h`, `--help` or
+/// `--version`. The first word is the program's name, and asks for none.
 pub(crate) fn text_asked(words: &[String]) -> Option<&'static str>
     ensures { option_map (λ s. s.now) result ≡ text_asked (map string_bytes words.now) }
 {

@@ -17,8 +17,9 @@ pub struct Exit {
     pub status: u8,
 }
 
-/// Does all that the program does: answers words that ask about the program itself; else reads the words, loads the image and the script that they name, and writes to `out` the answer to what they ask about the run; then
-/// writes the line of an end that is no success to `err`.
+/// Does all that the program does: writes the text that words ask for about the program itself, to `out`; or reads the
+/// words, loads the image and the script that they name, and writes to `out` the answer to what they ask about the run.
+/// Then writes the line of an end that is no success to `err`.
 ///
 /// Where the loader does not tell a file, there are bytes of which all of this is true. Of sinks that do not tell what they took the counts are
 /// promised all the same. It starts no threads and waits for none.
