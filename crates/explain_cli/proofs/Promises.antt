@@ -167,8 +167,9 @@ ended_so text words i out ended end h (inl same) = subst (λ (x : End). BegunOf 
 ended_so text words i out ended end h (inr same) = subst (λ (x : End). BegunOf text words i out x) (sym same) (late_of text words i out ended h)
 
 -- the words ask for a text, or for none
-pub asked_begun : (o : Option (List ℕ)) (text : List ℕ) (words : List (List ℕ)) (i : Input) (out : Output) (end : End) → o ≡ Some text → IsUnasked i → ShowsWritten out text end → BegunOf o words i out end
-asked_begun o text words i out end is unasked h = subst (λ (x : Option (List ℕ)). BegunOf x words i out end) (sym is) (unasked, h)
+pub asked_begun : (o : Option (List ℕ)) (text written : List ℕ) (words : List (List ℕ)) (i : Input) (out : Output) (end : End) → o ≡ Some text → written ≡ text → IsUnasked i → ShowsWritten out written end → BegunOf o words i out end
+asked_begun o text written words i out end is same unasked h =
+    subst (λ (x : Option (List ℕ)). BegunOf x words i out end) (sym is) (unasked, subst (λ (t : List ℕ). ShowsWritten out t end) same h)
 
 pub unasked_begun : (o : Option (List ℕ)) (words : List (List ℕ)) (i : Input) (out : Output) (end : End) → o ≡ None → Begun words i out end → BegunOf o words i out end
 unasked_begun o words i out end is h = subst (λ (x : Option (List ℕ)). BegunOf x words i out end) (sym is) h
