@@ -1,5 +1,5 @@
-pub mod About
 pub mod Courses
 pub mod Files
 pub mod Promises
 pub mod Sources
+pub mod Words

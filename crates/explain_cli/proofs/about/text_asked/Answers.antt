@@ -1,6 +1,6 @@
 use Rattle.std.proofs.Common.{option_map, string_bytes, ap, ◌∙◌}
 use Rattle.explain_cli.specs.About.{text_for}
-use Rattle.explain_cli.proofs.About.{last_asked, none_asked}
+use Rattle.explain_cli.proofs.Words.{last_asked, none_asked}
 use Rattle.explain_cli.proofs.about.text_asked.Goals as goal
 
 pub returns-in_err-rest : goal.returns-in_err-rest

@@ -1,6 +1,6 @@
 use Rattle.std.proofs.Common.{inl, inr, Some, sym, ap, ◌∙◌}
 use Rattle.explain_cli.specs.About.{text_for}
-use Rattle.explain_cli.proofs.About.{no_text}
+use Rattle.explain_cli.proofs.Words.{no_text}
 use Rattle.explain_cli.proofs.about.text_for.Goals as goal
 
 pub returns-in-text : goal.returns-in-text
