@@ -24,7 +24,7 @@ _det_words() {
 _det() {
     local word=${COMP_WORDS[COMP_CWORD]} program=${COMP_WORDS[0]##*/} commands
     case "$program" in
-        explain) commands="at trace why" ;;
+        explain) commands="at trace why --help --version" ;;
         *) commands="run walk asm bench" ;;
     esac
     if [ "$COMP_CWORD" = 1 ]; then

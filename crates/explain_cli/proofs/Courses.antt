@@ -15,7 +15,7 @@ use Rattle.explain_words.specs.Line.{Command}
 use Rattle.explain_cli.specs.declared.end.End.{End}
 use Rattle.explain_cli.specs.declared.end.End.TheVariants.{Failed}
 use Rattle.explain_cli.specs.declared.reading.Loaded.{Loaded}
-use Rattle.explain_cli.specs.Explains.{Explains}
+use Rattle.explain_cli.specs.Explains.{Explains, ShowsWritten}
 use Rattle.explain_cli.specs.Answers.{Course, CourseOf, Decision, Ends, decision_of, undecided, refused, run}
 use Rattle.explain_cli.specs.Stages.{Decides, ReadsRun, symbols_of}
 
@@ -52,6 +52,12 @@ memory_in root c symbols out end (inr (inl (never, u))) = inr (inr (inr (refl, i
 memory_in root c symbols out end (inr (inr (inl (same, text, shows, stop)))) =
     inr (inr (inr (refl, inr (text, shows, prefix_of_part out.taken_before out.taken_after text stop.0.0 stop.0.1.1))))
 memory_in root c symbols out end (inr (inr (inr h))) = inr (inr (inr (refl, h.1)))
+
+-- a text that was written so was written so far
+pub memory_written : (out : Output) (text : List ℕ) (end : End) → ShowsWritten out text end → ShowsWritten out text (Failed NoMemory)
+memory_written out text end (inl (same, wrote)) = inr (inr (refl, whole_prefix out text wrote))
+memory_written out text end (inr (inl (same, stop))) = inr (inr (refl, prefix_of_part out.taken_before out.taken_after text stop.0.0 stop.0.1.1))
+memory_written out text end (inr (inr (same, part))) = inr (inr (refl, part))
 
 memory_after : (c : Command) (d : Decision) (i : Input) (out : Output) (end : End) → Ends c d i out end → Ends c d i out (Failed NoMemory)
 memory_after c undecided i out end h = (h.0, inr refl)

@@ -14,9 +14,9 @@ use Rattle.explain_words.specs.Line.{Command, IsRefused, Question, at_moment, li
 use Rattle.explain_cli.specs.declared.end.End.{End}
 use Rattle.explain_cli.specs.declared.end.End.TheVariants.{Shown, Usage, Failed}
 use Rattle.explain_cli.specs.Ends.{status_of}
-use Rattle.explain_cli.specs.Explains.{Explains, IsNowhere, NeverComes, Shows}
-use Rattle.explain_cli.specs.Answers.{AreNames, Begun, Course, CourseOf, Decision, Ends, IsQuiet, decision_of, refused, run, steps_of, undecided, whole_of}
-use Rattle.explain_cli.proofs.Courses.{memory_of, unread}
+use Rattle.explain_cli.specs.Explains.{Explains, IsNowhere, NeverComes, Shows, ShowsWritten}
+use Rattle.explain_cli.specs.Answers.{AreNames, Begun, BegunOf, Course, CourseOf, Decision, Ends, IsQuiet, decision_of, refused, run, steps_of, undecided, whole_of}
+use Rattle.explain_cli.proofs.Courses.{memory_of, memory_written, unread}
 use Rattle.explain_cli.proofs.Files.{decided}
 
 -- ---- what an end says
@@ -157,7 +157,19 @@ late words i out ended h =
     let course = memory_of (line words) i out ended h.course in
     memory_begun words i out course (λ a is d p some. expected a i out (Failed NoMemory) d (of_line (line words) a i out (Failed NoMemory) is course) p some)
 
+late_of : (text : Option (List ℕ)) (words : List (List ℕ)) (i : Input) (out : Output) (ended : End) → BegunOf text words i out ended → BegunOf text words i out (Failed NoMemory)
+late_of None words i out ended h = late words i out ended h
+late_of (Some text) words i out ended h = (h.0, memory_written out text ended h.1)
+
 -- and then the line
-pub ended_so : (words : List (List ℕ)) (i : Input) (out : Output) (ended end : End) → Begun words i out ended → (end ≡ ended) ⊎ (end ≡ Failed NoMemory) → Begun words i out end
-ended_so words i out ended end h (inl same) = subst (λ (x : End). Begun words i out x) (sym same) h
-ended_so words i out ended end h (inr same) = subst (λ (x : End). Begun words i out x) (sym same) (late words i out ended h)
+pub ended_so : (text : Option (List ℕ)) (words : List (List ℕ)) (i : Input) (out : Output) (ended end : End) → BegunOf text words i out ended → (end ≡ ended) ⊎ (end ≡ Failed NoMemory) → BegunOf text words i out end
+ended_so text words i out ended end h (inl same) = subst (λ (x : End). BegunOf text words i out x) (sym same) h
+ended_so text words i out ended end h (inr same) = subst (λ (x : End). BegunOf text words i out x) (sym same) (late_of text words i out ended h)
+
+-- the words ask for a text, or for none
+pub asked_begun : (o : Option (List ℕ)) (text written : List ℕ) (words : List (List ℕ)) (i : Input) (out : Output) (end : End) → o ≡ Some text → written ≡ text → IsUnasked i → ShowsWritten out written end → BegunOf o words i out end
+asked_begun o text written words i out end is same unasked h =
+    subst (λ (x : Option (List ℕ)). BegunOf x words i out end) (sym is) (unasked, subst (λ (t : List ℕ). ShowsWritten out t end) same h)
+
+pub unasked_begun : (o : Option (List ℕ)) (words : List (List ℕ)) (i : Input) (out : Output) (end : End) → o ≡ None → Begun words i out end → BegunOf o words i out end
+unasked_begun o words i out end is h = subst (λ (x : Option (List ℕ)). BegunOf x words i out end) (sym is) h

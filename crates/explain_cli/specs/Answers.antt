@@ -16,10 +16,11 @@ use Rattle.det_cli.specs.Answers.{IsUnasked, Later}
 use Rattle.symbols.specs.Symbols.{Symbol}
 use Rattle.image_symbols.specs.Files.{AreSymbolsOf}
 use Rattle.explain_words.specs.Line.{Command, line, IsRefused}
+use Rattle.explain_cli.specs.About.{text_asked}
 use Rattle.explain_cli.specs.declared.end.End.{End}
 use Rattle.explain_cli.specs.declared.end.End.TheVariants.{Shown, Usage, Failed}
 use Rattle.explain_cli.specs.Ends.{line_text}
-use Rattle.explain_cli.specs.Explains.{Explains, NeverComes, Shows}
+use Rattle.explain_cli.specs.Explains.{Explains, NeverComes, Shows, ShowsWritten}
 
 -- a file gives names that is an executable file, or else a source of `det asm`
 abbrev pub refusal_of_names : List ℕ → Option det.End
@@ -144,10 +145,15 @@ pub record Begun (words : List (List ℕ)) (i : Input) (out : Output) (end : End
   pub read_fault : end ≡ Failed ReadFault → Rose i.faults_before i.faults_after
   pub write_fault : end ≡ Failed WriteFault → Rose out.faults_before out.faults_after
 
+-- what a call promises before its line is written, by the text that the words ask for: nothing is loaded, and that text is written; or as `Begun`
+abbrev pub BegunOf : Option (List ℕ) → List (List ℕ) → Input → Output → End → Type 0
+BegunOf None words i out end = Begun words i out end
+BegunOf (Some text) words i out end = IsUnasked i × ShowsWritten out text end
+
 -- what a call promises
 pub record Answers (a : Answer) : Type 0 where
   -- which end it has, and what it has loaded and written to `out`
-  pub begun : Begun a.words a.input a.out a.end
+  pub begun : BegunOf (text_asked a.words) a.words a.input a.out a.end
   -- what it has written to `err`
   pub said : Says a.err a.end
   pub later : Later a.input a.out a.err

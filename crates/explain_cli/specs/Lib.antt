@@ -1,3 +1,4 @@
+pub mod About
 pub mod Ends
 pub mod Explains
 pub mod Answers

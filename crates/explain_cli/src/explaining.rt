@@ -136,8 +136,8 @@ fn text_of(
     }
 }
 
-// Writes a text that answers.
-fn write_text<O: Sink>(text: &[u8], out: &mut O) -> End
+/// Writes a text that answers.
+pub(crate) fn write_text<O: Sink>(text: &[u8], out: &mut O) -> End
     ensures written { ShowsWritten (output_of O.taken O.faults out.old out.new) text.now result }
     ensures later { O.faults out.old ≤ O.faults out.new }
 {

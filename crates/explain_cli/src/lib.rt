@@ -1,6 +1,7 @@
 //! The program `explain` as one call over a loader and sinks that are handed in, with what it answers and writes as its contract.
 #![tactic(auto)]
 
+mod about;
 mod end;
 mod explaining;
 mod main_call;

@@ -5,7 +5,7 @@ ghost use Rattle.explain_cli.specs.Answers.{Answers};
 ghost use Rattle.explain_cli.specs.Ends.{status_of};
 
 use crate::end::{End, status};
-use crate::main_call::begin;
+use crate::main_call::perform;
 use crate::saying::say;
 use det_host::{Loader, Sink};
 use std::alloc::Global;
@@ -17,8 +17,9 @@ pub struct Exit {
     pub status: u8,
 }
 
-/// Does all that the program does: reads the words, loads the image and the script that they name, and writes to `out` the answer to what they ask about the run; then
-/// writes the line of an end that is no success to `err`.
+/// Does all that the program does: writes the text that words ask for about the program itself, to `out`; or reads the
+/// words, loads the image and the script that they name, and writes to `out` the answer to what they ask about the run.
+/// Then writes the line of an end that is no success to `err`.
 ///
 /// Where the loader does not tell a file, there are bytes of which all of this is true. Of sinks that do not tell what they took the counts are
 /// promised all the same. It starts no threads and waits for none.
@@ -38,7 +39,7 @@ pub fn explain_main<L: Loader, O: Sink, E: Sink>(
     }) }
     ensures status { result.status ≡ status_of result.end }
 {
-    let ended = begin(alloc, words, files, out);
+    let ended = perform(alloc, words, files, out);
     let end = say(alloc, ended, err);
     Exit {
         end,
