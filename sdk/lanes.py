@@ -33,7 +33,7 @@ CHILDREN = 65536
 STARTS = ("put", "fork", "tfork", "qstart")
 MEETINGS = STARTS + ("get", "wait", "tjoin", "qcommit")
 # How many events of a run, times its traces, take about a second; and how many of them a space counts for.
-WORTH, EACH = 20000000, 200
+WORTH, EACH = 25000000, 100
 # How many traces are asked for before their answers are read: the same on every host.
 BATCH = 8
 
@@ -191,8 +191,8 @@ class Lanes:
     def in_order(self):
         """Spaces that were ever there, each after its parent, children by rising number."""
         there = {space.path for space in self.spaces.values() if space.parts or space.told or space.copied}
-        parents = {path[:at] or "/" for path in there for at in range(len(path)) if path[at] == "/"}
-        return sorted((space for space in self.spaces.values() if space.path in there | parents), key=lambda space: space.key)
+        there |= {path[:at] or "/" for path in there for at in range(len(path)) if path[at] == "/"}
+        return sorted((self.spaces[path] for path in there), key=lambda space: space.key)
 
     def strays(self):
         """Spaces that the lanes and the report do not agree on: none, if all was traced."""

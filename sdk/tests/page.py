@@ -19,7 +19,7 @@ from trying import DET, EXPLAIN, ROOM, SDK, Wrong, example, kit, main, run, same
 page = script("page")
 EXAMPLES = SDK.parent / "examples"
 STARTS = ("put", "fork", "tfork", "qstart")
-# Run by the million events: nothing else is in them.
+# They use up a million events, of which a page needs few.
 LONG = ("nobody_waits", "waits_for_the_child")
 CHROMIUM = next(filter(None, map(shutil.which, ("chromium", "chromium-browser", "google-chrome"))), None)
 VOID = ("meta", "input", "br", "link", "img")
@@ -100,9 +100,9 @@ def runs():
             words = ["--source", str(source)] if source.stem not in LONG else ["--source", str(source), "--events", "1000"]
             yield Run(source.stem, assembled(source.stem), devices if devices.exists() else os.devnull, *words)
     for image in sorted((SDK / "examples").glob("*.elf")):
-        devices, limit = image.with_suffix(".script"), image.with_suffix(".limit")
-        words = ["--limit", limit.read_text().strip()] if limit.exists() else []
-        yield Run(image.stem, image, devices if devices.exists() else os.devnull, *words, "--events", "60000")
+        devices = image.with_suffix(".script")
+        words = ["--limit", "200000", "--events", "60000" if image.stem == "every_call" else "20000"]
+        yield Run("c_" + image.stem, image, devices if devices.exists() else os.devnull, *words)
 
 
 # ---- What a page says, compared with what det and explain say ----
@@ -159,7 +159,7 @@ def is_conflict(it, row, event):
 def compare_steps(it):
     """Each event comes one step after the one before it, or after a stop for which its call waits."""
     rows = it.data["spaces"]
-    ends = sorted(part[3] + 1 for row in rows for part in row[8])
+    ends = {part[3] + 1 for row in rows for part in row[8]}
     for path, row in zip(it.paths(), rows):
         at, first, last = 0, 1, 0
         for part in row[8]:
@@ -217,11 +217,11 @@ def compare_page(it):
 
 
 def try_examples():
-    with concurrent.futures.ThreadPoolExecutor(2) as pool:
-        list(pool.map(try_example, runs()))
+    with concurrent.futures.ThreadPoolExecutor(4) as pool:
+        list(pool.map(whole, runs()))
 
 
-def try_example(it):
+def whole(it):
     it.made()
     for compare in (compare_page, compare_report, compare_steps, compare_arrows, compare_why):
         compare(it)
@@ -236,24 +236,23 @@ MADE = {}
 # ---- Pages of other runs ----
 
 
-def try_steps_by_hand():
-    """Two threads of one byte: what the lanes are, by the rules that the page states."""
-    it = MADE["conflict"]
-    source = (EXAMPLES / "conflict.s").read_text()
-    if "tfork" not in str(it.data["kinds"]) or not source:
-        raise Wrong(f"conflict: {it.data['kinds']}")
+HOSTILE = """
+.segment 0x1000 1
+        lw t0, 0(zero)      ; </script><script>@DATA@ "\\'&lt; <!--
+"""
 
 
 def try_names():
-    """A file may have any name: none is read as HTML, and none ends the data."""
-    name = os.fsdecode(b"</script><b x=\"'&amp;@DATA@\xff\xe2\x80\xa8.elf")
-    image = ROOM / name
-    shutil.copy(example("hello"), image)
-    it = Run("names", image, os.devnull).made()
-    same(it.data["image"], "</script><b x=\"'&amp;@DATA@\\xff\u2028.elf", "the name")
+    """A file may have any name, and a source any text: none is read as HTML, and none ends the data."""
+    name = "<!--<script><b x=\"'&amp;@DATA@\u2028.img"
+    source = stored("hostile.s", HOSTILE.encode())
+    image = stored(name, run(DET, "asm", source)[1])
+    it = Run("names", image, os.devnull, "--source", str(source)).made()
+    same(it.data["image"], name, "the name")
     same(it.page.said["title"], it.data["image"], "the title")
+    same([line[2] for line in it.data["lines"].values()], [" ".join(source.read_text().split("\n")[2].split())], "the source line")
     text = it.out.read_text()
-    same((text.count("<script"), text.count("</script"), "<b " in text, "\u2028" in text.split("<script", 1)[1]), (2, 2, False, False), "what the page has")
+    same((text.count("<script"), text.count("</script"), text.count("<!--"), "<b " in text), (2, 2, 0, False), "what the page has")
 
 
 def try_source_lines():
@@ -302,10 +301,11 @@ def refused(status, said, *words):
 def try_refusals():
     hello, none = example("hello"), os.devnull
     refused(4, "det: read fault", ROOM / "nothing.elf", none)
+    refused(2, "det: usage: run|walk|asm|bench", os.fsdecode(b"no \xff text"), none)
     refused(3, "det: image: truncated at 0", stored("short", b"abc"), none)
     refused(3, "det: script: line 2", hello, stored("bad.script", b"in well\nout badly\n"))
     refused(4, "det: read fault", hello, none, "--source", ROOM / "nothing.s")
-    refused(3, "det: source: line 3: word", hello, none, "--source", SDK / "tests/lines.c")
+    refused(3, "det: source: line 1: word", hello, none, "--source", SDK / "tests/lines.c")
     refused(2, "sdk/page: show: /7: the run has no such space", hello, none, "--show", "/7")
     for words in ([], [hello], ["--limit", "0", hello, none], ["--show", "0", hello, none], ["--why", "-1", hello, none], [hello, none, none]):
         status, _, err = kit("page", *words, "-o", ROOM / "refused.html")
