@@ -206,7 +206,7 @@ class Lanes:
         waiting, seen = [(0, (), "/")], {"/"}
         for path in self.spaces:
             self.wait(waiting, seen, path, parents)
-        with concurrent.futures.ThreadPoolExecutor(min(BATCH, os.cpu_count() or 1)) as pool:
+        with concurrent.futures.ThreadPoolExecutor(min(4, os.cpu_count() or 1)) as pool:
             while waiting and spaces > 0:
                 batch = [heapq.heappop(waiting)[2] for _ in range(min(BATCH, spaces, len(waiting)))]
                 spaces -= len(batch)

@@ -186,9 +186,19 @@ def compare_arrows(it):
                 well = part[1] == event[1] and part[6] == at if is_start else part[3] < event[1]
                 if rows[child][0] != parent or not well:
                     raise Wrong(f"{it.name}: an arrow of {it.paths()[parent]}:{event[0]} to {it.paths()[child]}, part {number}")
+            if it.data["kinds"][event[2]] == "wait":
+                compare_wait(it, event, event[6::2])
         for part in row[8]:
             if row[0] >= 0 and (part[6] < 0 or parent not in rows[row[0]][9][part[6]][6::2]):
                 raise Wrong(f"{it.name}: a part of {it.paths()[parent]} that nothing starts")
+
+
+def compare_wait(it, event, children):
+    """WAIT comes after the stops of all spaces below the child."""
+    names = it.paths()
+    for path, row in zip(names, it.data["spaces"]):
+        if any(path.startswith(names[child] + "/") for child in children) and any(part[1] < event[1] <= part[3] for part in row[8]):
+            raise Wrong(f"{it.name}: a wait at step {event[1]}, while {path} runs")
 
 
 def compare_why(it):
@@ -282,6 +292,20 @@ def try_damaged_lines():
             row.address + row.line
 
 
+def try_few_traces():
+    """With few traces, few events or little fuel the report is still there, and the page says what is not."""
+    cases = [("--traces", "1"), ("--traces", "3"), ("--events", "9"), ("--limit", "40"), ("--limit", "700")]
+    for name in ("merge_sort", "files_of_children", "copied_tree", "mailbox", "nine_levels", "threads_on_nodes"):
+        for at, words in enumerate(cases):
+            it = Run(f"few_{name}_{at}", assembled(name), os.devnull, *words).made()
+            compare_report(it)
+            compare_arrows(it)
+            MADE[it.name] = it
+    notes = [MADE[f"few_merge_sort_{at}"].data["notes"] for at in range(5)]
+    same([[bool(re.search(word, " ".join(note))) for word in ("--traces", "--events")] for note in notes[:3]], [[True, False], [True, False], [False, True]], "the notes")
+    same(notes[4], [], "notes where all is read")
+
+
 def try_show():
     it = Run("show", example("conflict"), os.devnull, "--show", "/1:3").made()
     row, event = it.data["show"]
@@ -363,9 +387,25 @@ def try_10000_threads():
 
 # ---- In a browser ----
 
+# Opens each page in a frame, presses its keys, and searches it. The second half of what is pressed undoes the first.
 FRAMES = """<!doctype html><meta charset="utf-8"><body><iframe id="frame" width="1300" height="700"></iframe><script>
 const frame = document.getElementById("frame"), pages = %s, said = {};
-frame.onload = () => { if (!pages.length) return; said[pages[0]] = frame.contentDocument.body.dataset.drawn + " " + frame.contentDocument.getElementById("details").textContent.slice(0, 200); pages.shift(); next(); };
+const KEYS = ["ArrowDown", "ArrowDown", "ArrowRight", "ArrowLeft", "ArrowUp", "n", "PageDown", "End", "z", "+", "[", "s", "t", "t", "s", "]", "-", "0", "Home", "?", "Escape"];
+frame.onload = () => {
+  if (!pages.length) return;
+  const page = frame.contentDocument, find = name => page.getElementById(name);
+  const press = (key, box) => box.dispatchEvent(new frame.contentWindow.KeyboardEvent("keydown", {key, bubbles: true}));
+  const places = [];
+  for (const key of KEYS) { press(key, page); places.push(frame.contentWindow.location.hash); }
+  const details = find("details").textContent.slice(0, 9000);
+  find("search").value = "stops";
+  find("search").dispatchEvent(new frame.contentWindow.Event("input"));
+  const found = find("found").textContent;
+  press("Enter", find("search"));
+  said[pages[0]] = [page.body.dataset.drawn, page.body.dataset.arrows, details, found, places, find("details").querySelectorAll(".chosen").length];
+  pages.shift();
+  next();
+};
 function next() { if (pages.length) frame.src = pages[0]; else document.body.textContent = JSON.stringify(said); }
 next();
 </script>"""
@@ -391,11 +431,37 @@ def try_in_a_browser():
         print("  pages are not tried in a browser: chromium does not start", flush=True)
         return
     for it in MADE.values():
-        rows = it.data["spaces"]
-        arrows = sum((len(event) - 6) // 2 for row in rows for event in row[9]) + sum(len(row[10]) for row in rows)
-        want = f"{len(rows)} spaces, {arrows} arrows, {sum(len(row[9]) for row in rows)} events "
-        want += "Nothing to explain" if not it.data["why"] else f"{len(it.data['why'])} space"
-        same(said.get(it.out.name, "")[: len(want)], want, f"{it.name} in the browser")
+        counts, drawn, details, *pressed = said.get(it.out.name, ("", "[]", "", "", [], 0))
+        compare_drawn(it, counts, drawn, details)
+        compare_pressed(it, *pressed)
+
+
+def compare_drawn(it, counts, drawn, details):
+    """What a page says in the browser: its arrows from lane to lane, and the lines of explain why."""
+    rows, arrows = it.data["spaces"], []
+    for parent, row in enumerate(rows):
+        for event in row[9]:
+            for child, number in zip(event[6::2], event[7::2]):
+                start = [parent, event[1], child, rows[child][8][number][1]]
+                stop = [child, rows[child][8][number][3], parent, event[1]]
+                arrows.append(start if it.data["kinds"][event[2]] in STARTS else stop)
+    arrows += [[source, time, row, time] for row, space in enumerate(rows) for time, source in space[10]]
+    same(counts, f"{len(rows)} spaces, {len(arrows)} arrows, {sum(len(row[9]) for row in rows)} events", f"{it.name} in the browser")
+    same(json.loads(drawn), arrows[:500], f"{it.name}: arrows in the browser")
+    lines = [line for lines in it.data["why"].values() for line in lines] or ["Nothing to explain"]
+    same([line for line in lines if line not in details], [], f"{it.name}: lines that the browser does not show")
+
+
+def compare_pressed(it, found, places, chosen):
+    """What a search finds, and where the keys have led."""
+    names = it.paths()
+    second, last = "#" + names[min(1, len(names) - 1)], "#" + names[-1]
+    same(places[:2], ["#/", second], f"{it.name}: keys down")
+    same(places[7], last, f"{it.name}: the key End")
+    same(places[-1], "", f"{it.name}: the key Escape")
+    stops = sum(1 for row in it.data["spaces"] for event in row[9] if event[5] and "stops" in event[5] or it.data["kinds"][event[2]] == "stops")
+    if stops:
+        same((int(found.split(" ")[0]) >= stops, chosen == 1 or bool(it.data["why"])), (True, True), f"{it.name}: a search for stops finds {found}")
 
 
 main(globals())

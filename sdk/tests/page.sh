@@ -1,6 +1,6 @@
 # Pages of runs (sdk/page), by tests/page.py.
-if [ -z "$explain" ]; then
-    echo "sdk/page is not tried: EXPLAIN is not said"
+if [ -z "$explain" ] || [ ! -d ../examples ]; then
+    echo "sdk/page is not tried: EXPLAIN is not said, or the examples are not there"
 else
     mkdir "$room/page"
     while read -r said name; do

@@ -196,8 +196,8 @@ function words({pen}, space, y) {
   pen.textAlign = "center";
   for (const event of space.events) {
     const said = event.kind === "stops" ? event.cause : event.kind + (event.met.length === 2 ? " " + spaces[event.met[0]].number : "");
-    const x = toX(event.time), half = pen.measureText(said).width / 2 + 3;
-    if (x - half < free || x < 0 || x > width) continue;
+    const half = pen.measureText(said).width / 2 + 3, at = toX(event.time), x = Math.max(half, Math.min(width - half, at));
+    if (x - half < free || at < 0 || at > width) continue;
     free = x + half;
     pen.strokeStyle = state.chosen === space.row ? colors.chosen : space.row % 2 ? colors.paper : colors.band;
     pen.lineWidth = 4;
