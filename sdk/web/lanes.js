@@ -3,8 +3,7 @@
 // letters on a canvas, never HTML.
 const byId = name => document.getElementById(name);
 const data = JSON.parse(byId("data").textContent);
-const WAYS_OUT = ["ret", "fuel", "limit", "fresh"];
-const STARTS = ["put", "fork", "tfork", "qstart"], MERGING = ["get", "tjoin", "wait", "qcommit"];
+const WAYS_OUT = data.waysOut, STARTS = data.starts, MEETINGS = data.meetings;
 const HEIGHTS = [4, 11, 20, 28, 54];
 const hex = n => n.toString(16).padStart(8, "0");
 
@@ -160,7 +159,7 @@ function ring(pen, x, y, size, color, isFull) {
 
 function markColor(event) {
   if (event.kind === "stops") return colors[event.goesOn && tone(event.cause) === "warn" ? "quiet" : tone(event.cause)];
-  return STARTS.includes(event.kind) ? colors.fork : MERGING.includes(event.kind) ? colors.join : colors.quiet;
+  return STARTS.includes(event.kind) ? colors.fork : MEETINGS.includes(event.kind) ? colors.join : colors.quiet;
 }
 
 // Rings, and ticks where rings would cover one another.
