@@ -123,6 +123,7 @@ def compare_report(it):
     same(told, [line.split(" ") for line in report.decode().splitlines()], f"{it.name}: the report")
     used = sum(int(line[4]) for line in told) + sum(max(0, row[5]) for row in rows if not row[7] & 1)
     same(it.data["work"], used, f"{it.name}: events of all")
+    same([note for note in it.data["notes"] if "agree" in note], [], f"{it.name}: spaces that the traces tell otherwise")
 
 
 def traced(it, path):
@@ -294,16 +295,39 @@ def try_damaged_lines():
 
 def try_few_traces():
     """With few traces, few events or little fuel the report is still there, and the page says what is not."""
+    notes = []
     cases = [("--traces", "1"), ("--traces", "3"), ("--events", "9"), ("--limit", "40"), ("--limit", "700")]
     for name in ("merge_sort", "files_of_children", "copied_tree", "mailbox", "nine_levels", "threads_on_nodes"):
         for at, words in enumerate(cases):
             it = Run(f"few_{name}_{at}", assembled(name), os.devnull, *words).made()
             compare_report(it)
             compare_arrows(it)
-            MADE[it.name] = it
-    notes = [MADE[f"few_merge_sort_{at}"].data["notes"] for at in range(5)]
+            notes.append(it.data["notes"])
+            MADE.setdefault("few", it)
     same([[bool(re.search(word, " ".join(note))) for word in ("--traces", "--events")] for note in notes[:3]], [[True, False], [True, False], [False, True]], "the notes")
-    same(notes[4], [], "notes where all is read")
+    same(notes[4], [], "notes if all is read")
+
+
+def try_twice():
+    """A run has one page, whatever order Python gives to sets."""
+    made = set()
+    for seed in ("1", "2"):
+        os.environ["PYTHONHASHSEED"] = seed
+        out = ROOM / f"twice{seed}.html"
+        same(kit("page", example("build_farm"), os.devnull, "-o", out), (0, b"", b""), "a page")
+        made.add(out.read_bytes())
+    del os.environ["PYTHONHASHSEED"]
+    same(len(made), 1, "pages of one run")
+
+
+def try_fuel_of_a_space_that_is_gone():
+    """The report has no line of it: the lane has the number that explain tells of its last event. Stops by a limit take no fuel."""
+    it = MADE["c_build_farm"]
+    gone = [(path, row) for path, row in zip(it.paths(), it.data["spaces"]) if not row[7] & 1]
+    same(len(gone), 3, "spaces that are gone")
+    for path, row in gone:
+        said = lines_of(EXPLAIN, "at", *it.limit(), *it.files, f"{path}:{row[9][-1][0]}")
+        same(row[5], int(next(line for line in said if line.startswith("used ")).split(" ")[1]), f"the fuel of {path}")
 
 
 def try_show():
