@@ -191,6 +191,7 @@ class Lanes:
     def in_order(self):
         """Spaces that were ever there, each after its parent, children by rising number."""
         there = {space.path for space in self.spaces.values() if space.parts or space.told or space.copied}
+        there |= {path for space in self.spaces.values() for _, path, _ in space.copied}
         there |= {path[:at] or "/" for path in there for at in range(len(path)) if path[at] == "/"}
         return sorted((self.spaces[path] for path in there), key=lambda space: space.key)
 

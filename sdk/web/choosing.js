@@ -218,7 +218,6 @@ function begin() {
   goTo();
   drawNow();
   window.onhashchange = goTo;
-  const count = spaces.reduce((sum, space) => sum + space.events.length, 0);
   document.body.dataset.drawn = `${spaces.length} spaces, ${arrows.length} arrows, ${count} events`;
   document.body.dataset.arrows = JSON.stringify(arrows.slice(0, 500).map(({from, start, to, end}) => [from, start, to, end]));
 }

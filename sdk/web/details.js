@@ -83,7 +83,7 @@ function overview() {
 function metBy(space) {
   const by = [], joins = [], parent = spaces[space.parent];
   const add = (list, event) => list.push(link(nameOf(parent, event), parent.row, event.number), ` ${event.kind} `);
-  for (const part of space.parts) if (part.by >= 0) add(by, parent.events[part.by]);
+  for (const part of space.parts) if (part.by) add(by, part.by);
   for (const event of parent ? parent.events : []) {
     if (!STARTS.includes(event.kind) && event.met.some((row, at) => at % 2 === 0 && row === space.row)) add(joins, event);
   }
@@ -134,6 +134,7 @@ const LEGEND = [
   [pen => ring(pen, 23, 8, 4.5, colors.ok, true), "it returns"],
   [pen => ring(pen, 23, 8, 4.5, colors.warn, true), "its fuel or limit is used up"],
   [pen => ring(pen, 23, 8, 5.5, colors.bad, true), "a conflict or another trap stops it"],
+  [pen => ring(pen, 23, 8, 4.5, colors.bad), "an event that explain why names"],
 ];
 const KEYS = [
   ["↑ ↓", "space"], ["← →", "call or stop"], ["Esc", "the whole run"], ["/", "search; Enter, Shift+Enter: next, previous"], ["n", "next fault"],

@@ -22,7 +22,28 @@ const rowOf = new Map(spaces.map(space => [space.path, space.row]));
 const isBad = cause => cause !== "" && !WAYS_OUT.includes(cause);
 const tone = cause => cause === "ret" ? "ok" : cause === "fuel" || cause === "limit" ? "warn" : isBad(cause) ? "bad" : "none";
 const isFault = space => isBad(space.cause) || space.row in data.why;
+for (const space of spaces) for (const part of space.parts) part.by = part.by < 0 ? null : spaces[space.parent].events[part.by];
+const count = spaces.reduce((sum, space) => sum + space.events.length, 0);
+for (const lines of Object.values(data.why)) for (const line of lines) addNamed(line);
 const nameOf = (space, event) => space.path + ":" + event.number;
+
+// The step of any own event: one after the event before.
+function stepOf(space, number) {
+  const part = space.parts.find(one => one.first <= number && number <= one.last);
+  if (!part) return null;
+  let [time, before] = [part.start, part.first - 1];
+  for (const event of space.events) if (event.number >= part.first && event.number < number) [time, before] = [event.time, event.number];
+  return time + number - before;
+}
+
+// An event that explain why names has a mark, as the store of a byte in conflict.
+function addNamed(line) {
+  const found = line.match(/(\/[0-9/]*):([0-9]+) pc ([0-9a-f]{8}) (.*)$/), space = found && spaces[rowOf.get(found[1])], number = found && Number(found[2]);
+  if (!space || space.events.some(event => event.number === number)) return;
+  const time = stepOf(space, number), after = space.events.findIndex(event => event.number > number);
+  const event = {number, time, kind: "named", pc: parseInt(found[3], 16), pages: 0, text: found[4], met: []};
+  if (time !== null) space.events.splice(after < 0 ? space.events.length : after, 0, event);
+}
 
 // An arrow goes from a lane at a step to another lane at a step.
 const arrows = [];
@@ -158,6 +179,7 @@ function ring(pen, x, y, size, color, isFull) {
 }
 
 function markColor(event) {
+  if (event.kind === "named") return colors.bad;
   if (event.kind === "stops") return colors[event.goesOn && tone(event.cause) === "warn" ? "quiet" : tone(event.cause)];
   return STARTS.includes(event.kind) ? colors.fork : MEETINGS.includes(event.kind) ? colors.join : colors.quiet;
 }
@@ -189,12 +211,17 @@ function marks(view, space, y) {
   if (view.high > 40 && !isDense) words(view, space, y);
 }
 
+function wordOf(event) {
+  if (event.kind === "named") return (event.text.match(/stores [0-9a-f]+/) || ["changes it"])[0].replace(/ 0+(?=.)/, " ");
+  return event.kind === "stops" ? event.cause : event.kind + (event.met.length === 2 ? " " + spaces[event.met[0]].number : "");
+}
+
 // What an event is, under its mark, where there is room.
 function words({pen}, space, y) {
   let free = -99;
   pen.textAlign = "center";
   for (const event of space.events) {
-    const said = event.kind === "stops" ? event.cause : event.kind + (event.met.length === 2 ? " " + spaces[event.met[0]].number : "");
+    const said = wordOf(event);
     const half = pen.measureText(said).width / 2 + 3, at = toX(event.time), x = Math.max(half, Math.min(width - half, at));
     if (x - half < free || at < 0 || at > width) continue;
     free = x + half;
