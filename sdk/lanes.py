@@ -308,7 +308,7 @@ class Lanes:
     def whole(self, space):
         """The step at which a space and all below it have stopped."""
         time = self.ended(space)
-        return max([time, *map(self.ended, self.below(space))])
+        return max([time, *(self.whole(child) for child in list(space.children.values()) if child.is_there)])
 
     def meet(self, space, part, event, time):
         """The step of an event that may come at a step as far as its own space is concerned, and what it does to children."""

@@ -308,6 +308,45 @@ def try_few_traces():
     same(notes[4], [], "notes if all is read")
 
 
+# The root waits for a process that has forked another and ended, and so on, four deep. The last one counts for a while.
+DEEP = """
+.segment 0x1000 1
+        li s0, 0
+        li a1, 1
+        li a7, 16
+        ecall
+        bne a0, zero, child
+        li a1, 1
+        li a7, 17
+        ecall
+        li a7, 3
+        ecall
+child:  addi s0, s0, 1
+        li t0, 4
+        beq s0, t0, last
+        li a1, 1
+        li a7, 16
+        ecall
+        bne a0, zero, child
+        li a7, 3
+        ecall
+last:   li t1, 50
+loop:   addi t1, t1, -1
+        bne t1, zero, loop
+        li a7, 3
+        ecall
+"""
+
+
+def try_wait_for_all_below():
+    """WAIT comes a step after the last stop below its child, however deep, though each parent there stops at once."""
+    image = stored("deep.img", run(DET, "asm", stored("deep.s", DEEP.encode()))[1])
+    it = Run("deep", image, os.devnull).made()
+    compare_steps(it)
+    waits = [event[1] for event in it.data["spaces"][0][9] if it.data["kinds"][event[2]] == "wait"]
+    same((len(it.data["spaces"]), waits), (5, [1 + max(part[3] for row in it.data["spaces"][1:] for part in row[8])]), "spaces, and the step of the wait")
+
+
 def try_twice():
     """A run has one page, whatever order Python gives to sets."""
     made = set()
