@@ -5,15 +5,13 @@ If chromium is there it opens each page.
 """
 
 import concurrent.futures
-import html
 import html.parser
 import json
 import os
-import pathlib
 import re
-import shutil
 import subprocess
 
+import browsing
 from trying import DET, EXPLAIN, ROOM, SDK, Wrong, example, kit, main, run, same, script, stored
 
 page = script("page")
@@ -21,7 +19,6 @@ EXAMPLES = SDK.parent / "examples"
 STARTS = ("put", "fork", "tfork", "qstart")
 # They use up a million events, of which a page needs few.
 LONG = ("nobody_waits", "waits_for_the_child")
-CHROMIUM = next(filter(None, map(shutil.which, ("chromium", "chromium-browser", "google-chrome"))), None)
 VOID = ("meta", "input", "br", "link", "img")
 
 
@@ -304,7 +301,8 @@ def try_few_traces():
             compare_arrows(it)
             notes.append(it.data["notes"])
             MADE.setdefault("few", it)
-    same([[bool(re.search(word, " ".join(note))) for word in ("--traces", "--events")] for note in notes[:3]], [[True, False], [True, False], [False, True]], "the notes")
+    said = [[bool(re.search(word, " ".join(note))) for word in ("--traces", "--events")] for note in notes[:3]]
+    same(said, [[True, False], [True, False], [False, True]], "the notes")
     same(notes[4], [], "notes if all is read")
 
 
@@ -402,7 +400,9 @@ def try_refusals():
 def try_files_that_cannot_be_written():
     words = [example("hello"), os.devnull]
     same(kit("page", *words)[0], 2, "no -o")
-    for out, said in ((ROOM / "no/folder.html", "No such file or directory"), (ROOM, "Is a directory"), (pathlib.Path("/dev/full"), "No space left on device")):
+    rows = [("no/folder.html", "No such file or directory"), ("", "Is a directory"), ("/dev/full", "No space left on device")]
+    for name, said in rows:
+        out = ROOM / name
         same(kit("page", *words, "-o", out), (2, b"", f"sdk/page: write: {out}: {said}\n".encode()), out)
     known = stored("known.html", b"known")
     same((kit("page", ROOM / "nothing.elf", os.devnull, "-o", known)[0], known.read_bytes()), (4, b"known"), "a page that was there before")
@@ -450,81 +450,17 @@ def try_10000_threads():
 
 # ---- In a browser ----
 
-# Opens each page in a frame, presses its keys, and searches it. The second half of what is pressed undoes the first.
-FRAMES = """<!doctype html><meta charset="utf-8"><body><iframe id="frame" width="1300" height="700"></iframe><script>
-const frame = document.getElementById("frame"), pages = %s, said = {};
-const KEYS = ["ArrowDown", "ArrowDown", "ArrowRight", "ArrowLeft", "ArrowUp", "n", "PageDown", "End", "z", "+", "[", "s", "t", "t", "s", "]", "-", "0", "Home", "?", "Escape"];
-frame.onload = () => {
-  if (!pages.length) return;
-  const page = frame.contentDocument, find = name => page.getElementById(name);
-  const press = (key, box) => box.dispatchEvent(new frame.contentWindow.KeyboardEvent("keydown", {key, bubbles: true}));
-  const places = [];
-  for (const key of KEYS) { press(key, page); places.push(frame.contentWindow.location.hash); }
-  const details = find("details").textContent.slice(0, 9000);
-  find("search").value = "stops";
-  find("search").dispatchEvent(new frame.contentWindow.Event("input"));
-  const found = find("found").textContent;
-  press("Enter", find("search"));
-  said[pages[0]] = [page.body.dataset.drawn, page.body.dataset.arrows, details, found, places, find("details").querySelectorAll(".chosen").length];
-  pages.shift();
-  next();
-};
-function next() { if (pages.length) frame.src = pages[0]; else document.body.textContent = JSON.stringify(said); }
-next();
-</script>"""
-
-
-def opened(names):
-    """What each page says of itself in the browser, and what the browser's console says."""
-    frames = stored("frames.html", (FRAMES % json.dumps(names)).encode())
-    words = [CHROMIUM, "--headless", "--no-sandbox", "--disable-gpu", "--allow-file-access-from-files", f"--user-data-dir={ROOM}/browser"]
-    words += ["--enable-logging=stderr", "--virtual-time-budget=100000", "--dump-dom", frames.as_uri()]
-    status, out, err = run(*words)
-    found = re.search("<body>({.*})</body>", out.decode())
-    console = [line for line in err.decode(errors="replace").splitlines() if "CONSOLE" in line]
-    return json.loads(html.unescape(found[1])) if found else None, console
-
 
 def try_in_a_browser():
-    if CHROMIUM is None:
+    if browsing.CHROMIUM is None:
         return
-    said, console = opened([it.out.name for it in MADE.values()])
+    said, console = browsing.opened([it.out for it in MADE.values()], ROOM)
     same(console, [], "the console of the browser")
     if said is None:
         print("  pages are not tried in a browser: chromium does not start", flush=True)
         return
     for it in MADE.values():
-        counts, drawn, details, *pressed = said.get(it.out.name, ("", "[]", "", "", [], 0))
-        compare_drawn(it, counts, drawn, details)
-        compare_pressed(it, *pressed)
-
-
-def compare_drawn(it, counts, drawn, details):
-    """What a page says in the browser: its arrows from lane to lane, and the lines of explain why."""
-    rows, arrows = it.data["spaces"], []
-    for parent, row in enumerate(rows):
-        for event in row[9]:
-            for child, number in zip(event[6::2], event[7::2]):
-                start = [parent, event[1], child, rows[child][8][number][1]]
-                stop = [child, rows[child][8][number][3], parent, event[1]]
-                arrows.append(start if it.data["kinds"][event[2]] in STARTS else stop)
-    arrows += [[source, time, row, time] for row, space in enumerate(rows) for time, source in space[10]]
-    same(counts, f"{len(rows)} spaces, {len(arrows)} arrows, {sum(len(row[9]) for row in rows)} events", f"{it.name} in the browser")
-    same(json.loads(drawn), arrows[:500], f"{it.name}: arrows in the browser")
-    lines = [line for lines in it.data["why"].values() for line in lines] or ["Nothing to explain"]
-    same([line for line in lines if line not in details], [], f"{it.name}: lines that the browser does not show")
-
-
-def compare_pressed(it, found, places, chosen):
-    """What a search finds, and where the keys have led."""
-    names = it.paths()
-    second, last = "#" + names[min(1, len(names) - 1)], "#" + names[-1]
-    same(places[:2], ["#/", second], f"{it.name}: keys down")
-    same(places[7], last, f"{it.name}: the key End")
-    same(places[-1], "", f"{it.name}: the key Escape")
-    stops = sum(1 for row in it.data["spaces"] for event in row[9] if event[5] and "stops" in event[5] or it.data["kinds"][event[2]] == "stops")
-    if stops:
-        same((int(found.split(" ")[0]) >= stops, chosen == 1 or bool(it.data["why"])), (True, True), f"{it.name}: a search for stops finds {found}")
+        browsing.compare(it, STARTS, *said.get(it.out.name, browsing.NOTHING))
 
 
 main(globals())
