@@ -294,7 +294,7 @@ def try_few_traces():
     """With few traces, few events or little fuel the report is still there, and the page says what is not."""
     notes = []
     cases = [("--traces", "1"), ("--traces", "3"), ("--events", "9"), ("--limit", "40"), ("--limit", "700")]
-    for name in ("merge_sort", "files_of_children", "copied_tree", "mailbox", "nine_levels", "threads_on_nodes"):
+    for name in ("merge_sort", "files_of_children", "copied_tree", "mailbox"):
         for at, words in enumerate(cases):
             it = Run(f"few_{name}_{at}", assembled(name), os.devnull, *words).made()
             compare_report(it)
