@@ -2,7 +2,7 @@ ghost use Rattle.std.specs.Prelude.{◌<◌, ◌^◌, Some, None};
 
 use det_host::{
     FileLoader, FileReader, Gate, GateEvent, LoadError, Loader, MemLoader, MemSink, OpenGate, Sink,
-    SinkError, StdSink, SureSink,
+    SinkError, StdSink, SureSink, write_all,
 };
 use std::alloc::{AllocError, Global};
 use std::io::{Read, Write};
@@ -15,7 +15,7 @@ fn assert_bytes(rt: &impl Abort, got: &[u8], want: &[u8]) {
     assert_eq!(rt; got, want);
 }
 
-/// A writer that takes two bytes a call and fails at its third call.
+/// A writer that takes two bytes a call, and would block at its third call.
 #[derive(Drop)]
 struct Narrow {
     taken: Vec<u8>,
@@ -26,7 +26,7 @@ impl Write for Narrow {
     fn write(&mut self, piece: &[u8]) -> io::Result<usize> {
         self.calls = self.calls.saturating_add(1);
         if self.calls == 3 {
-            return Err(io::ErrorKind::Other.into());
+            return Err(io::ErrorKind::WouldBlock.into());
         }
         let count = piece.len().min(2);
         match self.taken.extend_from_slice(&piece[..count]) {
@@ -67,11 +67,12 @@ impl Write for Interrupted {
 /// More bytes than one turn reads.
 static LONG: [u8; 9000] = [7; 9000];
 
-/// Some files with known bytes. It counts the bytes that were read since a file was opened, fails in the middle of "torn", and is interrupted once before
-/// the first byte of "halting".
+/// Some files with known bytes. It counts how many files were opened, and the bytes that were read since. In the middle of "torn" it would block; before the
+/// first byte of "halting" it is interrupted once.
 #[derive(Drop)]
 struct Shelf {
     left: &'static [u8],
+    opened: u64,
     read: usize,
     is_torn: bool,
     is_halting: bool,
@@ -98,6 +99,7 @@ impl FileReader for Shelf {
             return Err(io::ErrorKind::NotFound.into());
         };
         self.left = bytes;
+        self.opened = self.opened.saturating_add(1);
         self.read = 0;
         self.is_torn = name == "torn";
         self.is_halting = name == "halting";
@@ -106,7 +108,7 @@ impl FileReader for Shelf {
 
     fn read(&mut self, buffer: &mut [u8]) -> io::Result<usize> {
         if self.is_torn && self.read > 0 {
-            return Err(io::ErrorKind::Other.into());
+            return Err(io::ErrorKind::WouldBlock.into());
         }
         if self.is_halting {
             self.is_halting = false;
@@ -187,6 +189,8 @@ fn sinks_in_memory(rt: HostRuntime) -> Result<(), Fail> {
     one_write(&rt, &mut sink, b"", Ok(0));
     one_write(&rt, &mut sink, b"c", Ok(1));
     assert_bytes(&rt, sink.taken(), b"abc");
+    let mut full = MemSink::new(rt.alloc(), 0, Vec::new(rt.alloc()));
+    assert_eq!(&rt; write_all(&mut full, b"abc"), Err(SinkError::Failed));
     Ok(())
 }
 
@@ -216,6 +220,7 @@ fn one_read<R: AllocGlobal + Abort>(
 fn a_shelf_of_files(rt: HostRuntime) {
     let shelf = Shelf {
         left: b"",
+        opened: 0,
         read: 0,
         is_torn: false,
         is_halting: false,
@@ -233,6 +238,7 @@ fn a_shelf_of_files(rt: HostRuntime) {
     one_read(&rt, &mut files, "halting", 3, Ok(b"abc"), 3);
     one_read(&rt, &mut files, "torn", 9000, Err(LoadError::Failed), 4096);
     one_read(&rt, &mut files, "three", 9, Err(LoadError::Failed), 4096);
+    assert_eq!(&rt; files.files().opened, 10);
 }
 
 #[test]

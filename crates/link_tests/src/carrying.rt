@@ -77,3 +77,26 @@ fn a_lost_frame_arrives_behind_the_next(rt: HostRuntime) -> Result<(), Fail> {
     assert!(rt; happens(rt.alloc(), 4_294_967_295, &first, &second));
     Ok(())
 }
+
+// No seed takes more turns than this one.
+#[test]
+fn a_ninth_frame_arrives_once_a_tenth_is_sent(rt: HostRuntime) -> Result<(), Fail> {
+    let first = [
+        Send(0),
+        Send(0),
+        Send(0),
+        Send(0),
+        Send(0),
+        Send(0),
+        Send(0),
+        Send(0),
+        Send(0),
+        Send(0),
+        Arrive(8),
+        Answer,
+        Receipt(0),
+    ];
+    let second = [Send(1), Arrive(10), Answer, Receipt(1)];
+    assert!(rt; happens(rt.alloc(), 52_417, &first, &second));
+    Ok(())
+}

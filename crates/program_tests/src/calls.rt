@@ -1,5 +1,7 @@
+ghost use Rattle.std.specs.Prelude.{Some};
+
 use det_cli::{End, Exit, det_program, status};
-use det_host::{MemLoader, MemSink, OpenGate};
+use det_host::{MemLoader, MemSink, OpenGate, Sink, SinkError};
 use std::alloc::{AllocError, Global};
 use std::process::Abort;
 use std::sync::Wait;
@@ -85,16 +87,44 @@ pub(crate) fn files_of(alloc: Global, row: &Row<'_>) -> Result<MemLoader, AllocE
     Ok(MemLoader::new(alloc, held, Vec::new(alloc)))
 }
 
-/// A sink that takes at most so many bytes a call.
-pub(crate) fn sink(alloc: Global, most: usize, failing: &[u64]) -> Result<MemSink, AllocError> {
-    Ok(MemSink::new(alloc, most, failing.to_vec(alloc)?))
+/// A sink in memory that counts the empty pieces that it gets.
+#[derive(Drop)]
+pub(crate) struct Watched {
+    sink: MemSink,
+    empty: u64,
 }
 
-fn assert_row(rt: &impl Abort, row: &Row<'_>, exit: &Exit, out: &[u8], err: &[u8]) {
+impl Sink for Watched {
+    ghost taken = { λ s. Some s.sink.taken };
+
+    ghost faults = { λ s. s.sink.calls.faults };
+
+    fn write(&mut self, piece: &[u8]) -> Result<usize, SinkError> {
+        if piece.is_empty() {
+            self.empty = self.empty.saturating_add(1);
+        }
+        self.sink.write(piece)
+    }
+}
+
+/// A sink that takes at most that many bytes a call, and fails at the calls of these numbers.
+pub(crate) fn sink(alloc: Global, most: usize, failing: &[u64]) -> Result<Watched, AllocError> {
+    let sink = MemSink::new(alloc, most, failing.to_vec(alloc)?);
+    Ok(Watched { sink, empty: 0 })
+}
+
+/// Asserts what both sinks have taken, and that neither got an empty piece.
+pub(crate) fn assert_taken(rt: &impl Abort, row: &Row<'_>, out: &Watched, err: &Watched) {
+    let words = row.words;
+    let taken = [out.sink.taken(), err.sink.taken()];
+    assert_eq!(rt; taken, [row.out, row.err.as_bytes()], "{words}");
+    assert_eq!(rt; [out.empty, err.empty], [0, 0], "{words}");
+}
+
+fn assert_exit(rt: &impl Abort, row: &Row<'_>, exit: &Exit) {
     let words = row.words;
     assert_eq!(rt; exit.end, row.end, "{words}");
     assert_eq!(rt; exit.status, status(&row.end), "{words}");
-    assert_eq!(rt; [out, err], [row.out, row.err.as_bytes()], "{words}");
 }
 
 fn call<R: AllocGlobal + Abort + Threads + Wait + Sync>(
@@ -107,7 +137,8 @@ fn call<R: AllocGlobal + Abort + Threads + Wait + Sync>(
     let mut out = sink(alloc, row.most, row.outs)?;
     let mut err = sink(alloc, row.most, row.errs)?;
     let exit = det_program(rt, &words, &mut files, &mut out, &mut err, &OpenGate);
-    assert_row(rt, row, &exit, out.taken(), err.taken());
+    assert_exit(rt, row, &exit);
+    assert_taken(rt, row, &out, &err);
     Ok(())
 }
 

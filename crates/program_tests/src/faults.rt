@@ -10,6 +10,12 @@ use std::thread::Threads;
 
 const RUN: &str = "det run image script";
 
+const ROUNDS: &str = "det run --engine rounds image script";
+
+const POOL: &str = "det run --engine pool --workers 2 image script";
+
+const SEATS: &str = "det run --engine seats --workers 2 image script";
+
 const WALK: &str = "det walk image script schedule";
 
 const ASM: &str = "det asm image";
@@ -37,12 +43,28 @@ fn one_of_outs<R: AllocGlobal + Abort + Threads + Wait + Sync>(
     );
 }
 
+// A call whose sinks take no byte, and count a fault each time: it ends as one whose write fails.
+fn none_taken<R: AllocGlobal + Abort + Threads + Wait + Sync>(rt: &R, words: &str, image: &[u8]) {
+    check(
+        rt,
+        &Row {
+            most: 0,
+            ..plain(words, image, End::WriteFault, b"", "")
+        },
+    );
+}
+
 // What was taken stays, and the fault's line stands on the other sink.
 #[test]
 fn a_write_that_fails_ends_the_output(rt: HostRuntime) -> Result<(), Fail> {
-    one_of_outs(&rt, (RUN, &WRITE_TWO), 1, &[1], b"");
-    one_of_outs(&rt, (RUN, &WRITE_TWO), 1, &[2], b"A");
-    one_of_outs(&rt, (WALK, &WRITE_TWO), 1, &[2], b"A");
+    for words in [RUN, ROUNDS, POOL, SEATS, WALK] {
+        one_of_outs(&rt, (words, &WRITE_TWO), 1, &[1], b"");
+        one_of_outs(&rt, (words, &WRITE_TWO), 1, &[2], b"A");
+        none_taken(&rt, words, &WRITE_TWO);
+        none_taken(&rt, words, &RETURN_SEVEN);
+    }
+    none_taken(&rt, ASM, SOURCE);
+    none_taken(&rt, BENCH, b"");
     one_of_outs(&rt, (ASM, SOURCE), 65536, &[1], b"");
     one_of_outs(&rt, (ASM, SOURCE), 16, &[3], &RETURN_SEVEN[..32]);
     one_of_outs(&rt, (BENCH, b""), 65536, &[1], b"");
@@ -83,8 +105,9 @@ fn one_of_pieces<R: AllocGlobal + Abort + Threads + Wait + Sync>(
 
 #[test]
 fn a_sink_may_take_one_byte_a_call(rt: HostRuntime) -> Result<(), Fail> {
-    one_of_pieces(&rt, (RUN, &WRITE_TWO), b"AB", REPORT);
-    one_of_pieces(&rt, (WALK, &WRITE_TWO), b"AB", REPORT);
+    for words in [RUN, ROUNDS, POOL, SEATS, WALK] {
+        one_of_pieces(&rt, (words, &WRITE_TWO), b"AB", REPORT);
+    }
     one_of_pieces(&rt, (ASM, SOURCE), &RETURN_SEVEN, "");
     one_of_pieces(&rt, (BENCH, b""), SUMMARY, "");
     Ok(())

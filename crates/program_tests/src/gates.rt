@@ -1,6 +1,6 @@
 //! The workers of a pool and of seats, as the gate sees them that `det_main` gets.
 
-use crate::calls::{Row, files_of, plain, sink, words_of};
+use crate::calls::{Row, assert_taken, files_of, plain, sink, words_of};
 use det_cli::{End, det_main, det_still};
 use det_host::{Gate, GateEvent};
 use image_file::write_image;
@@ -89,7 +89,7 @@ fn call<R: AllocGlobal + Abort + Threads + Wait + Sync>(
         None => det_still(rt, &words, &mut files, &mut out, &mut err),
     };
     assert_eq!(rt; end, row.end);
-    assert_eq!(rt; [out.taken(), err.taken()], [row.out, row.err.as_bytes()]);
+    assert_taken(rt, row, &out, &err);
     Ok(())
 }
 
@@ -155,6 +155,9 @@ const REPORT: &str = "/ ret 00004241 00001044 24
 /1 ret 00000001 00001068 4008
 ";
 
+// The line of the image of the number 1, which two threads make.
+const SUMMARY_OF_ONE: &[u8] = b"threads 2 spaces 3 used 27955 console 64 root ret 00000002\n";
+
 #[test]
 fn two_workers_take_jobs_side_by_side(rt: HostRuntime) -> Result<(), Fail> {
     let image = image_of(rt.alloc(), TWO_LONG_THREADS)?;
@@ -162,5 +165,11 @@ fn two_workers_take_jobs_side_by_side(rt: HostRuntime) -> Result<(), Fail> {
     one_row(&rt, &plain(pool, &image, End::Ret, b"", REPORT));
     let seats = "det run --engine seats --workers 2 image script";
     one_row(&rt, &plain(seats, &image, End::Ret, b"", REPORT));
+    for bench in [
+        "det bench --engine pool --workers 2 1",
+        "det bench --engine seats --workers 2 1",
+    ] {
+        one_row(&rt, &plain(bench, b"", End::Ret, SUMMARY_OF_ONE, ""));
+    }
     Ok(())
 }

@@ -153,7 +153,7 @@ fn a_sink_fails_at_each_of_ten_calls(rt: HostRuntime) {
     }
 }
 
-// A sink that takes all, and counts a fault each time.
+// A sink that takes all of each piece, and counts a fault each time. An empty piece it refuses.
 #[derive(Drop)]
 struct Grumbler {
     taken: Vec<u8>,
@@ -166,7 +166,7 @@ impl Sink for Grumbler {
     ghost faults = { λ s. s.faults };
 
     fn write(&mut self, piece: &[u8]) -> Result<usize, SinkError> {
-        if self.taken.extend_from_slice(piece).is_err() {
+        if piece.is_empty() || self.taken.extend_from_slice(piece).is_err() {
             return Err(SinkError::Memory);
         }
         self.faults = self.faults.saturating_add(1);
