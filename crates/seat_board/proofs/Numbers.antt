@@ -6,7 +6,6 @@ use Rattle.std.specs.List.{All}
 use Rattle.std.proofs.lemmas.List.Elements.{All-head, All-tail, All-map}
 use mathlib.Core.Option.{some}
 use lib.ListN.{get_elem?}
-use Rattle.ticket_lock.specs.Rule.{total}
 use Rattle.seat_board.specs.declared.known.Known.{Known}
 use Rattle.seat_board.specs.Held.{Ended}
 use Rattle.seat_board.specs.Seats.{times, numbers, living, one_if}

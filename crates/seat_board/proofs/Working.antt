@@ -170,7 +170,7 @@ takes_one old c new all rs rs' p given turns ended split is = (
   ap (λ (k : Known). k.given) is ∙ given,
   ap (λ (k : Known). k.turns) is ∙ turns,
   ap (λ (k : Known). k.ended ++ taken_from rs') is
-  ∙ (append_assoc c.ended (record { number = (known p).number; turns = (known p).turns } ∷ []) (taken_from rs') ∙ (ap (λ es. c.ended ++ es) (sym (taken_last rs' p)) ∙ (ap (λ l. c.ended ++ taken_from l) (sym split) ∙ ended))),
+      ∙ (append_assoc c.ended (record { number = (known p).number; turns = (known p).turns } ∷ []) (taken_from rs') ∙ (ap (λ es. c.ended ++ es) (sym (taken_last rs' p)) ∙ (ap (λ l. c.ended ++ taken_from l) (sym split) ∙ ended))),
 )
 
 taken_turned : (rs : List (Result Pass AllocError)) → All (λ x. IfOk x (λ q. HasHadTurn (known q))) rs → All HasTurned (taken_from rs)
