@@ -360,7 +360,7 @@ module _ (x : Desk) (c : Known) (first : c.number ≡ 0) (alive : c.lives ≡ tr
       let given = g.given in
       fits.fresh n (omega (arith, given, le))
 
-  -- each number below it is that of seat 0, or stands once among those that have ended
+  -- each number below it is that of seat 0, or is once among those that have ended
   pub closes_once : c.given ≡ 1 + length c.ended → EachOnce c.given (0 ∷ numbers c.ended)
   closes_once whole n low = at (at_below known.0 n (let g = count in let given = g.given in omega (arith, given, low)))
     where

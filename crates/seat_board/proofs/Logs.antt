@@ -104,7 +104,7 @@ many_turns : (b : Bool) (x : List Entry) (l : List (List Entry)) (n : ℕ) → l
 many_turns true x l n e = omega (arith, e)
 many_turns false x l n e = e
 
--- where no number from a count on has turns, each turn's is below it
+-- if no number from a count on has turns, each turn's is below it
 pub seats_below : (h : List Entry) (ts : List SeatTurn) (m : ℕ) → ((n : ℕ) → m ≤ n → turns_of n (cut h ts) ≡ []) → All (λ (t : SeatTurn). t.seat < m) ts
 seats_below h [] m none = All-nil (λ (t : SeatTurn). t.seat < m)
 seats_below h (t ∷ ts) m none = All-cons (λ (u : SeatTurn). u.seat < m) t ts (low (cases_lt t.seat m)) (seats_below (drop t.entries h) ts m (λ n le. (no_turn (t.seat == n) (take t.entries h) (turns_of n (cut (drop t.entries h) ts)) (none n le)).1))
@@ -113,7 +113,7 @@ seats_below h (t ∷ ts) m none = All-cons (λ (u : SeatTurn). u.seat < m) t ts 
     low (inl lt) = lt
     low (inr le) = absurd (let f = (no_turn (t.seat == t.seat) (take t.entries h) (turns_of t.seat (cut (drop t.entries h) ts)) (none t.seat le)).0 in let one : (t.seat == t.seat) ≡ true = grind (arith, nat_tests) in cc)
 
--- how many turns a number has is how often it stands
+-- how many turns a number has is how often it is there
 turns_counted : ℕ → List SeatTurn → ℕ
 turns_counted n [] = 0
 turns_counted n (t ∷ ts) = cond (t.seat == n) (1 + turns_counted n ts) (turns_counted n ts)

@@ -1,4 +1,4 @@
--- The numbers of seats: each that was given stands once.
+-- The numbers of seats: each that was given is there once.
 use Rattle.std.proofs.Common.{◌≡◌, ◌≢◌, ℕ, zero, suc, ◌+◌, ◌≤◌, ◌<◌, ◌==◌, Bool, true, false, List, [], ◌∷◌, ◌++◌, length, ◌⊎◌, inl, inr, if◌then◌else◌, refl, sym, ap, ◌∙◌, subst, arith}
 use Rattle.std.proofs.lemmas.Bool.{cases_eq}
 use Rattle.std.proofs.lemmas.Bool.Decides.{nat_tests}
@@ -24,7 +24,7 @@ times_same n xs = same_test n (n == n) (times n xs) refl
 pub times_other : (x n : ℕ) (xs : List ℕ) → x ≢ n → times n (x ∷ xs) ≡ times n xs
 times_other x n xs ne = other_test x n (x == n) (times n xs) refl ne
 
--- what an element adds to how often a number stands
+-- what an element adds to how often a number is in a list
 hit : ℕ → ℕ → ℕ
 hit x n = times n (x ∷ [])
 
@@ -52,14 +52,14 @@ unfolding hit
 numbers_snoc [] e n = omega arith
 numbers_snoc (x ∷ es) e n = let a = times_more x.number n (numbers (es ++ e ∷ [])) in let b = times_more x.number n (numbers es) in let c = numbers_snoc es e n in omega (arith, a, b, c)
 
--- one more has ended: its number stands once more, and no other does
+-- one more has ended: its number is there once more, and no other is
 pub one_more_ended : (es : List Ended) (e : Ended) (n : ℕ) → e.number ≡ n → times n (numbers (es ++ e ∷ [])) ≡ times n (numbers es) + 1
 one_more_ended es e n same = let a = numbers_snoc es e n in let b = subst (λ m. hit e.number m ≡ 1) same (hit_same e.number) in omega (arith, a, b)
 
 pub others_ended : (es : List Ended) (e : Ended) (n : ℕ) → e.number ≢ n → times n (numbers (es ++ e ∷ [])) ≡ times n (numbers es)
 others_ended es e n ne = let a = numbers_snoc es e n in let b = hit_other e.number n ne in omega (arith, a, b)
 
--- a number above all of them does not stand among them
+-- a number above all of them is not among them
 pub times_none : (es : List Ended) (n : ℕ) → All (λ (e : Ended). e.number < n) es → times n (numbers es) ≡ 0
 times_none [] n all = refl
 times_none (e ∷ es) n all =
@@ -96,7 +96,7 @@ along_one x i (c ∷ cs) le lt = go (cases_eq x i) (λ ne. along_one x (suc i) c
     go (inl e) rest = let a = subst (λ m. hit x m ≡ 1) e (hit_same x) in let b = along_past x (suc i) cs (omega (arith, e)) in omega (arith, a, b)
     go (inr ne) rest = let a = hit_other x i ne in let b = rest ne in omega (arith, a, b)
 
--- all of them stand at places
+-- all of them are places
 along_all : (xs : List ℕ) (cs : List Known) → All (λ x. x < length cs) xs → along (λ n. times n xs) 0 cs ≡ length xs
 along_all [] cs all = along_none 0 cs
 along_all (x ∷ xs) cs all =
@@ -127,7 +127,7 @@ once_counted cs es all each =
     let c = numbers_length es in
     omega (arith, a, b, c)
 
--- what stands below the length of a list
+-- what is below the length of a list
 pub at_below : (cs : List Known) (n : ℕ) → n < length cs → (w : Known) × (get_elem? cs n ≡ some w)
 at_below [] n lt = absurd (omega (arith, lt))
 at_below (c ∷ cs) zero lt = (c, refl)

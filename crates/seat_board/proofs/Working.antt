@@ -58,8 +58,8 @@ turn_follows old done t found new has =
     )
 
 -- a turn that is had is the last of its seat's turns
-pub turn_had : (old : Known) (done : Option Done) (t : Turn Job) (found : Option Desk) (new : Known) → HasTurn old done (Ok t) found new → HasHadTurn new
-turn_had old done t found new has =
+pub turn_had : (old : Known) (d : Option Done) (t : Turn Job) (found : Option Desk) (new : Known) → HasTurn old d (Ok t) found new → HasHadTurn new
+turn_had old d t found new has =
     let turn = has.does in
     let one : (let given = has.given in let before = has.before in added before.log given.log) ≡ turn.entries ∷ [] = ap (let before = has.before in added before.log) turn.log ∙ added_one (let before = has.before in before.log) (record { seat = old.number; entries = turn.entries }) in
     let all = ap (λ (k : Known). length k.turns) has.knows in
@@ -120,7 +120,7 @@ ok_too : {E A : Type 0} (P Q : A → Type 0) (r : Result A E) → ((p : A) → P
 ok_too P Q (Ok p) f h = f p h
 ok_too P Q (Err e) f h = tt
 
--- what is so of each that served is so of the one that stood last
+-- what is so of each that served is so of the last
 pub served_last : (table : TableId) (ps : List Pass) (first : Pass) (rs rs' : List (Result Pass AllocError)) (r : Result Pass AllocError) (p : Pass) → AreServed table (ps ++ first ∷ []) rs → length rs ≡ length (ps ++ first ∷ []) → rs ≡ rs' ++ r ∷ [] → r ≡ Ok p → HasServed table (known first) p
 served_last table ps first rs rs' r p served len split is =
     let many : length rs' ≡ length ps = (let a = length-append ps (first ∷ []) in let b = ap length split in let c = length-append rs' (r ∷ []) in omega (arith, a, b, c, len)) in

@@ -70,12 +70,12 @@ pub record IsEnded (d : Desk) (cs : List Known) (e : Ended) : Type 0 where
   pub there : e.number < length cs
   pub gone : (w : Known) → get_elem? cs e.number ≡ some w → w.lives ≡ false
 
--- how often a number stands in a list
+-- how often a number is in a list
 abbrev pub times : ℕ → List ℕ → ℕ
 times n [] = 0
 times n (x ∷ xs) = if x == n then 1 + times n xs else times n xs
 
--- each number below a count stands once in a list
+-- each number below a count is in a list once
 abbrev pub EachOnce : ℕ → List ℕ → Type 0
 EachOnce count xs = (n : ℕ) → n < count → times n xs ≡ 1
 
@@ -83,7 +83,7 @@ EachOnce count xs = (n : ℕ) → n < count → times n xs ≡ 1
 abbrev pub numbers : List Ended → List ℕ
 numbers es = map (λ (e : Ended). e.number) es
 
--- Seat 0 knows how many numbers were given. Each of them stands once: as the number of a seat that lives, or among those that have ended.
+-- Seat 0 knows how many numbers were given. Each of them is there once: as the number of a seat that lives, or among those that have ended.
 pub record IsCount (cs : List Known) (c : Known) : Type 0 where
   pub given : c.given ≡ length cs
   pub once : (n : ℕ) (w : Known) → get_elem? cs n ≡ some w → one_if w.lives + times n (numbers c.ended) ≡ 1

@@ -11,7 +11,7 @@ use Rattle.seat_board.specs.Seats.{EachOnce, numbers}
 abbrev pub HasTurned : Ended → Type 0
 HasTurned e = 1 ≤ length e.turns
 
--- Each turn of the log is of one of so many workers: the seats as they ended, each number once, with turns that stand in the log, each once, in their order.
+-- The workers of a log: their seats as they ended, each number below the count once. The turns of each are in the log, each once, in their order, and it had one at least.
 pub record IsOfWorkers (workers : ℕ) (log : List SeatEntry) : Type 0 where
   pub seats : List Ended
   pub many : length seats ≡ workers

@@ -115,8 +115,8 @@ fn run_to_end<R: Threads + Wait + Sync, G: Gate>(
 }
 
 /// Runs a sound tree to its end by so many workers, 1 to 64, each in a thread of its own but the first, which this thread is, on so many nodes, 1 to 64. `gate` is told of their events, outside of their turns. The
-/// board began with this tree, and its last tree is what this one settles to: the workers know it by their seats, so nothing is compared and nothing is run again. The turns of each worker stand in the log, each once,
-/// in their order, and no other turn does; the counts are theirs. The one error is want of memory. It may wait for ever, since no clause says that workers come to an end.
+/// board began with this tree, and its last tree is what this one settles to: the workers know it by their seats, so nothing is compared and nothing is run again. The turns of each worker are in the log, each once,
+/// in their order, and no other turn is; each had one at least, and the counts are theirs. The one error is want of memory. It may wait for ever, since no clause says that workers come to an end.
 pub fn run_seats<R: Threads + Wait + Sync, G: Gate>(
     rt: &R,
     alloc: Global,
