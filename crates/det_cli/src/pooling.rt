@@ -8,7 +8,7 @@ use crate::evaluating::{Booted, Plan, settle_still};
 use crate::staff::Staff;
 use board::{Board, Closed, run_alone, run_together};
 use det_host::Gate;
-use seat_board::{SeatClosed, run_seats};
+use seat_board::{SeatRun, run_seats};
 use space_tree::{Space, copy_tree, is_settled, same};
 use std::alloc::{AllocError, Global};
 use std::sync::Wait;
@@ -77,7 +77,7 @@ fn settle_by_seats<R: Threads + Wait + Sync, G: Gate>(
     ensures meaning { IfOk result (λ s. s ≡ settle_tree root) }
     ensures settled { IfOk result (λ s. is_settled s ≡ true) }
 {
-    let SeatClosed { closed, .. } = run_seats(
+    let SeatRun { closed, .. } = run_seats(
         rt,
         alloc,
         root,

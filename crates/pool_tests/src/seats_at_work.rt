@@ -4,7 +4,7 @@ ghost use Rattle.space_model.specs.Sound.{IsSound};
 use crate::histories::leads;
 use crate::programs::{LONG_THREADS, TWO_AWAY, TWO_THREADS, booted};
 use det_host::{Gate, GateEvent, OpenGate};
-use seat_board::{SeatClosed, SeatTurn, run_seats};
+use seat_board::{SeatRun, SeatTurn, run_seats};
 use space_tree::Space;
 use std::alloc::Global;
 use std::process::Abort;
@@ -14,14 +14,14 @@ use std::test::*;
 use std::thread::{Threads, yield_now};
 
 // The whole run of a tree by so many workers in seats, on so many nodes.
-fn closed_by<R: Threads + Wait + Sync + Abort, G: Gate>(
+fn run_by<R: Threads + Wait + Sync + Abort, G: Gate>(
     rt: &R,
     alloc: Global,
     tree: Space,
     places: (u32, Option<u32>),
     workers: usize,
     gate: &G,
-) -> SeatClosed
+) -> SeatRun
     requires sound { IsSound tree }
     requires nodes { (1 ≤ places.0) × (places.0 ≤ 64) }
     requires some { (0 < workers) × (workers < 65) }
@@ -73,7 +73,7 @@ fn two_at_work(rt: HostRuntime) {
         both: AtomicU64::new(0),
     };
     let tree = booted(&rt, rt.alloc(), LONG_THREADS);
-    let _closed = closed_by(&rt, rt.alloc(), tree, (1, None), 2, &gate);
+    let _run = run_by(&rt, rt.alloc(), tree, (1, None), 2, &gate);
     assert!(rt; gate.both.load(Ordering::SeqCst) > 0);
 }
 
@@ -94,17 +94,6 @@ impl Gate for Told {
     }
 }
 
-// How many turns of a log are of a seat.
-fn turns_of(log: &[SeatTurn], seat: usize) -> u64 {
-    let mut count: u64 = 0;
-    for turn in log {
-        if turn.seat as usize == seat {
-            count = count.saturating_add(1);
-        }
-    }
-    count
-}
-
 // How many entries the turns of a log added.
 fn entries_of(log: &[SeatTurn]) -> usize {
     let mut count: usize = 0;
@@ -114,14 +103,14 @@ fn entries_of(log: &[SeatTurn]) -> usize {
     count
 }
 
-// The turns that the gate is told of are those of the log, but for the last one of each worker, which ends it.
-fn tells_all(rt: &impl Abort, told: &Told, closed: &SeatClosed) {
-    let log = closed.turns.as_slice();
-    for (seat, turns) in told.turns.iter().enumerate() {
+// The turns that the gate is told of are those of each worker, but for the last one, which ends it.
+fn tells_all(rt: &impl Abort, told: &Told, run: &SeatRun) {
+    assert_eq!(rt; run.counts.len(), 4);
+    for (turns, count) in told.turns.iter().zip(run.counts.iter()) {
         let told = turns.load(Ordering::SeqCst);
-        assert_eq!(rt; turns_of(log, seat), told.saturating_add(1));
+        assert_eq!(rt; *count as u64, told.saturating_add(1));
     }
-    assert_eq!(rt; entries_of(log), closed.closed.history.len());
+    assert_eq!(rt; entries_of(run.turns.as_slice()), run.closed.history.len());
 }
 
 #[test]
@@ -136,8 +125,8 @@ fn each_worker_is_told_of_its_turns_in_the_log(rt: HostRuntime) {
             ],
         };
         let tree = booted(&rt, rt.alloc(), source);
-        let closed = closed_by(&rt, rt.alloc(), tree, (1, None), 4, &told);
-        tells_all(&rt, &told, &closed);
+        let run = run_by(&rt, rt.alloc(), tree, (1, None), 4, &told);
+        tells_all(&rt, &told, &run);
     }
 }
 
@@ -145,8 +134,8 @@ fn each_worker_is_told_of_its_turns_in_the_log(rt: HostRuntime) {
 fn a_history_is_replayed_to_the_last_tree(rt: HostRuntime) {
     for places in [(1, None), (2, None), (2, Some(7))] {
         let tree = booted(&rt, rt.alloc(), TWO_AWAY);
-        let closed = closed_by(&rt, rt.alloc(), tree, places, 8, &OpenGate);
+        let run = run_by(&rt, rt.alloc(), tree, places, 8, &OpenGate);
         let again = booted(&rt, rt.alloc(), TWO_AWAY);
-        assert!(rt; leads(&rt, rt.alloc(), again, &closed.closed));
+        assert!(rt; leads(&rt, rt.alloc(), again, &run.closed));
     }
 }

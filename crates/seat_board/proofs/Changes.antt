@@ -5,7 +5,7 @@ use Rattle.std.specs.List.{All}
 use mathlib.Core.Option.{some}
 use lib.ListN.{get_elem?}
 use Rattle.atomic_table.proofs.Lists.{at_set, set_here, set_else}
-use Rattle.ticket_lock.proofs.Views.{there, total-set}
+use Rattle.ticket_lock.proofs.Views.{there}
 use Rattle.det_laws.specs.Tops.{top_at}
 use Rattle.det_core.specs.declared.entry.Entry.{Entry}
 use Rattle.worker_pool.specs.declared.shop.Turn.{Turn}
@@ -21,7 +21,7 @@ use Rattle.board.specs.Value.{Shown}
 use Rattle.seat_board.specs.declared.known.Known.{Known}
 use Rattle.seat_board.specs.Held.{Held, Ended}
 use Rattle.seat_board.specs.Desk.{Desk, TakesIn, IsSeatTurn, IsRefused, held_of, job_of, told_by, turns_of}
-use Rattle.seat_board.specs.Seats.{IsHeld, held_in, added, after, IsOfHeld, IsDoneOf, IsEnded, IsCount, Fits, living, one_if}
+use Rattle.seat_board.specs.Seats.{IsHeld, held_in, added, after, IsOfHeld, IsDoneOf, IsEnded, IsCount, Fits, numbers, one_if, times}
 use Rattle.seat_board.proofs.Logs.{turns_own, turns_other, added_one, added_none}
 use Rattle.seat_board.proofs.Turns.{Leaves, goes_leaves, held_taken, is_held}
 
@@ -54,9 +54,6 @@ own_turns number job old new ch = go ch.log
     go : (new.log ≡ old.log) ⊎ ((es : List Entry) × (new.log ≡ old.log ++ record { seat = number; entries = es } ∷ [])) → turns_of number old.log ++ added old.log new.log ≡ turns_of number new.log
     go (inl same) = ap (λ l. turns_of number old.log ++ added old.log l) same ∙ (ap (λ l. turns_of number old.log ++ l) (added_none old.log) ∙ (append-nil (turns_of number old.log) ∙ ap (turns_of number) (sym same)))
     go (inr one) = ap (λ l. turns_of number old.log ++ added old.log l) one.1 ∙ (ap (λ l. turns_of number old.log ++ l) (added_one old.log (record { seat = number; entries = one.0 })) ∙ (sym (turns_own number old.log one.0) ∙ ap (turns_of number) (sym one.1)))
-
-pub living-set : (cs : List Known) (i : ℕ) (c e : Known) → get_elem? cs i ≡ some c → e.lives ≡ c.lives → living (set cs i e) ≡ living cs
-living-set cs i c e at same = let a = total-set (λ (k : Known). one_if k.lives) cs i c e at in let b = ap one_if same in omega (arith, a, b)
 
 pub or_true : (a b : Bool) → (a || b) ≡ true → (a ≡ true) ⊎ (b ≡ true)
 or_true true b e = inl refl
@@ -185,13 +182,18 @@ module _ (old new : Desk) (cs : List Known) (id : ℕ) (c : Known) (fits : Fits 
       len : length (set cs id (after c old new)) ≡ length cs
       len = length-set cs id (after c old new)
 
-      live : living (set cs id (after c old new)) ≡ living cs
-      live = living-set cs id c (after c old new) at refl
+      each : (k : Known) → IsCount cs k → k.ended ≡ u.ended → (n : ℕ) (w : Known) → ((n ≡ id) × (after c old new ≡ w)) ⊎ ((n ≢ id) × (get_elem? cs n ≡ some w)) → one_if w.lives + times n (numbers u.ended) ≡ 1
+      each k count ended n w (inl p) =
+          let o = count.once n c (ap (get_elem? cs) p.0 ∙ at) in
+          let l : one_if c.lives ≡ one_if w.lives = ap (λ (v : Known). one_if v.lives) p.1 in
+          let e = ap (λ es. times n (numbers es)) ended in
+          omega (arith, o, l, e)
+      each k count ended n w (inr p) = let o = count.once n w p.1 in let e = ap (λ es. times n (numbers es)) ended in omega (arith, o, e)
 
       kept : (k : Known) → IsCount cs k → k.given ≡ u.given → k.ended ≡ u.ended → IsCount (set cs id (after c old new)) u
       kept k count given ended = record {
         given = sym given ∙ (count.given ∙ sym len);
-        once = (let o = count.once in let e = ap length ended in omega (arith, o, e, len, live));
+        once = λ n w here. each k count ended n w (at_set cs id n (after c old new) w here);
       }
 
       go : ((0 ≡ id) × (after c old new ≡ u)) ⊎ ((0 ≢ id) × (get_elem? cs 0 ≡ some u)) → IsCount (set cs id (after c old new)) u

@@ -5,16 +5,17 @@ use Rattle.std.proofs.lemmas.List.Elements.{All-nil, All-cons, All-append}
 use mathlib.Core.Option.{some}
 use lib.ListN.{get_elem?}
 use Rattle.atomic_table.proofs.Lists.{at_set, set_here, set_else, at_longer}
-use Rattle.ticket_lock.proofs.Views.{there, total-set, total-snoc}
-use Rattle.ticket_lock.specs.Plays.{MaySplit, MayJoin, IsLast}
+use Rattle.ticket_lock.proofs.Views.{there, total-set}
+use Rattle.ticket_lock.specs.Plays.{IsKnown, MaySplit, MayJoin, IsLast}
 use Rattle.board.specs.declared.job.Out.{Out}
 use Rattle.board.specs.Jobs.{out_at}
 use Rattle.board.specs.Turns.{IsFinished}
 use Rattle.seat_board.specs.declared.known.Known.{Known}
 use Rattle.seat_board.specs.Held.{Held, Ended}
 use Rattle.seat_board.specs.Desk.{Desk, turns_of}
-use Rattle.seat_board.specs.Seats.{IsHeld, IsEnded, IsCount, Fits, living, one_if, lives, counted_up, newcomer, taken_in, spent}
-use Rattle.seat_board.proofs.Changes.{all_map, or_true, living-set}
+use Rattle.seat_board.specs.Seats.{IsHeld, IsEnded, IsCount, EachOnce, Fits, living, numbers, one_if, times, lives, counted_up, newcomer, taken_in, spent}
+use Rattle.seat_board.proofs.Changes.{all_map, or_true}
+use Rattle.seat_board.proofs.Numbers.{at_below, once_counted, one_more_ended, others_ended, times_none, times_other, times_same}
 
 at_end : {A : Type 0} (l : List A) (a b : A) (j : ℕ) → get_elem? (l ++ a ∷ []) j ≡ some b → (get_elem? l j ≡ some b) ⊎ ((j ≡ length l) × (a ≡ b))
 at_end [] a b zero e = inr (refl, let f : a ≡ b = cc in f)
@@ -69,13 +70,6 @@ module _ (x : Desk) (cs : List Known) (id : ℕ) (c : Known) (fits : Fits x cs) 
   parted_length : length parted ≡ length cs + 1
   unfolding parted
   parted_length = let a = length-append (set cs id (counted_up c)) (newcomer c ∷ []) in let b = length-set cs id (counted_up c) in omega (arith, a, b)
-
-  parted_living : living parted ≡ living cs + 1
-  unfolding parted
-  parted_living =
-      let a = total-snoc (λ (k : Known). one_if k.lives) (set cs id (counted_up c)) (newcomer c) in
-      let b = living-set cs id c (counted_up c) at refl in
-      omega (arith, a, b)
 
   parted_ended : (e : Ended) → IsEnded x cs e → IsEnded x parted e
   parted_ended e is = record { turns = is.turns; there = (let k = is.there in let l = parted_length in omega (arith, k, l)); gone = λ w here. go w (old e.number w here) }
@@ -149,10 +143,20 @@ module _ (x : Desk) (cs : List Known) (id : ℕ) (c : Known) (fits : Fits x cs) 
       count : (u : Known) → get_elem? parted 0 ≡ some u → IsCount parted u
       count u here = go (at_end (set cs id (counted_up c)) (newcomer c) u 0 here)
         where
+          low : All (λ (e : Ended). e.number < length cs) c.ended
+          low = all_map (IsEnded x cs) (λ (e : Ended). e.number < length cs) (λ e is. is.there) c.ended (fits.ended id c at)
+
+          each : (n : ℕ) (w : Known) → Old n w ⊎ ((n ≡ length cs) × (newcomer c ≡ w)) → one_if w.lives + times n (numbers c.ended) ≡ 1
+          each n w (inl o) = let g = first_count in let h = g.once n o.0 o.1 in let l = ap one_if o.2.lives in omega (arith, h, l)
+          each n w (inr p) =
+              let none : times n (numbers c.ended) ≡ 0 = subst (λ m. times m (numbers c.ended) ≡ 0) (sym p.0) (times_none c.ended (length cs) low) in
+              let l : 1 ≡ one_if w.lives = ap (λ (k : Known). one_if k.lives) p.1 in
+              omega (arith, none, l)
+
           made : (k : Known) → counted_up c ≡ k → IsCount (set cs id (counted_up c) ++ newcomer c ∷ []) k
           made k same = subst (IsCount (set cs id (counted_up c) ++ newcomer c ∷ [])) same (record {
             given = (let g = first_count in let h = g.given in let l = parted_length in omega (arith, h, l));
-            once = (let g = first_count in let h = g.once in let l = parted_length in let n = parted_living in omega (arith, h, l, n));
+            once = λ n w at_n. each n w (old n w at_n);
           })
 
           set_case : ((0 ≡ id) × (counted_up c ≡ u)) ⊎ ((0 ≢ id) × (get_elem? cs 0 ≡ some u)) → IsCount (set cs id (counted_up c) ++ newcomer c ∷ []) u
@@ -185,17 +189,6 @@ module _ (x : Desk) (cs : List Known) (id : ℕ) (c : Known) (fits : Fits x cs) 
     joined_length : length joined ≡ length cs
     unfolding joined
     joined_length = length-set (set cs id (taken_in c e)) other spent ∙ length-set cs id (taken_in c e)
-
-    middle_too : get_elem? (set cs id (taken_in c e)) other ≡ some e
-    middle_too = set_else cs id other (taken_in c e) apart ∙ at_too
-
-    joined_living : living joined + 1 ≡ living cs
-    unfolding joined
-    joined_living =
-        let a = total-set (λ (k : Known). one_if k.lives) (set cs id (taken_in c e)) other e spent middle_too in
-        let b = living-set cs id c (taken_in c e) at refl in
-        let d = ap one_if alive_too in
-        omega (arith, a, b, d)
 
     spent_dead : {u : Known} → spent ≡ u → u.lives ≡ true → ⊥
     spent_dead {u} same live = true≢false (sym live ∙ ap (λ (k : Known). k.lives) (sym same))
@@ -296,11 +289,32 @@ module _ (x : Desk) (cs : List Known) (id : ℕ) (c : Known) (fits : Fits x cs) 
         count : (u : Known) → get_elem? joined 0 ≡ some u → IsCount joined u
         count u here = go (case 0 u here)
           where
+            each : (n : ℕ) (w : Known) → Case n w → one_if w.lives + times n (numbers (c.ended ++ record { number = e.number; turns = e.turns } ∷ [])) ≡ 1
+            each n w (inl p) =
+                let g = first_count in
+                let h = g.once other e at_too in
+                let a = ap one_if alive_too in
+                let here : times n (numbers c.ended) ≡ times other (numbers c.ended) = ap (λ m. times m (numbers c.ended)) p.0 in
+                let more = one_more_ended c.ended (record { number = e.number; turns = e.turns }) n (number_too ∙ sym p.0) in
+                let l : 0 ≡ one_if w.lives = ap (λ (k : Known). one_if k.lives) p.1 in
+                omega (arith, h, a, here, more, l)
+            each n w (inr (inl p)) =
+                let g = first_count in
+                let h = g.once n c (ap (get_elem? cs) p.0 ∙ at) in
+                let more = others_ended c.ended (record { number = e.number; turns = e.turns }) n (λ s. apart (sym number_too ∙ (s ∙ p.0))) in
+                let l : one_if c.lives ≡ one_if w.lives = ap (λ (k : Known). one_if k.lives) p.1 in
+                omega (arith, h, more, l)
+            each n w (inr (inr p)) =
+                let g = first_count in
+                let h = g.once n w p.2 in
+                let more = others_ended c.ended (record { number = e.number; turns = e.turns }) n (λ s. p.0 (sym s ∙ number_too)) in
+                omega (arith, h, more)
+
             go : Case 0 u → IsCount joined u
             go (inl p) = absurd (apart (sym p.0 ∙ sym first_is))
             go (inr (inl p)) = subst (IsCount joined) p.1 (record {
               given = (let g = first_count in g.given ∙ sym joined_length);
-              once = (let g = first_count in let h = g.once in let l = joined_length in let n = joined_living in let a = length-append c.ended (record { number = e.number; turns = e.turns } ∷ []) in omega (arith, h, l, n, a));
+              once = λ n w at_n. each n w (case n w at_n);
             })
             go (inr (inr p)) = absurd (p.1 (sym first_is))
 
@@ -332,6 +346,49 @@ is_last id c first alive whole x cs fits at j e at_too alive_too = go (Rattle.st
     go (inr ne) =
         let g = first_count x cs id c fits at first alive in
         let a = g.given in
-        let b = g.once in
+        let b = once_counted cs c.ended (all_map (IsEnded x cs) (λ (d : Ended). d.number < length cs) (λ d is. is.there) c.ended (fits.ended id c at)) g.once in
         let t = two_live cs id j c e at at_too alive alive_too ne in
         absurd (omega (arith, a, b, t, whole))
+
+-- What a board is known to be as seat 0 closes it, once all other numbers have ended.
+module _ (x : Desk) (c : Known) (first : c.number ≡ 0) (alive : c.lives ≡ true) (known : IsKnown Fits c x) where
+  -- no number from the count on has turns
+  pub closes_fresh : (n : ℕ) → c.given ≤ n → turns_of n x.log ≡ []
+  closes_fresh n le =
+      let fits = known.3 in
+      let g = first_count x known.0 known.1 c fits known.2 first alive in
+      let given = g.given in
+      fits.fresh n (omega (arith, given, le))
+
+  -- each number below it is that of seat 0, or is once among those that have ended
+  pub closes_once : c.given ≡ 1 + length c.ended → EachOnce c.given (0 ∷ numbers c.ended)
+  closes_once whole n low = at (at_below known.0 n (let g = count in let given = g.given in omega (arith, given, low)))
+    where
+      count : IsCount known.0 c
+      count = first_count x known.0 known.1 c known.3 known.2 first alive
+
+      id_is : known.1 ≡ 0
+      id_is = first_is x known.0 known.1 c known.3 known.2 first alive
+
+      other : (w : Known) → get_elem? known.0 n ≡ some w → n ≢ 0 → (b : Bool) → w.lives ≡ b → one_if w.lives ≡ 0
+      other w here ne true live = absurd (ne (is_last known.1 c first alive whole x known.0 known.3 known.2 n w here live ∙ id_is))
+      other w here ne false dead = ap one_if dead
+
+      at : (w : Known) × (get_elem? known.0 n ≡ some w) → times n (0 ∷ numbers c.ended) ≡ 1
+      at here = go (Rattle.std.proofs.lemmas.Bool.cases_eq n 0)
+        where
+          go : (n ≡ 0) ⊎ (n ≢ 0) → times n (0 ∷ numbers c.ended) ≡ 1
+          go (inl zero_is) =
+              let g = count in
+              let h = g.once known.1 c known.2 in
+              let l = ap one_if alive in
+              let same : times known.1 (numbers c.ended) ≡ times 0 (numbers c.ended) = ap (λ m. times m (numbers c.ended)) id_is in
+              let a : times 0 (0 ∷ numbers c.ended) ≡ 1 + times 0 (numbers c.ended) = times_same 0 (numbers c.ended) in
+              let b : times n (0 ∷ numbers c.ended) ≡ times 0 (0 ∷ numbers c.ended) = ap (λ m. times m (0 ∷ numbers c.ended)) zero_is in
+              omega (arith, h, l, same, a, b)
+          go (inr ne) =
+              let g = count in
+              let h = g.once n here.0 here.1 in
+              let dead = other here.0 here.1 ne (let w = here.0 in w.lives) refl in
+              let a = times_other 0 n (numbers c.ended) (λ e. ne (sym e)) in
+              omega (arith, h, dead, a)

@@ -1,6 +1,10 @@
 -- Logs of turns, and the histories that they cut.
-use Rattle.std.proofs.Common.{◌≡◌, ◌≢◌, ℕ, zero, suc, ◌+◌, ◌≤◌, ◌==◌, Bool, true, false, List, [], ◌∷◌, ◌++◌, length, take, drop, if◌then◌else◌, refl, sym, ap, ◌∙◌, arith}
+use Rattle.std.proofs.Common.{◌≡◌, ◌≢◌, ℕ, zero, suc, ◌+◌, ◌≤◌, ◌<◌, ◌==◌, Bool, true, false, List, [], ◌∷◌, ◌++◌, length, take, drop, if◌then◌else◌, cond, ◌⊎◌, inl, inr, refl, sym, ap, ◌∙◌, arith}
+use Rattle.std.proofs.lemmas.Bool.{cases_lt}
 use Rattle.std.proofs.lemmas.Bool.Decides.{nat_tests}
+use Rattle.std.proofs.lemmas.List.Elements.{All-nil, All-cons}
+use Rattle.std.proofs.lemmas.List.Recursion.{is_count_by}
+use Rattle.std.specs.List.{All, count_by}
 use Rattle.det_core.specs.declared.entry.Entry.{Entry}
 use Rattle.seat_board.specs.declared.seat_turn.SeatTurn.{SeatTurn}
 use Rattle.seat_board.specs.Desk.{SeatEntry, counted, cut, turns_of, history_of}
@@ -90,3 +94,35 @@ cut_whole h (x ∷ xs) whole =
     let within : x.entries ≤ length h = omega (arith, whole) in
     let left = drop_left x.entries h within in
     ap (λ l. take x.entries h ++ l) (cut_whole (drop x.entries h) xs (omega (arith, whole, left))) ∙ join_again x.entries h
+
+-- a test that fails adds nothing, and one that holds adds one
+no_turn : (b : Bool) (x : List Entry) (l : List (List Entry)) → (if b then x ∷ l else l) ≡ [] → (b ≡ false) × (l ≡ [])
+no_turn true x l e = absurd (let none : x ∷ l ≡ [] = e in cc)
+no_turn false x l e = (refl, e)
+
+many_turns : (b : Bool) (x : List Entry) (l : List (List Entry)) (n : ℕ) → length l ≡ n → length (if b then x ∷ l else l) ≡ cond b (1 + n) n
+many_turns true x l n e = omega (arith, e)
+many_turns false x l n e = e
+
+-- if no number from a count on has turns, each turn's is below it
+pub seats_below : (h : List Entry) (ts : List SeatTurn) (m : ℕ) → ((n : ℕ) → m ≤ n → turns_of n (cut h ts) ≡ []) → All (λ (t : SeatTurn). t.seat < m) ts
+seats_below h [] m none = All-nil (λ (t : SeatTurn). t.seat < m)
+seats_below h (t ∷ ts) m none = All-cons (λ (u : SeatTurn). u.seat < m) t ts (low (cases_lt t.seat m)) (seats_below (drop t.entries h) ts m (λ n le. (no_turn (t.seat == n) (take t.entries h) (turns_of n (cut (drop t.entries h) ts)) (none n le)).1))
+  where
+    low : (t.seat < m) ⊎ (m ≤ t.seat) → t.seat < m
+    low (inl lt) = lt
+    low (inr le) = absurd (let f = (no_turn (t.seat == t.seat) (take t.entries h) (turns_of t.seat (cut (drop t.entries h) ts)) (none t.seat le)).0 in let one : (t.seat == t.seat) ≡ true = grind (arith, nat_tests) in cc)
+
+-- how many turns a number has is how often it is there
+turns_counted : ℕ → List SeatTurn → ℕ
+turns_counted n [] = 0
+turns_counted n (t ∷ ts) = cond (t.seat == n) (1 + turns_counted n ts) (turns_counted n ts)
+
+cut_counted : (n : ℕ) (h : List Entry) (ts : List SeatTurn) → length (turns_of n (cut h ts)) ≡ turns_counted n ts
+unfolding turns_counted
+cut_counted n h [] = refl
+cut_counted n h (t ∷ ts) = many_turns (t.seat == n) (take t.entries h) (turns_of n (cut (drop t.entries h) ts)) (turns_counted n ts) (cut_counted n (drop t.entries h) ts)
+
+pub turns_count : (n : ℕ) (h : List Entry) (ts : List SeatTurn) → length (turns_of n (cut h ts)) ≡ count_by (λ (t : SeatTurn). t.seat == n) ts
+unfolding turns_counted
+turns_count n h ts = cut_counted n h ts ∙ is_count_by (turns_counted n) (λ (t : SeatTurn). t.seat == n) refl (λ t rest. refl) ts

@@ -3,4 +3,5 @@ pub mod Desk
 pub mod Seats
 pub mod Beginnings
 pub mod Passes
+pub mod Shares
 pub mod Workers

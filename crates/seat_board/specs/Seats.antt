@@ -1,7 +1,7 @@
 -- What the seats of a board know of it, between any two turns.
 -- Source: Mellor-Crummey and Scott, TOCS 1991, ticket locks; OSDI 2010, "Efficient System-Enforced Deterministic Parallelism".
 -- Our choice: each seat knows its own job, its own turns and the tree that the board began with; so nothing is compared when a job comes back, nor at the end.
-use Rattle.std.specs.Prelude.{◌≡◌, ℕ, ◌+◌, ◌≤◌, ◌<◌, ◌||◌, Bool, true, false, List, [], ◌∷◌, ◌++◌, map, drop, length, Option, Some, None, option_map}
+use Rattle.std.specs.Prelude.{◌≡◌, ℕ, ◌+◌, ◌≤◌, ◌<◌, ◌||◌, ◌==◌, if◌then◌else◌, Bool, true, false, List, [], ◌∷◌, ◌++◌, map, drop, length, Option, Some, None, option_map}
 use Rattle.std.specs.List.{All}
 use Rattle.std.proofs.Common.{arith}
 use mathlib.Core.Option.{some}
@@ -70,10 +70,23 @@ pub record IsEnded (d : Desk) (cs : List Known) (e : Ended) : Type 0 where
   pub there : e.number < length cs
   pub gone : (w : Known) → get_elem? cs e.number ≡ some w → w.lives ≡ false
 
--- Seat 0 knows how many numbers were given; each is of a seat that lives, or of one that has ended.
+-- how often a number is in a list
+abbrev pub times : ℕ → List ℕ → ℕ
+times n [] = 0
+times n (x ∷ xs) = if x == n then 1 + times n xs else times n xs
+
+-- each number below a count is in a list once
+abbrev pub EachOnce : ℕ → List ℕ → Type 0
+EachOnce count xs = (n : ℕ) → n < count → times n xs ≡ 1
+
+-- the numbers of seats that have ended
+abbrev pub numbers : List Ended → List ℕ
+numbers es = map (λ (e : Ended). e.number) es
+
+-- Seat 0 knows how many numbers were given. Each of them is there once: as the number of a seat that lives, or among those that have ended.
 pub record IsCount (cs : List Known) (c : Known) : Type 0 where
   pub given : c.given ≡ length cs
-  pub once : length c.ended + living cs ≡ length cs
+  pub once : (n : ℕ) (w : Known) → get_elem? cs n ≡ some w → one_if w.lives + times n (numbers c.ended) ≡ 1
 
 -- The board is as its seats know, which stand in the order of their numbers.
 pub record Fits (d : Desk) (cs : List Known) : Type 0 where

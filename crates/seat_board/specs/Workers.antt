@@ -1,6 +1,6 @@
 -- Workers in seats.
 -- Our choice: what a worker leaves of what its seat knew, and what it needs to begin.
-use Rattle.std.specs.Prelude.{◌≡◌, ◌+◌, ◌<◌, ℕ, true, List, length, Option, Some, None, option_map, Result, IfOk, slice_index_or}
+use Rattle.std.specs.Prelude.{◌≡◌, ◌+◌, ◌≤◌, ◌<◌, ℕ, true, List, [], ◌∷◌, ◌++◌, length, Option, Some, None, option_map, Result, Ok, Err, IfOk, slice_index_or}
 use Rattle.std.specs.List.{All}
 use Rattle.std.specs.declared.alloc.AllocError.{AllocError}
 use Rattle.atomic_table.specs.Seated.{TableId}
@@ -8,6 +8,7 @@ use Rattle.worker_pool.specs.declared.shop.Turn.{Turn}
 use Rattle.board.specs.declared.job.Job.{Job}
 use Rattle.board.specs.Turns.{is_over}
 use Rattle.seat_board.specs.declared.worker.Finished.{Finished}
+use Rattle.seat_board.specs.Held.{Ended}
 use Rattle.seat_board.specs.Desk.{job_of}
 use Rattle.seat_board.specs.declared.known.Known.{Known}
 use Rattle.seat_board.specs.declared.pass.Pass.{Pass}
@@ -27,11 +28,16 @@ pub record IsSame (old new : Known) : Type 0 where
   pub given : new.given ≡ old.given
   pub ended : new.ended ≡ old.ended
 
--- a worker has ended: it was told that the board is over, and has no job
+-- a seat has had a turn
+abbrev pub HasHadTurn : Known → Type 0
+HasHadTurn c = 1 ≤ length c.turns
+
+-- a worker has ended: it was told that the board is over, by a turn of its own, and has no job
 pub record HasServed (table : TableId) (old : Known) (p : Pass) : Type 0 where
   pub ready : IsReady table p
   pub same : IsSame old (known p)
   pub over : (known p).over ≡ true
+  pub had : HasHadTurn (known p)
 
 -- what a seat knows behind a turn: its job is the one that the turn handed out, and that the board is over where the turn said so
 abbrev pub Follows : Turn Job → Known → Type 0
@@ -58,3 +64,15 @@ AreServed table ps rs = (i : ℕ) (d : Pass) (e : Result Pass AllocError) → i 
 -- the board began with the tree of which both know, on as many nodes
 abbrev pub IsOfOneBoard : Pass → Pass → Type 0
 IsOfOneBoard p q = ((known p).boot ≡ (known q).boot) × ((known p).nodes ≡ (known q).nodes)
+
+-- what seats knew that are taken in, the last of them first
+abbrev pub taken_from : List (Result Pass AllocError) → List Ended
+taken_from [] = []
+taken_from (Ok p ∷ rs) = taken_from rs ++ record { number = (known p).number; turns = (known p).turns } ∷ []
+taken_from (Err e ∷ rs) = taken_from rs
+
+-- what seat 0 knows once it has taken in others
+pub record HasTakenIn (old : Known) (others : List (Result Pass AllocError)) (new : Known) : Type 0 where
+  pub given : new.given ≡ old.given
+  pub turns : new.turns ≡ old.turns
+  pub ended : new.ended ≡ old.ended ++ taken_from others

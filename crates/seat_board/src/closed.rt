@@ -7,3 +7,11 @@ pub struct SeatClosed {
     pub closed: Closed,
     pub turns: Vec<SeatTurn>,
 }
+
+/// What a run by workers in seats left: what the board had, the turns into which its history is cut, and how many of them each worker had, in the order of their numbers.
+#[derive(Drop)]
+pub struct SeatRun {
+    pub closed: Closed,
+    pub turns: Vec<SeatTurn>,
+    pub counts: Vec<usize>,
+}

@@ -4,6 +4,7 @@
 mod beginning;
 mod bell;
 mod closed;
+mod counting;
 mod desk;
 mod known;
 mod pass;
@@ -17,7 +18,7 @@ mod told;
 mod worker;
 
 pub use beginning::Beginning;
-pub use closed::SeatClosed;
+pub use closed::{SeatClosed, SeatRun};
 pub use desk::Desk;
 pub use known::Known;
 pub use pass::Pass;

@@ -1,4 +1,4 @@
-ghost use Rattle.std.specs.Prelude.{◌≡◌, ◌+◌, ◌≤◌, ◌<◌, [], ◌∷◌, IfOk, IfSome, None, Some, true, length};
+ghost use Rattle.std.specs.Prelude.{◌≡◌, ℕ, ◌+◌, ◌≤◌, ◌<◌, [], ◌∷◌, IfOk, IfSome, None, Some, true, length};
 ghost use Rattle.std.specs.List.{All};
 ghost use Rattle.space_model.specs.Space.{is_settled};
 ghost use Rattle.space_model.specs.Sound.{IsSound};
@@ -10,7 +10,7 @@ ghost use Rattle.board.specs.Steps.{IsOfJob};
 ghost use Rattle.board.specs.Value.{begun};
 ghost use Rattle.seat_board.specs.Held.{Ended};
 ghost use Rattle.seat_board.specs.Desk.{Desk as DeskValue, cut, history_of, turns_of};
-ghost use Rattle.seat_board.specs.Seats.{IsDoneOf, counted_up, newcomer, taken_in};
+ghost use Rattle.seat_board.specs.Seats.{EachOnce, IsDoneOf, counted_up, newcomer, numbers, taken_in};
 ghost use Rattle.seat_board.specs.Beginnings.{seat_0};
 ghost use Rattle.seat_board.specs.Passes.{Answers, HasTurn, known, noted};
 
@@ -171,8 +171,8 @@ impl SeatBoard {
         self.lock.join::<TakesIn>(&mut pass.pass, other);
     }
 
-    /// Closes the board, by seat 0, once each other number that it has given has ended. The history is legal, and is the turns of the log, one behind the other; the turns of each number are as its seat knew them; and
-    /// where one of the seats was told that the board is over, the tree is settled.
+    /// Closes the board, by seat 0, once each other number that it has given has ended. The history is legal, and is the turns of the log, one behind the other. Each number below the count is that of seat 0 or of one
+    /// that has ended, once; its turns are as its seat knew them, and no number from the count on has any. Where one of the seats was told that the board is over, the tree is settled.
     pub fn close(self, pass: Pass) -> SeatClosed
         requires pass { pass.pass.seat.table_id ≡ self.lock.table.shared.table_id }
         requires first { ((known pass).number ≡ 0) × ((known pass).given ≡ 1 + length (known pass).ended) }
@@ -180,6 +180,8 @@ impl SeatBoard {
         ensures boot { ((known pass).boot ≡ Some result.closed.boot) × ((known pass).nodes ≡ result.closed.nodes) }
         ensures legal { IsSound result.closed.boot × Legal result.closed.nodes result.closed.boot result.closed.history.items result.closed.tree }
         ensures log { history_of (cut result.closed.history.items result.turns.items) ≡ result.closed.history.items }
+        ensures once { EachOnce (known pass).given (0 ∷ numbers (known pass).ended) }
+        ensures fresh { (n : ℕ) → (known pass).given ≤ n → turns_of n (cut result.closed.history.items result.turns.items) ≡ [] }
         ensures turns { (known pass).turns ≡ turns_of 0 (cut result.closed.history.items result.turns.items) }
         ensures ended { All (λ (e : Ended). e.turns ≡ turns_of e.number (cut result.closed.history.items result.turns.items)) (known pass).ended }
         ensures over { (known pass).over ≡ true → is_settled result.closed.tree ≡ true }

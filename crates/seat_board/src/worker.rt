@@ -27,7 +27,7 @@ ghost use Rattle.board.specs.Turns.{IsOf};
 ghost use Rattle.seat_board.specs.declared.worker.Finished.{Finished as FinishedValue};
 ghost use Rattle.seat_board.specs.Passes.{known};
 ghost use Rattle.seat_board.specs.Seats.{IsDoneOf};
-ghost use Rattle.seat_board.specs.Workers.{Follows, Goes, HasServed, IsReady, IsSame};
+ghost use Rattle.seat_board.specs.Workers.{Follows, Goes, HasHadTurn, HasServed, IsReady, IsSame};
 
 use crate::bell::Bell;
 use crate::pass::Pass;
@@ -95,6 +95,7 @@ fn turn<G: Gate, R: Wait>(
     ensures pass { pass.new.pass.seat.table_id ≡ pass.old.pass.seat.table_id }
     ensures same { IsSame (known pass.old) (known pass.new) }
     ensures turn { IfOk result (λ a. Follows a.0 (known pass.new)) }
+    ensures had { IfOk result (λ a. HasHadTurn (known pass.new)) }
 {
     let number = pass.number as usize;
     let Some(Finished { done, lasted }) = finished else {
@@ -122,6 +123,7 @@ fn step<G: Gate, R: Wait>(
     ensures pass { pass.new.pass.seat.table_id ≡ pass.old.pass.seat.table_id }
     ensures same { IsSame (known pass.old) (known pass.new) }
     ensures goes { IfOk result (λ o. Goes o (known pass.new)) }
+    ensures had { IfOk result (λ o. HasHadTurn (known pass.new)) }
 {
     let (turn, aside) = turn(rt, board, bell, gate, pass, finished)?;
     let number = pass.number as usize;

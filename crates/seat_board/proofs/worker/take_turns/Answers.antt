@@ -26,4 +26,5 @@ returns-in-None-next g c =
       ready = record { here = c.step.ensures.pass ∙ c.loop.invariant.0; idle = home.0 };
       same = same_trans (known c.args.pass) (known c.loop.pass) (known c.step.new.pass) c.loop.invariant.1 c.step.ensures.same;
       over = home.1;
+      had = c.in_ok-next.ensures.had;
     }

@@ -4,7 +4,7 @@ use Rattle.space_model.specs.Space.{is_settled}
 use Rattle.seat_board.specs.Held.{Ended}
 use Rattle.seat_board.specs.Desk.{Desk, cut, history_of, turns_of}
 use Rattle.seat_board.proofs.Logs.{cut_whole}
-use Rattle.seat_board.proofs.Joins.{is_last}
+use Rattle.seat_board.proofs.Joins.{closes_fresh, closes_once, is_last}
 use Rattle.seat_board.proofs.Acting.{closes}
 use Rattle.seat_board.proofs.seat_board.SeatBoard.close.Goals as goal
 
@@ -24,6 +24,14 @@ returns-clause-boot c =
 
 pub returns-clause-log : goal.returns-clause-log
 returns-clause-log c = ap (λ h. history_of (cut h c.board.inside.turns.items)) c.close-2.ensures.history ∙ (cut_whole c.board.inside.board.history c.board.inside.turns.items c.board.invariant ∙ sym c.close-2.ensures.history)
+
+pub returns-clause-once : goal.returns-clause-once
+returns-clause-once c = closes_once c.close.result c.args.pass.pass.seat.me.0.core c.requires.first.0 c.args.pass.lives c.close.ensures c.requires.first.1
+
+pub returns-clause-fresh : goal.returns-clause-fresh
+returns-clause-fresh c n le =
+    ap (λ h. turns_of n (cut h c.board.inside.turns.items)) c.close-2.ensures.history
+    ∙ (ap (λ (d : Desk). turns_of n d.log) c.board.view_is ∙ closes_fresh c.close.result c.args.pass.pass.seat.me.0.core c.requires.first.0 c.args.pass.lives c.close.ensures n le)
 
 pub returns-clause-turns : goal.returns-clause-turns
 returns-clause-turns c =
