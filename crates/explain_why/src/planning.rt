@@ -1,15 +1,14 @@
-ghost use Rattle.std.specs.Prelude.{◌≡◌, IfOk, OnOk, map, option_map};
+ghost use Rattle.std.specs.Prelude.{◌≡◌, IfOk, OnOk};
 ghost use Rattle.space_model.specs.Space.{Space};
 ghost use Rattle.explain_core.specs.LastLines.{IsFresh, TellsLines};
-ghost use Rattle.explain_core.specs.Lineage.{events_told, noted_link};
-ghost use Rattle.explain_why.specs.Runs.{TellAll, TellRuns, watched_by};
+ghost use Rattle.explain_why.specs.Runs.{TellAll, TellRuns};
 
 use crate::files::conflicted_flags;
 use crate::paths::copy_path;
-use crate::runs::{Runs, lineage_in};
+use crate::runs::{Runs, events_told, lineage_in};
 use crate::telling::{Ending, ending_of};
-use crate::trap::address_register;
-use explain_core::{LineRun, LineageLink, LineageRun, Wanted, WatchList, Watched};
+use crate::trap::{address_register, trap_watched};
+use explain_core::{LineRun, LineageRun, Wanted, WatchList, Watched};
 use space_tree::{Path, Space, Top, at, copy_tree};
 use std::alloc::{AllocError, Global};
 
@@ -18,16 +17,6 @@ use std::alloc::{AllocError, Global};
 struct Asked {
     path: Path,
     watched: Watched,
-}
-
-/// What is watched of a space that a trap has stopped: the register of the address, or x0, which never changes.
-pub(crate) fn trap_watched(register: Option<u8>) -> Watched
-    ensures { result ≡ watched_by register }
-{
-    match register {
-        Some(register) => Watched::Register(register),
-        None => Watched::Register(0),
-    }
 }
 
 // Adds what is asked of a space of a settled tree because of the way that it stopped.
@@ -130,16 +119,6 @@ fn lineage_runs(
     Ok(runs)
 }
 
-// How many own events the first of these links tells of.
-pub(crate) fn events_told(links: &[LineageLink]) -> u64
-    ensures { result ≡ events_told (map noted_link links.now) }
-{
-    match links {
-        [] => 0,
-        [first, ..] => first.count,
-    }
-}
-
 // Adds the last two events of a space that a trap has stopped to what is wanted.
 fn want(
     alloc: Global,
@@ -175,6 +154,88 @@ fn line_run(
     LineRun::new(alloc, tree, wanted)
 }
 
+// Lists that watch what is asked of spaces, without the traps, and then of the traps.
+fn all_lists(
+    alloc: Global,
+    asked: &[Asked],
+    traps: &[Asked],
+) -> Result<Vec<WatchList>, AllocError> {
+    let mut lists = Vec::new(alloc);
+    watch_all(alloc, &mut lists, asked)?;
+    watch_all(alloc, &mut lists, traps)?;
+    Ok(lists)
+}
+
+// Runs that tell who changed what, and no last events.
+fn runs_without_lines(
+    alloc: Global,
+    root: &mut Space,
+    asked: &[Asked],
+) -> Result<Runs, AllocError>
+    ensures runs { IfOk result (TellRuns root.old) }
+    ensures same { root.new ≡ root.old }
+{
+    let lists = all_lists(alloc, asked, &[])?;
+    let lineages = lineage_runs(alloc, root, lists)?;
+    Ok(Runs {
+        lineages,
+        lines: None,
+    })
+}
+
+// These runs, and one more for the last two events of traps.
+fn with_lines(
+    alloc: Global,
+    root: &mut Space,
+    lineages: Vec<LineageRun>,
+    traps: &[Asked],
+) -> Result<Runs, AllocError>
+    requires runs { TellAll root.old lineages.items }
+    ensures runs { IfOk result (TellRuns root.old) }
+    ensures same { root.new ≡ root.old }
+{
+    let mut lineages = lineages;
+    match line_run(alloc, root, &mut lineages, traps) {
+        Ok(lines) => Ok(Runs {
+            lineages,
+            lines: Some(lines),
+        }),
+        Err(error) => Err(error),
+    }
+}
+
+// Runs that tell who changed what, of the traps too, and the last two events of these.
+fn runs_with_lines(
+    alloc: Global,
+    root: &mut Space,
+    asked: &[Asked],
+    traps: &[Asked],
+) -> Result<Runs, AllocError>
+    ensures runs { IfOk result (TellRuns root.old) }
+    ensures same { root.new ≡ root.old }
+{
+    let lists = all_lists(alloc, asked, traps)?;
+    let lineages = lineage_runs(alloc, root, lists)?;
+    with_lines(alloc, root, lineages, traps)
+}
+
+// Runs that answer what is asked.
+fn runs_of(
+    alloc: Global,
+    root: &mut Space,
+    asked: &[Asked],
+    traps: &[Asked],
+) -> Result<Runs, AllocError>
+    ensures runs { IfOk result (TellRuns root.old) }
+    ensures same { root.new ≡ root.old }
+{
+    // A single trap has a run of its own, which takes less.
+    if traps.len() < 2 {
+        return runs_without_lines(alloc, root, asked);
+    }
+    runs_with_lines(alloc, root, asked, traps)
+}
+
 /// Runs of a tree that answer for the spaces at these paths of the settled tree.
 pub(crate) fn runs_for(
     alloc: Global,
@@ -186,21 +247,5 @@ pub(crate) fn runs_for(
     ensures same { root.new ≡ root.old }
 {
     let (asked, traps) = all_asked(alloc, end, paths)?;
-    let mut lists = Vec::new(alloc);
-    watch_all(alloc, &mut lists, &asked)?;
-    // One alone has a run of its own, which takes less.
-    if traps.len() < 2 {
-        let lineages = lineage_runs(alloc, root, lists)?;
-        return Ok(Runs {
-            lineages,
-            lines: None,
-        });
-    }
-    watch_all(alloc, &mut lists, &traps)?;
-    let mut lineages = lineage_runs(alloc, root, lists)?;
-    let lines = line_run(alloc, root, &mut lineages, &traps)?;
-    Ok(Runs {
-        lineages,
-        lines: Some(lines),
-    })
+    runs_of(alloc, root, &asked, &traps)
 }
