@@ -1,32 +1,28 @@
 -- Lines of last own events: what endings tell stays under events of others, counts events without a line, and takes a line.
-use Rattle.std.proofs.Common.{◌≡◌, ℕ, zero, suc, ◌+◌, ◌-◌, ◌<◌, ◌≤◌, Bool, true, false, List, [], ◌∷◌, ◌++◌, append_assoc, length, length-append, take, Option, Some, None, refl, sym, ap, ap₂, ◌∙◌, subst, arith, inl, inr, ◌⊎◌}
+use Rattle.std.proofs.Common.{◌≡◌, ℕ, suc, ◌+◌, ◌-◌, ◌<◌, ◌≤◌, Bool, true, false, List, [], ◌∷◌, ◌++◌, append_assoc, length, length-append, take, Option, Some, None, refl, sym, ap, ap₂, ◌∙◌, subst, arith, inl, inr, ◌⊎◌, true≢false}
 use Rattle.std.proofs.lemmas.Bool.Decides.{nat_tests}
 use Rattle.std.proofs.lemmas.List.{append-nil}
 use Rattle.std.specs.BTreeMap.{BTreeMap, UpdatesBy}
-use Rattle.std.specs.Prelude.{IfSome, if◌then◌else◌, nat_le, option_map}
+use Rattle.std.specs.Prelude.{IfSome, IsNone, IsSome, if◌then◌else◌, nat_le, option_map}
 use Rattle.arrayvec.specs.ArrayVec.{ArrayVec}
-use Rattle.memory_model.specs.Memory.{Memory}
 use Rattle.space_model.specs.Path.{at}
-use Rattle.space_model.specs.Space.{Children, Space, Top, space, top_of}
+use Rattle.space_model.specs.Space.{Space, Top, top_of}
 use Rattle.run_model.specs.Replay.{replay}
 use Rattle.run_model.specs.Schedule.{is_enabled, try_step}
 use Rattle.det_laws.specs.Tops.{top_at}
-use Rattle.det_laws.specs.Tree.{NoneMayHappen, after_all}
 use Rattle.event_laws.specs.OwnEvents.{OwnEvent, own_events}
 use Rattle.event_laws.proofs.Histories.{event_there}
 use Rattle.explain_core.specs.declared.last_lines.Ending.{Ending}
 use Rattle.explain_core.specs.declared.last_lines.NextLine.TheVariants.{Line, Quiet, Over}
+use Rattle.explain_core.specs.declared.watching.Before.{Before}
 use Rattle.explain_core.specs.declared.watching.Found.{Found}
 use Rattle.explain_core.specs.declared.watching.Moment.{Moment}
-use Rattle.explain_core.specs.declared.watching.Noticing.TheVariants.{Lines}
 use Rattle.explain_core.specs.declared.watching.Watched.{Watched}
-use Rattle.explain_core.specs.Going.{GoesBy}
-use Rattle.explain_core.specs.LastLines.{AreFresh, Becomes, CountsMore, Endings, GoesAlone, GoesWithLine, HasAll, HasLine, MayCount, TellsEndings, TellsOf, next_line}
+use Rattle.explain_core.specs.LastLines.{AreFresh, Becomes, CountsMore, Endings, FindsAt, FindsTop, GoesAlone, GoesWithLine, HasAll, HasLine, IsLineOf, LeavesLine, MayCount, TellsEndings, TellsOf, next_line}
 use Rattle.explain_core.specs.Reached.{IsTrace}
 use Rattle.explain_core.specs.Instructions.{instruction_at_pc}
 use Rattle.explain_core.specs.Trace.{calling_memory, trace_lines, traced_line}
 use Rattle.explain_core.specs.TurnsAt.{TurnsAt}
-use Rattle.explain_core.specs.Watch.{found_by, memory_before}
 use Rattle.explain_core.specs.WatchList.{entry_at}
 use Rattle.explain_core.proofs.Coming.{first_own}
 use Rattle.explain_core.proofs.LinksTell.{own_stays, own_then}
@@ -63,9 +59,9 @@ adds p xs ys d e count had lines t =
     record {
       had = length-append xs ys ∙ ap (λ n. n + length ys) t.had ∙ sym had;
       lines = lines
-      ∙ ap₂ (λ u n. u ++ trace_lines p (d.count - 1) n ys) t.lines here
-      ∙ sym (lines_then p (d.count - 1) 0 xs ys)
-      ∙ ap (λ n. trace_lines p (n - 1) 0 (xs ++ ys)) (sym count);
+          ∙ ap₂ (λ u n. u ++ trace_lines p (d.count - 1) n ys) t.lines here
+          ∙ sym (lines_then p (d.count - 1) 0 xs ys)
+          ∙ ap (λ n. trace_lines p (n - 1) 0 (xs ++ ys)) (sym count);
     }
 
 -- behind events without a line
@@ -159,6 +155,23 @@ of_quiet (Some d) is = by_test (nat_le d.count d.had) refl (nat_le d.count (d.ha
     by_test false first true second is = cc
     by_test false first false second is = λ some. grind (arith, nat_tests)
 
+pub next_over : (o : Option Ending) (e : Ending) → Some e ≡ o → e.count ≤ e.had → Over ≡ next_line o
+next_over o e is over = let yes : nat_le e.count e.had ≡ true = grind (arith, nat_tests) in subst (λ r. Over ≡ next_line r) is (rw yes refl)
+
+pub next_told : (o : Option Ending) (e : Ending) → Some e ≡ o → e.had < e.count → e.count - e.had ≤ 2 → Line (e.had + 1) ≡ next_line o
+next_told o e is more late =
+    let near : e.count ≤ e.had + 2 = omega (arith, late) in
+    let no : nat_le e.count e.had ≡ false = grind (arith, nat_tests) in
+    let yes : nat_le e.count (e.had + 2) ≡ true = grind (arith, nat_tests) in
+    subst (λ r. Line (e.had + 1) ≡ next_line r) is (rw (no, yes) refl)
+
+pub next_quiet : (o : Option Ending) (e : Ending) → Some e ≡ o → e.had < e.count → 2 < e.count - e.had → Quiet ≡ next_line o
+next_quiet o e is more early =
+    let far : e.had + 2 < e.count = omega (arith, early) in
+    let no : nat_le e.count e.had ≡ false = grind (arith, nat_tests) in
+    let also : nat_le e.count (e.had + 2) ≡ false = grind (arith, nat_tests) in
+    subst (λ r. Quiet ≡ next_line r) is (rw (no, also) refl)
+
 pub some_told : (o : Option Ending) (number : ℕ) → IfSome o (IsTold number) → IfSome o (λ d. d.had < d.count)
 some_told None number is = tt
 some_told (Some d) number is = is.1
@@ -196,15 +209,16 @@ becomes_none p old new so same none = record {
 same_top : {x y : Top} → Some x ≡ Some y → x ≡ y
 same_top e = cc
 
-pub line_of_event : (p : List ℕ) (number : ℕ) (line : List ℕ) (s now r : Space) (t u : Top) (ds : Children) (f : Found) (m : Option Memory) → 1 ≤ number → is_enabled p 8 s ≡ true → now ≡ try_step p 8 s → Some t ≡ option_map top_of (at p s) → at p now ≡ Some r → space u ds ≡ r
-    → f ≡ found_by Lines t → m ≡ memory_before Lines t → line ≡ traced_line p number f.registers f.instruction m u → GoesWithLine p number line s now
-line_of_event p number line s now r t u ds f m some may stepped first second there found memory is =
+-- of what was found before an event, and of what is there after it
+line_of_event : (p : List ℕ) (number : ℕ) (line : List ℕ) (s now : Space) (b : Before) → 1 ≤ number → is_enabled p 8 s ≡ true → now ≡ try_step p 8 s → FindsAt p s b → LeavesLine p number b line now → GoesWithLine p number line s now
+line_of_event p number line s now f some may stepped (t, first, finds) (r, second, is) =
+    let u = top_of r in
     let here = own_here p s may in
     let e = here.0 in
     let own = here.1 in
     let h = event_there p 8 s e own in
     let was : t ≡ e.before = same_top (first ∙ h.1) in
-    let after : u ≡ e.after = same_top (sym (ap (option_map top_of) second ∙ ap (λ x. Some (top_of x)) (sym there)) ∙ ap (top_at p) (sym (stepped_to p s now may stepped)) ∙ h.2) in
+    let after : u ≡ e.after = same_top (sym (ap (option_map top_of) second) ∙ ap (top_at p) (sym (stepped_to p s now may stepped)) ∙ h.2) in
     let all : nat_le 0 (suc (number - 1)) ≡ true = grind (arith, nat_tests) in
     let number_is : suc (number - 1) ≡ number = omega (arith, some) in
     let b = e.before in
@@ -213,7 +227,7 @@ line_of_event p number line s now r t u ds f m some may stepped first second the
     let told : trace_lines p 0 (number - 1) (e ∷ []) ≡ traced_line p number b.registers (instruction_at_pc b) (calling_memory b) e.after =
     its_own ∙ ap (λ n. traced_line p n b.registers (instruction_at_pc b) (calling_memory b) e.after) number_is in
     let text : line ≡ traced_line p number t.registers (instruction_at_pc t) (calling_memory t) u =
-    is ∙ ap₂ (λ (g : Found) o. traced_line p number g.registers g.instruction o u) found memory in
+    is ∙ ap₂ (λ (g : Found) o. traced_line p number g.registers g.instruction o u) finds.0 finds.1 in
     record {
       event = e;
       goes = record {
@@ -225,13 +239,24 @@ line_of_event p number line s now r t u ds f m some may stepped first second the
       told = told ∙ ap₂ (λ (x y : Top). traced_line p number x.registers (instruction_at_pc x) (calling_memory x) y) (sym was) (sym after) ∙ sym text;
     }
 
--- the space is there
-pub not_gone : (p : List ℕ) (s : Space) → is_enabled p 8 s ≡ true → None ≡ option_map top_of (at p s) → ⊥
-not_gone p s may gone =
-    let here = own_here p s may in
-    let h = event_there p 8 s here.0 here.1 in
-    let none : top_at p s ≡ None = sym gone in
-    let some = sym none ∙ h.1 in cc
+pub some_line : {X : Type 0} (bytes : X → List ℕ) (o : Option X) (p : List ℕ) (number : ℕ) (s now : Space) (b : Before) → 1 ≤ number → is_enabled p 8 s ≡ true → now ≡ try_step p 8 s → FindsAt p s b → IfSome o (λ line. LeavesLine p number b (bytes line) now)
+    → IfSome o (λ line. GoesWithLine p number (bytes line) s now)
+some_line bytes None p number s now b some may stepped finds leaves = tt
+some_line bytes (Some line) p number s now b some may stepped finds leaves = line_of_event p number (bytes line) s now b some may stepped finds leaves
+
+pub line_there : {X : Type 0} (bytes : X → List ℕ) (o : Option X) (p : List ℕ) (number : ℕ) (b : Before) (c now : Space) (u : Top) → at p now ≡ Some c → u ≡ top_of c → IfSome o (λ line. IsLineOf p number b u (bytes line)) → IfSome o (λ line. LeavesLine p number b (bytes line) now)
+line_there bytes None p number b c now u there top is = tt
+line_there bytes (Some line) p number b c now u there top is = (c, there, subst (λ t. IsLineOf p number b t (bytes line)) top is)
+
+pub not_none : {X : Type 0} (o : Option X) → IsSome o → IsNone o → ⊥
+not_none o some none = true≢false (sym some ∙ none)
+
+pub finds_at : (o : Option Before) (b : Before) (p : List ℕ) (s now : Space) → o ≡ Some b → now ≡ s → IfSome o (FindsAt p s) → FindsAt p now b
+finds_at o b p s now is same finds = subst (λ t. FindsAt p t b) (sym same) (subst (λ r. IfSome r (FindsAt p s)) is finds)
+
+pub finds_there : (o : Option Before) (p : List ℕ) (s : Space) (t : Top) → Some t ≡ option_map top_of (at p s) → IfSome o (FindsTop t) → IfSome o (FindsAt p s)
+finds_there None p s t there finds = tt
+finds_there (Some b) p s t there finds = (t, there, finds)
 
 -- ---- at first, and in the end
 
@@ -261,3 +286,8 @@ its_trace root now p count text es (e, there, had, is, lines) a ps ended =
     ∙ t.lines
     ∙ ap (λ n. trace_lines p (n - 1) 0 own) is
     ∙ ap (trace_lines p (count - 1) 0) (sym first ∙ ap (λ n. take n (own_events p ps root)) (t.had ∙ had))
+
+pub some_trace : {X : Type 0} (bytes : X → List ℕ) (o : Option X) (p : List ℕ) (count : ℕ) (es : Endings) (now : Space) (comes : Space → Type 0) → ((root : Space) → comes root → TellsEndings root es now) → IfSome o (λ v. HasAll p count (bytes v) es)
+    → IfSome o (λ v. (root : Space) → comes root → IsTrace root p (count - 1) count (bytes v))
+some_trace bytes None p count es now comes on has = tt
+some_trace bytes (Some v) p count es now comes on has = λ root c. its_trace root now p count (bytes v) es has (on root c)

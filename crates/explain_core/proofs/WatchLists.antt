@@ -1,8 +1,6 @@
 -- What a map has at a path, and what a list watches there.
 use Rattle.std.proofs.Common.{◌≡◌, ℕ, Bool, true, false, cond, if◌then◌else◌, List, [], ◌∷◌, ◌++◌, Option, Some, None, refl, sym, ap, ◌∙◌}
-use Rattle.std.specs.Ordering.{is_eq, nat_cmp}
-use Rattle.std.specs.Cmp.Lexicographic.{slice_cmp}
-use Rattle.std.specs.declared.cmp.Ordering.{Ordering}
+use Rattle.std.specs.Ordering.{is_eq}
 use Rattle.std.specs.BTreeMap.{BTreeMap, UpdatesBy, is_at}
 use Rattle.std.specs.Map.{lookup}
 use Rattle.std.specs.Prelude.{IfSome}
@@ -13,7 +11,7 @@ use Rattle.explain_core.specs.declared.watching.Watched.TheVariants.{Byte, Regis
 use Rattle.explain_core.specs.Notes.{Follows, GoesOnTelling, Notes, TellsAll}
 use Rattle.explain_core.specs.WatchList.{Wanted, entry_at, from_above, itself, watched_at, watched_from}
 use Rattle.explain_core.proofs.NotedPaths.{path_cmp, path_test}
-use Rattle.explain_core.proofs.TurnsAt.{other_path, same_itself}
+use Rattle.explain_core.proofs.TurnsAt.{other_path}
 
 module _ {V : Type 0} where
   -- what a map has at a path

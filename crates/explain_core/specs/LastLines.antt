@@ -1,8 +1,10 @@
 -- The lines of the last two own events of paths, of a tree that goes on turn by turn.
 -- Our choice: a restatement for proofs.
-use Rattle.std.specs.Prelude.{◌≡◌, ℕ, ◌+◌, ◌-◌, ◌<◌, ◌≤◌, nat_le, List, [], ◌∷◌, ◌++◌, length, Option, Some, None, IfSome, if◌then◌else◌}
+use Rattle.std.specs.Prelude.{◌≡◌, ℕ, ◌+◌, ◌-◌, ◌<◌, ◌≤◌, nat_le, List, [], ◌∷◌, ◌++◌, length, Option, Some, None, IfSome, if◌then◌else◌, option_map}
 use Rattle.arrayvec.specs.ArrayVec.{ArrayVec}
-use Rattle.space_model.specs.Space.{Space}
+use Rattle.space_mem.specs.Held.{memory_in}
+use Rattle.space_model.specs.Path.{at}
+use Rattle.space_model.specs.Space.{Space, Top, top_of}
 use Rattle.det_laws.specs.Tree.{after_all}
 use Rattle.event_laws.specs.OwnEvents.{OwnEvent, own_events}
 use Rattle.explain_core.specs.declared.last_lines.Ending.{Ending}
@@ -10,7 +12,10 @@ use Rattle.explain_core.specs.declared.last_lines.NextLine.{NextLine}
 use Rattle.explain_core.specs.declared.last_lines.NextLine.TheVariants.{Quiet, Line, Over}
 use Rattle.explain_core.specs.declared.line_run.LineRun.{LineRun}
 use Rattle.explain_core.specs.declared.line_run.Wanted.{Wanted}
-use Rattle.explain_core.specs.Trace.{trace_lines}
+use Rattle.explain_core.specs.declared.watching.Before.{Before}
+use Rattle.explain_core.specs.declared.watching.Noticing.TheVariants.{Lines}
+use Rattle.explain_core.specs.Trace.{trace_lines, traced_line}
+use Rattle.explain_core.specs.Watch.{found_by, memory_before}
 use Rattle.explain_core.specs.WatchList.{entry_at}
 
 abbrev pub Endings : Type 0
@@ -40,6 +45,22 @@ pub record GoesAlone (p : List ℕ) (own : List OwnEvent) (s now : Space) : Type
   pub leads : after_all schedule s ≡ now
   pub events : own_events p schedule s ≡ own
   pub others : (q : List ℕ) → (q ≡ p → ⊥) → own_events q schedule s ≡ []
+
+-- what the next event of a top finds, and the memory before it, where its line needs it
+abbrev pub FindsTop : Top → Before → Type 0
+FindsTop t b = (b.found ≡ found_by Lines t) × (memory_in b.memory ≡ memory_before Lines t)
+
+-- and of the top at a path
+abbrev pub FindsAt : List ℕ → Space → Before → Type 0
+FindsAt p s b = (t : Top) × (Some t ≡ option_map top_of (at p s)) × FindsTop t b
+
+-- the line of an event, by what it found and the top that it left
+abbrev pub IsLineOf : List ℕ → ℕ → Before → Top → List ℕ → Type 0
+IsLineOf p number b t line = let f = b.found in line ≡ traced_line p number f.registers f.instruction (memory_in b.memory) t
+
+-- and the one at a path
+abbrev pub LeavesLine : List ℕ → ℕ → Before → List ℕ → Space → Type 0
+LeavesLine p number b line s = (c : Space) × (at p s ≡ Some c) × IsLineOf p number b (top_of c) line
 
 -- an event of a path, which has a line
 pub record GoesWithLine (p : List ℕ) (number : ℕ) (line : List ℕ) (s now : Space) : Type 0 where

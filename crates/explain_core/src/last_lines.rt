@@ -1,16 +1,17 @@
-ghost use Rattle.std.specs.Prelude.{◌≡◌, ◌<◌, ◌≤◌, IfOk, IfSome, IsNone, OnOk, string_bytes};
+ghost use Rattle.std.specs.Prelude.{◌≡◌, ◌<◌, ◌≤◌, None, IfOk, IfSome, IsNone, IsSome, OnOk, string_bytes};
+ghost use Rattle.space_model.specs.Path.{at};
 ghost use Rattle.space_model.specs.Space.{Space};
-ghost use Rattle.explain_core.specs.LastLines.{Becomes, CountsMore, GoesWithLine, HasLine, MayCount, TellsEndings, next_line};
+ghost use Rattle.explain_core.specs.LastLines.{Becomes, CountsMore, FindsAt, FindsTop, GoesWithLine, HasLine, IsLineOf, LeavesLine, MayCount, TellsEndings, next_line};
 ghost use Rattle.explain_core.specs.WatchList.{entry_at};
 ghost use Rattle.explain_core.specs.declared.last_lines.NextLine.TheVariants.{Quiet, Line};
 
 use crate::tracing::traced_line;
 use crate::turning::{event_at, stretch_at};
-use crate::watching::{Noticing, Watched, before_event};
+use crate::watching::{Before, Noticing, Watched, before_event};
 use demand_eval::STRETCH;
 use det_core::step;
 use space_step::DecodeCache;
-use space_tree::{Path, Space, at, copy_top_at};
+use space_tree::{Path, Space, Top, at, copy_top_at};
 use std::alloc::{AllocError, Global};
 use std::collections::BTreeMap;
 
@@ -39,16 +40,25 @@ pub(crate) enum NextLine {
     Over,
 }
 
+// How many more events of a path may go by without a line, at most as many as a stretch has.
+fn events_left(ending: &Ending) -> u32
+    ensures { MayCount result ending.now }
+{
+    let left = ending.count.saturating_sub(2).saturating_sub(ending.had);
+    if left < u64::from(STRETCH) {
+        left as u32
+    } else {
+        STRETCH
+    }
+}
+
 // How many instructions of a path may go by without a line, at most as many as a stretch has.
 fn quiet_events(endings: &Endings, path: &Path) -> u32
     ensures { IfSome (entry_at endings.now.entries path.now.items) (MayCount result) }
 {
     match endings.get(path) {
         None => STRETCH,
-        Some(ending) => {
-            let left = ending.count.saturating_sub(2).saturating_sub(ending.had);
-            left.min(u64::from(STRETCH)) as u32
-        }
+        Some(ending) => events_left(ending),
     }
 }
 
@@ -101,9 +111,91 @@ fn event_quietly(
     requires { next_line (entry_at endings.old.entries path.now.items) ≡ Quiet }
     ensures { IfOk result (λ _. (root : Space) → TellsEndings root endings.old.entries tree.old → TellsEndings root endings.new.entries tree.new) }
 {
-    let event = event_at(alloc, cache, tree, path, Watched::Register(0), 0)?;
-    count_quietly(endings, path, event.count);
-    Ok(event.count != 0)
+    match event_at(alloc, cache, tree, path, Watched::Register(0), 0) {
+        Ok(event) => {
+            count_quietly(endings, path, event.count);
+            Ok(event.count != 0)
+        }
+        Err(error) => Err(error),
+    }
+}
+
+// What the event of a top that is next finds, and the memory before it.
+fn before_line(top: Top) -> Result<Option<Before>, AllocError>
+    ensures { IfOk result (λ o. IfSome o (FindsTop top)) }
+{
+    let mut top = top;
+    match before_event(Noticing::Lines, &mut top) {
+        Ok(before) => Ok(Some(before)),
+        Err(error) => Err(error),
+    }
+}
+
+// What the event that is next at a path finds, and the memory before it; none where no space is there.
+fn before_at(tree: &mut Space, path: &Path) -> Result<Option<Before>, AllocError>
+    ensures some { IfOk result (λ o. IfSome o (FindsAt path.now.items tree.old)) }
+    ensures same { tree.new ≡ tree.old }
+{
+    match copy_top_at(tree, path) {
+        Ok(Some(top)) => before_line(top),
+        Ok(None) => Ok(None),
+        Err(error) => Err(error),
+    }
+}
+
+// The line of an event of this number, which has left this top.
+fn line_behind(
+    alloc: Global,
+    path: &Path,
+    number: u64,
+    before: &Before,
+    after: &Top,
+) -> Result<Option<String>, AllocError>
+    ensures some { IfOk result IsSome }
+    ensures line { IfOk result (λ o. IfSome o (λ line. IsLineOf path.now.items number before.now after.now (string_bytes line))) }
+{
+    match traced_line(alloc, path, number, before, after) {
+        Ok(line) => Ok(Some(line)),
+        Err(error) => Err(error),
+    }
+}
+
+// The line of an event of this number, which has just happened at a path; none where no space is there.
+fn line_at(
+    alloc: Global,
+    tree: &Space,
+    path: &Path,
+    number: u64,
+    before: &Before,
+) -> Result<Option<String>, AllocError>
+    ensures some { IfOk result (λ o. IfSome o (λ line. LeavesLine path.now.items number before.now (string_bytes line) tree.now)) }
+    ensures none { IfOk result (λ o. IsNone o → at path.now.items tree.now ≡ None) }
+{
+    match at(tree, path) {
+        Some(space) => line_behind(alloc, path, number, before, &space.top),
+        None => Ok(None),
+    }
+}
+
+// The event that is next at a path, by what it finds, and its line as that of this number; none where it may not happen.
+fn event_line(
+    alloc: Global,
+    cache: &mut DecodeCache,
+    tree: &mut Space,
+    path: &Path,
+    number: u64,
+    before: &Before,
+) -> Result<Option<String>, AllocError>
+    requires some { 1 ≤ number }
+    requires finds { FindsAt path.now.items tree.old before.now }
+    ensures some { IfOk result (λ o. IfSome o (λ line. GoesWithLine path.now.items number (string_bytes line) tree.old tree.new)) }
+    ensures none { IfOk result (λ o. IsNone o → tree.new ≡ tree.old) }
+{
+    match step(alloc, cache, tree, path) {
+        Ok(true) => line_at(alloc, tree, path, number, before),
+        Ok(false) => Ok(None),
+        Err(error) => Err(error),
+    }
 }
 
 // The event that is next at a path, and its line as that of this number; none where it may not happen.
@@ -118,20 +210,10 @@ fn told_event(
     ensures some { IfOk result (λ o. IfSome o (λ line. GoesWithLine path.now.items number (string_bytes line) tree.old tree.new)) }
     ensures none { IfOk result (λ o. IsNone o → tree.new ≡ tree.old) }
 {
-    let Some(mut top) = copy_top_at(tree, path)? else {
-        return Ok(None);
-    };
-    let before = before_event(Noticing::Lines, &mut top)?;
-    let happened = step(alloc, cache, tree, path)?;
-    if !happened {
-        return Ok(None);
-    }
-    match at(tree, path) {
-        Some(space) => {
-            let line = traced_line(alloc, path, number, &before, &space.top)?;
-            Ok(Some(line))
-        }
-        None => Ok(None),
+    match before_at(tree, path) {
+        Ok(Some(before)) => event_line(alloc, cache, tree, path, number, &before),
+        Ok(None) => Ok(None),
+        Err(error) => Err(error),
     }
 }
 

@@ -21,21 +21,21 @@ impl Wanted {
     pub fn new(alloc: Global) -> Wanted
         ensures { IsFresh result }
     {
-        Wanted {
-            endings: Endings::new(alloc),
-        }
+        let endings = Endings::new(alloc);
+        Wanted { endings }
     }
 
     /// Those of a path are wanted, which is to have so many own events.
     pub fn add(&mut self, alloc: Global, path: &Path, count: u64) -> Result<(), AllocError>
         ensures { IsFresh self.old → OnOk result (IsFresh self.new) }
     {
+        let path = copied(path)?;
         let ending = Ending {
             count,
             had: 0,
             lines: Vec::new(alloc),
         };
-        self.endings.insert(copied(path)?, ending)?;
+        self.endings.insert(path, ending)?;
         Ok(())
     }
 }
@@ -53,11 +53,14 @@ impl LineRun {
     pub fn new(alloc: Global, tree: Space, wanted: Wanted) -> Result<LineRun, AllocError>
         ensures { IsFresh wanted → IfOk result (TellsLines tree) }
     {
-        Ok(LineRun {
-            cache: DecodeCache::new(alloc)?,
-            tree,
-            endings: wanted.endings,
-        })
+        match DecodeCache::new(alloc) {
+            Ok(cache) => Ok(LineRun {
+                cache,
+                tree,
+                endings: wanted.endings,
+            }),
+            Err(error) => Err(error),
+        }
     }
 }
 

@@ -88,13 +88,19 @@ impl LineageRun {
     pub fn new(alloc: Global, tree: Space, list: WatchList) -> Result<LineageRun, AllocError>
         ensures { IfOk result (TellsRun tree) }
     {
-        Ok(LineageRun {
-            cache: DecodeCache::new(alloc)?,
-            tree,
-            list,
-            notes: Notes::new(alloc),
-            lost: false,
-        })
+        match DecodeCache::new(alloc) {
+            Ok(cache) => {
+                let notes = Notes::new(alloc);
+                Ok(LineageRun {
+                    cache,
+                    tree,
+                    list,
+                    notes,
+                    lost: false,
+                })
+            }
+            Err(error) => Err(error),
+        }
     }
 }
 
@@ -119,6 +125,13 @@ fn come_to(alloc: Global, run: &mut LineageRun, path: &Path) -> Result<bool, All
     Ok(over)
 }
 
+// Whether the same is watched.
+fn is_same(watched: Watched, other: Watched) -> bool
+    ensures { result ≡ true → watched ≡ other }
+{
+    watched == other
+}
+
 /// Where what is watched of a path comes from, through joins all the way down: the first link has all own events of the path, and behind a link whose event joined a child comes one with
 /// that child's own events before the join; of a space without own events there are no links. The run goes on as far as it takes, and what it has found stays for later questions. None
 /// where the run gives no answer, as it does where its list watches something else there: then `last_change` and `change_before` tell the same, in a run for each join. The one error is
@@ -134,10 +147,12 @@ pub fn lineage_of(
     ensures count { (root : Space) → IsSound root → TellsRun root run.old → IfOk result (λ o. IfSome o (λ v. HasSoMany root path.now.items (events_told (map noted_link v.items)))) }
     ensures run { IfOk result (λ _. (root : Space) → TellsRun root run.old → TellsRun root run.new) }
 {
-    if watched_at(&run.list, path)? != watched {
+    let here = watched_at(&run.list, path)?;
+    if !is_same(here, watched) {
         return Ok(None);
     }
-    if !come_to(alloc, run, path)? {
+    let over = come_to(alloc, run, path)?;
+    if !over {
         return Ok(None);
     }
     let _count = count_at(&run.notes, path);

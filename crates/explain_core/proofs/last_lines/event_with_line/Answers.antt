@@ -1,6 +1,6 @@
-use Rattle.std.proofs.Common.{IfSome, sym, refl, subst}
+use Rattle.std.proofs.Common.{IfSome, subst}
 use Rattle.std.specs.Prelude.{string_bytes}
-use Rattle.explain_core.specs.LastLines.{Becomes, GoesWithLine, HasLine, TellsEndings}
+use Rattle.explain_core.specs.LastLines.{Becomes, GoesWithLine, HasLine}
 use Rattle.explain_core.specs.WatchList.{entry_at}
 use Rattle.explain_core.proofs.LastLines.{number_some, of_told, some_told, with_line}
 use Rattle.explain_core.proofs.last_lines.event_with_line.Goals as goal
@@ -16,6 +16,6 @@ returns-in_ok-keep_line-in-Some c =
     let p = c.args.path.now.items in
     let old = c.args.endings.now.entries in
     let line = string_bytes c.in-Some.line in
-    let goes = subst (λ o. IfSome o (λ l. GoesWithLine p c.args.number (string_bytes l) c.args.tree.now c.told_event.new.tree)) c.in-Some.is c.in_ok-told_event.ensures.some in
-    let kept = subst (λ l. Becomes p (HasLine l) old c.keep_line.new.endings.entries) c.deref.ensures.value c.in_ok-keep_line-in-Some.ensures in
+    let goes = subst (λ o. IfSome o (λ l. GoesWithLine p c.args.number (string_bytes l) c.args.tree.now c.told_event.new.tree)) c.in-Some.is c.in_ok-line.ensures.some in
+    let kept = subst (λ l. Becomes p (HasLine l) old c.keep_line.new.endings.entries) c.deref.ensures c.in_ok-keep_line-in-Some.ensures in
     with_line c.args.tree.now c.told_event.new.tree p c.args.number line old c.keep_line.new.endings.entries c.requires goes kept
