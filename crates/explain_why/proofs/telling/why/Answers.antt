@@ -20,7 +20,7 @@ explain_all-requires-clause-runs c = subst (λ s. TellRuns s c.in_ok-runs.runs) 
 pub returns : goal.returns
 returns c =
     let items = λ (ps : List (ArrayVec ℕ)). map (λ p. p.items) ps in
-    let told = subst (λ ps. HasParts (ExplainsSpace c.runs_for.new.root c.in_ok-end.end) (items ps) c.in_ok-text.text.items) c.deref.ensures.value c.in_ok-text.ensures.told in
+    let told = subst (λ ps. HasParts (ExplainsSpace c.runs_for.new.root c.in_ok-end.end) (items ps) c.in_ok-text.text.items) c.deref-2.ensures.value c.in_ok-text.ensures.told in
     let parts = subst (λ r. HasParts (ExplainsSpace r c.in_ok-end.end) (items c.in_ok-paths.paths.items) c.in_ok-text.text.items) (c.runs_for.ensures.same ∙ c.copy_tree.ensures.same) told in
     IfOk-weaker c.said.result _ _
     (λ v line. all_told c.args.root c.in_ok-copy_tree.field-0 c.in_ok-end.end (items c.in_ok-paths.paths.items) c.in_ok-text.text.items v.items c.in_ok-copy_tree.ensures.equal c.in_ok-end.ensures.meaning c.in_ok-paths.ensures parts line) c.said.ensures
