@@ -216,5 +216,14 @@ pub(crate) fn explain_conflict(
     let Some(sides) = sides_of(end, &below, parent) else {
         return lone_conflict(alloc, path, address);
     };
-    told_conflict(alloc, root, runs, path, &below, number as u16, &sides, address)
+    told_conflict(
+        alloc,
+        root,
+        runs,
+        path,
+        &below,
+        number as u16,
+        &sides,
+        address,
+    )
 }

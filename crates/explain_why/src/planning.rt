@@ -20,7 +20,12 @@ struct Asked {
 }
 
 // Adds what is asked of a space of a settled tree because of the way that it stopped.
-fn push_stop(asked: &mut Vec<Asked>, traps: &mut Vec<Asked>, path: &Path, top: &Top) -> Result<(), AllocError> {
+fn push_stop(
+    asked: &mut Vec<Asked>,
+    traps: &mut Vec<Asked>,
+    path: &Path,
+    top: &Top,
+) -> Result<(), AllocError> {
     let path = copy_path(path)?;
     match ending_of(top.status) {
         Ending::Quiet => {}
@@ -37,7 +42,12 @@ fn push_stop(asked: &mut Vec<Asked>, traps: &mut Vec<Asked>, path: &Path, top: &
 }
 
 // Adds what is asked of a space of a settled tree because of its files.
-fn push_files(alloc: Global, asked: &mut Vec<Asked>, path: &Path, top: &Top) -> Result<(), AllocError> {
+fn push_files(
+    alloc: Global,
+    asked: &mut Vec<Asked>,
+    path: &Path,
+    top: &Top,
+) -> Result<(), AllocError> {
     let addresses = conflicted_flags(alloc, &top.memory)?;
     for address in &addresses {
         asked.push(Asked {
@@ -90,11 +100,7 @@ fn all_asked(
 }
 
 // Lists that watch all that is asked, as few as there are things that are watched at one path.
-fn watch_all(
-    alloc: Global,
-    lists: &mut Vec<WatchList>,
-    asked: &[Asked],
-) -> Result<(), AllocError> {
+fn watch_all(alloc: Global, lists: &mut Vec<WatchList>, asked: &[Asked]) -> Result<(), AllocError> {
     for one in asked {
         watch(alloc, lists, one)?;
     }
@@ -167,11 +173,7 @@ fn all_lists(
 }
 
 // Runs that tell who changed what, and no last events.
-fn runs_without_lines(
-    alloc: Global,
-    root: &mut Space,
-    asked: &[Asked],
-) -> Result<Runs, AllocError>
+fn runs_without_lines(alloc: Global, root: &mut Space, asked: &[Asked]) -> Result<Runs, AllocError>
     ensures runs { IfOk result (TellRuns root.old) }
     ensures same { root.new ≡ root.old }
 {

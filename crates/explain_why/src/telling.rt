@@ -53,7 +53,9 @@ fn explain_stop(
 {
     match ending_of(top.status) {
         Ending::Quiet => Ok(Vec::new(alloc)),
-        Ending::Conflicting(address) => explain_conflict(alloc, root, runs, end, path, top, address),
+        Ending::Conflicting(address) => explain_conflict(
+            alloc, root, runs, end, path, top, address,
+        ),
         Ending::Trapped => explain_trap(alloc, root, runs, path, top),
     }
 }

@@ -16,8 +16,8 @@ use crate::origin::{changed_origin, last_origin, lineage_origin};
 use crate::runs::{Runs, events_told, lineage_in, lines_in};
 use crate::texts::{register_word, trap_text};
 use explain_core::{
-    Change, LastEvents, LineRun, LineageLink, Watched, count_events, instruction_at_pc, last_events,
-    trace,
+    Change, LastEvents, LineRun, LineageLink, Watched, count_events, instruction_at_pc,
+    last_events, trace,
 };
 use rv_decode::{Instr, Instruction};
 use space_tree::{Cause, Path, Space, Status, Top, copy_tree};
