@@ -1,6 +1,6 @@
 pub mod TreePaths
 pub mod Parts
-pub mod Runs
+pub mod RunsTell
 pub mod Origins
 pub mod ByLineage
 pub mod Joins

@@ -9,8 +9,8 @@ ghost use Rattle.explain_why.specs.Texts.{lone_conflict_text};
 ghost use Rattle.explain_why.specs.Runs.{StillTell, TellRuns};
 ghost use Rattle.explain_why.specs.Why.{ExplainsConflict, StandsAt, TellsConflict, all_events};
 
-use crate::origin::{byte_origin, changed_byte, lineage_byte};
-use crate::runs::{Runs, lineage_in};
+use crate::origin::{byte_origin, changed_byte};
+use crate::runs::{Runs, byte_told};
 use crate::texts::{bytes_text, conflict_text, lone_conflict_text};
 use explain_core::{Watched, child_path, last_changes};
 use space_tree::{Mem, Path, Space, Top, at, copy_tree};
@@ -77,8 +77,8 @@ fn origins_beside(
     }
 }
 
-// The same by the lineages that runs tell, through all joins; none where they do not tell.
-fn lineages_told(
+// The same by runs that answer for many spaces; none if they do not tell.
+fn both_told(
     alloc: Global,
     runs: &mut Runs,
     path: &Path,
@@ -91,19 +91,16 @@ fn lineages_told(
     ensures parent { (root : Space) → IsSound root → TellRuns root runs.old → IfOk result (λ o. IfSome o (λ v. TellsOrigin root (Byte address) path.now.items all_events (byte_at parent.now.memory address) (codes "parent changed by") v.1.items)) }
     ensures runs { IfOk result (λ _. StillTell runs.old runs.new) }
 {
-    let watched = Watched::Byte(address);
-    let Some(of_child) = lineage_in(alloc, &mut runs.lineages, below, watched)? else {
+    let Some(of_child) = byte_told(alloc, runs, below, address, child, CHILD)? else {
         return Ok(None);
     };
-    let Some(of_parent) = lineage_in(alloc, &mut runs.lineages, path, watched)? else {
+    let Some(of_parent) = byte_told(alloc, runs, path, address, parent, PARENT)? else {
         return Ok(None);
     };
-    let by_child = lineage_byte(alloc, below, address, child, &of_child, CHILD)?;
-    let by_parent = lineage_byte(alloc, path, address, parent, &of_parent, PARENT)?;
-    Ok(Some((by_child, by_parent)))
+    Ok(Some((of_child, of_parent)))
 }
 
-// The same in runs of their own where those do not tell.
+// The same, in runs of their own if those do not tell.
 fn both_origins(
     alloc: Global,
     root: &mut Space,
@@ -123,7 +120,7 @@ fn both_origins(
     ensures runs { IfOk result (λ _. StillTell runs.old runs.new) }
     ensures same { root.new ≡ root.old }
 {
-    match lineages_told(alloc, runs, path, below, child, parent, address)? {
+    match both_told(alloc, runs, path, below, child, parent, address)? {
         Some(told) => Ok(told),
         None => origins_beside(alloc, root, path, below, number, child, parent, address),
     }
@@ -219,5 +216,14 @@ pub(crate) fn explain_conflict(
     let Some(sides) = sides_of(end, &below, parent) else {
         return lone_conflict(alloc, path, address);
     };
-    told_conflict(alloc, root, runs, path, &below, number as u16, &sides, address)
+    told_conflict(
+        alloc,
+        root,
+        runs,
+        path,
+        &below,
+        number as u16,
+        &sides,
+        address,
+    )
 }

@@ -9,10 +9,9 @@ ghost use Rattle.explain_why.specs.Parts.{HasParts, numbers_below};
 ghost use Rattle.explain_why.specs.Runs.{StillTell, TellRuns};
 ghost use Rattle.explain_why.specs.Why.{ExplainsSlot, all_events, conflicted_name, flags_address};
 
-use crate::origin::{byte_origin, lineage_byte};
-use crate::runs::{Runs, lineage_in};
+use crate::origin::byte_origin;
+use crate::runs::{Runs, byte_told};
 use crate::texts::file_text;
-use explain_core::Watched;
 use file_image::Header;
 use memory_files::header_in;
 use space_tree::{Mem, Path, Space};
@@ -76,7 +75,7 @@ pub(crate) fn conflicted_flags(alloc: Global, memory: &Mem) -> Result<Vec<u32>, 
     Ok(addresses)
 }
 
-// Who changed the flags of a slot, by the lineage that a run tells, or in runs of its own.
+// Who changed the flags of a slot, by the runs that answer for many spaces, or in runs of its own.
 fn flags_origin(
     alloc: Global,
     root: &mut Space,
@@ -93,9 +92,8 @@ fn flags_origin(
     ensures same { root.new ≡ root.old }
 {
     let address = flags_address(slot);
-    let watched = Watched::Byte(address);
-    match lineage_in(alloc, &mut runs.lineages, path, watched)? {
-        Some(links) => lineage_byte(alloc, path, address, memory, &links, FLAGS),
+    match byte_told(alloc, runs, path, address, memory, FLAGS)? {
+        Some(text) => Ok(text),
         None => byte_origin(alloc, root, path, address, memory, FLAGS),
     }
 }

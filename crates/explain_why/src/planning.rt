@@ -1,15 +1,14 @@
-ghost use Rattle.std.specs.Prelude.{◌≡◌, IfOk, OnOk, map, option_map};
+ghost use Rattle.std.specs.Prelude.{◌≡◌, IfOk, OnOk};
 ghost use Rattle.space_model.specs.Space.{Space};
 ghost use Rattle.explain_core.specs.LastLines.{IsFresh, TellsLines};
-ghost use Rattle.explain_core.specs.Lineage.{events_told, noted_link};
-ghost use Rattle.explain_why.specs.Runs.{TellAll, TellRuns, watched_by};
+ghost use Rattle.explain_why.specs.Runs.{TellAll, TellRuns};
 
 use crate::files::conflicted_flags;
 use crate::paths::copy_path;
-use crate::runs::{Runs, lineage_in};
+use crate::runs::{Runs, events_told, lineage_in};
 use crate::telling::{Ending, ending_of};
-use crate::trap::address_register;
-use explain_core::{LineRun, LineageLink, LineageRun, Wanted, WatchList, Watched};
+use crate::trap::{address_register, trap_watched};
+use explain_core::{LineRun, LineageRun, Wanted, WatchList, Watched};
 use space_tree::{Path, Space, Top, at, copy_tree};
 use std::alloc::{AllocError, Global};
 
@@ -20,18 +19,13 @@ struct Asked {
     watched: Watched,
 }
 
-/// What is watched of a space that a trap has stopped: the register of the address, or x0, which never changes.
-pub(crate) fn trap_watched(register: Option<u8>) -> Watched
-    ensures { result ≡ watched_by register }
-{
-    match register {
-        Some(register) => Watched::Register(register),
-        None => Watched::Register(0),
-    }
-}
-
 // Adds what is asked of a space of a settled tree because of the way that it stopped.
-fn push_stop(asked: &mut Vec<Asked>, traps: &mut Vec<Asked>, path: &Path, top: &Top) -> Result<(), AllocError> {
+fn push_stop(
+    asked: &mut Vec<Asked>,
+    traps: &mut Vec<Asked>,
+    path: &Path,
+    top: &Top,
+) -> Result<(), AllocError> {
     let path = copy_path(path)?;
     match ending_of(top.status) {
         Ending::Quiet => {}
@@ -48,7 +42,12 @@ fn push_stop(asked: &mut Vec<Asked>, traps: &mut Vec<Asked>, path: &Path, top: &
 }
 
 // Adds what is asked of a space of a settled tree because of its files.
-fn push_files(alloc: Global, asked: &mut Vec<Asked>, path: &Path, top: &Top) -> Result<(), AllocError> {
+fn push_files(
+    alloc: Global,
+    asked: &mut Vec<Asked>,
+    path: &Path,
+    top: &Top,
+) -> Result<(), AllocError> {
     let addresses = conflicted_flags(alloc, &top.memory)?;
     for address in &addresses {
         asked.push(Asked {
@@ -101,11 +100,7 @@ fn all_asked(
 }
 
 // Lists that watch all that is asked, as few as there are things that are watched at one path.
-fn watch_all(
-    alloc: Global,
-    lists: &mut Vec<WatchList>,
-    asked: &[Asked],
-) -> Result<(), AllocError> {
+fn watch_all(alloc: Global, lists: &mut Vec<WatchList>, asked: &[Asked]) -> Result<(), AllocError> {
     for one in asked {
         watch(alloc, lists, one)?;
     }
@@ -128,16 +123,6 @@ fn lineage_runs(
         runs.push(run)?;
     }
     Ok(runs)
-}
-
-// How many own events the first of these links tells of.
-pub(crate) fn events_told(links: &[LineageLink]) -> u64
-    ensures { result ≡ events_told (map noted_link links.now) }
-{
-    match links {
-        [] => 0,
-        [first, ..] => first.count,
-    }
 }
 
 // Adds the last two events of a space that a trap has stopped to what is wanted.
@@ -175,6 +160,84 @@ fn line_run(
     LineRun::new(alloc, tree, wanted)
 }
 
+// Lists that watch what is asked of spaces, without the traps, and then of the traps.
+fn all_lists(
+    alloc: Global,
+    asked: &[Asked],
+    traps: &[Asked],
+) -> Result<Vec<WatchList>, AllocError> {
+    let mut lists = Vec::new(alloc);
+    watch_all(alloc, &mut lists, asked)?;
+    watch_all(alloc, &mut lists, traps)?;
+    Ok(lists)
+}
+
+// Runs that tell who changed what, and no last events.
+fn runs_without_lines(alloc: Global, root: &mut Space, asked: &[Asked]) -> Result<Runs, AllocError>
+    ensures runs { IfOk result (TellRuns root.old) }
+    ensures same { root.new ≡ root.old }
+{
+    let lists = all_lists(alloc, asked, &[])?;
+    let lineages = lineage_runs(alloc, root, lists)?;
+    Ok(Runs {
+        lineages,
+        lines: None,
+    })
+}
+
+// These runs, and one more for the last two events of traps.
+fn with_lines(
+    alloc: Global,
+    root: &mut Space,
+    lineages: Vec<LineageRun>,
+    traps: &[Asked],
+) -> Result<Runs, AllocError>
+    requires runs { TellAll root.old lineages.items }
+    ensures runs { IfOk result (TellRuns root.old) }
+    ensures same { root.new ≡ root.old }
+{
+    let mut lineages = lineages;
+    match line_run(alloc, root, &mut lineages, traps) {
+        Ok(lines) => Ok(Runs {
+            lineages,
+            lines: Some(lines),
+        }),
+        Err(error) => Err(error),
+    }
+}
+
+// Runs that tell who changed what, of the traps too, and the last two events of these.
+fn runs_with_lines(
+    alloc: Global,
+    root: &mut Space,
+    asked: &[Asked],
+    traps: &[Asked],
+) -> Result<Runs, AllocError>
+    ensures runs { IfOk result (TellRuns root.old) }
+    ensures same { root.new ≡ root.old }
+{
+    let lists = all_lists(alloc, asked, traps)?;
+    let lineages = lineage_runs(alloc, root, lists)?;
+    with_lines(alloc, root, lineages, traps)
+}
+
+// Runs that answer what is asked.
+fn runs_of(
+    alloc: Global,
+    root: &mut Space,
+    asked: &[Asked],
+    traps: &[Asked],
+) -> Result<Runs, AllocError>
+    ensures runs { IfOk result (TellRuns root.old) }
+    ensures same { root.new ≡ root.old }
+{
+    // A single trap has a run of its own, which takes less.
+    if traps.len() < 2 {
+        return runs_without_lines(alloc, root, asked);
+    }
+    runs_with_lines(alloc, root, asked, traps)
+}
+
 /// Runs of a tree that answer for the spaces at these paths of the settled tree.
 pub(crate) fn runs_for(
     alloc: Global,
@@ -186,21 +249,5 @@ pub(crate) fn runs_for(
     ensures same { root.new ≡ root.old }
 {
     let (asked, traps) = all_asked(alloc, end, paths)?;
-    let mut lists = Vec::new(alloc);
-    watch_all(alloc, &mut lists, &asked)?;
-    // One alone has a run of its own, which takes less.
-    if traps.len() < 2 {
-        let lineages = lineage_runs(alloc, root, lists)?;
-        return Ok(Runs {
-            lineages,
-            lines: None,
-        });
-    }
-    watch_all(alloc, &mut lists, &traps)?;
-    let mut lineages = lineage_runs(alloc, root, lists)?;
-    let lines = line_run(alloc, root, &mut lineages, &traps)?;
-    Ok(Runs {
-        lineages,
-        lines: Some(lines),
-    })
+    runs_of(alloc, root, &asked, &traps)
 }

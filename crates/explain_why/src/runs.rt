@@ -1,24 +1,28 @@
 ghost use Rattle.std.specs.Prelude.{◌≡◌, ◌-◌, IfOk, IfSome, map};
+ghost use Rattle.memory_model.specs.Memory.{byte_at};
 ghost use Rattle.space_model.specs.Sound.{IsSound};
 ghost use Rattle.space_model.specs.Space.{Space};
+ghost use Rattle.explain_core.specs.declared.watching.Watched.TheVariants.{Byte};
 ghost use Rattle.explain_core.specs.LastLines.{TellsLines};
 ghost use Rattle.explain_core.specs.Lineage.{TellsLineage, events_told, noted_link};
 ghost use Rattle.explain_core.specs.Reached.{HasSoMany, IsTrace};
-ghost use Rattle.explain_why.specs.Runs.{TellAll};
+ghost use Rattle.explain_why.specs.Origin.{TellsOrigin};
+ghost use Rattle.explain_why.specs.Runs.{StillTell, TellAll, TellRuns};
 ghost use Rattle.explain_why.specs.Why.{all_events};
 
+use crate::origin::lineage_byte;
 use explain_core::{LineRun, LineageLink, LineageRun, Watched, last_two_lines, lineage_of};
-use space_tree::Path;
+use space_tree::{Mem, Path};
 use std::alloc::{AllocError, Global};
 
-/// Runs of a tree that answer for many of its spaces at once: where what is watched comes from, and the last two events of spaces, if several are asked for.
+/// Runs of a tree that answer for many of its spaces: where what is watched comes from, and the last two events of spaces, if two or more trapped.
 #[derive(Drop)]
 pub(crate) struct Runs {
     pub(crate) lineages: Vec<LineageRun>,
     pub(crate) lines: Option<LineRun>,
 }
 
-/// Where what is watched of a path comes from, by the first run that tells; none where none does.
+/// Where what is watched of a path comes from, by the first run that tells; none if none does.
 pub(crate) fn lineage_in(
     alloc: Global,
     runs: &mut Vec<LineageRun>,
@@ -38,7 +42,17 @@ pub(crate) fn lineage_in(
     Ok(None)
 }
 
-/// The lines of the last two of the first so many own events of a path; none where no run tells.
+/// How many own events the first of these links tells of.
+pub(crate) fn events_told(links: &[LineageLink]) -> u64
+    ensures { result ≡ events_told (map noted_link links.now) }
+{
+    match links {
+        [] => 0,
+        [first, ..] => first.count,
+    }
+}
+
+/// The lines of the last two of the first `count` own events of a path; none if no run tells.
 pub(crate) fn lines_in(
     alloc: Global,
     lines: &mut Option<LineRun>,
@@ -50,6 +64,39 @@ pub(crate) fn lines_in(
 {
     match lines {
         Some(run) => last_two_lines(alloc, run, path, count),
+        None => Ok(None),
+    }
+}
+
+// Who changed the byte at an address of a memory of a space, by its lineage.
+fn byte_by_lineage(
+    alloc: Global,
+    path: &Path,
+    address: u32,
+    memory: &Mem,
+    lineage: &[LineageLink],
+    word: &str,
+) -> Result<Option<Vec<u8>>, AllocError>
+    ensures { (root : Space) → TellsLineage root (Byte address) path.now.items all_events (map noted_link lineage.now) → IfOk result (λ o. IfSome o (λ v. TellsOrigin root (Byte address) path.now.items all_events (byte_at memory.now.memory address) word.now v.items)) }
+{
+    let text = lineage_byte(alloc, path, address, memory, lineage, word)?;
+    Ok(Some(text))
+}
+
+/// Who changed the byte at an address of a memory of a space, by the first run that tells; none if none does.
+pub(crate) fn byte_told(
+    alloc: Global,
+    runs: &mut Runs,
+    path: &Path,
+    address: u32,
+    memory: &Mem,
+    word: &str,
+) -> Result<Option<Vec<u8>>, AllocError>
+    ensures told { (root : Space) → IsSound root → TellRuns root runs.old → IfOk result (λ o. IfSome o (λ v. TellsOrigin root (Byte address) path.now.items all_events (byte_at memory.now.memory address) word.now v.items)) }
+    ensures runs { IfOk result (λ _. StillTell runs.old runs.new) }
+{
+    match lineage_in(alloc, &mut runs.lineages, path, Watched::Byte(address))? {
+        Some(links) => byte_by_lineage(alloc, path, address, memory, &links, word),
         None => Ok(None),
     }
 }

@@ -53,7 +53,9 @@ fn explain_stop(
 {
     match ending_of(top.status) {
         Ending::Quiet => Ok(Vec::new(alloc)),
-        Ending::Conflicting(address) => explain_conflict(alloc, root, runs, end, path, top, address),
+        Ending::Conflicting(address) => explain_conflict(
+            alloc, root, runs, end, path, top, address,
+        ),
         Ending::Trapped => explain_trap(alloc, root, runs, path, top),
     }
 }
@@ -119,6 +121,20 @@ fn explain_all(
     Ok(text)
 }
 
+// The same, with runs that answer for all of them.
+fn explain_paths(
+    alloc: Global,
+    root: &mut Space,
+    end: &Space,
+    paths: &[Path],
+) -> Result<Vec<u8>, AllocError>
+    requires { IsSound root.old }
+    ensures { IfOk result (λ v. HasParts (ExplainsSpace root.old end.now) (map (λ p. p.items) paths.now) v.items) }
+{
+    let mut runs = runs_for(alloc, root, end, paths)?;
+    explain_all(alloc, root, &mut runs, end, paths)
+}
+
 // A text, or that there is nothing to explain.
 fn said(alloc: Global, text: Vec<u8>) -> Result<Vec<u8>, AllocError>
     ensures { IfOk result (λ v. v.items ≡ said text.items) }
@@ -140,7 +156,6 @@ pub fn why(alloc: Global, root: Space) -> Result<Vec<u8>, AllocError>
     let mut root = root;
     let end = settle(alloc, copy_tree(alloc, &mut root)?)?;
     let paths = paths_of(alloc, &end)?;
-    let mut runs = runs_for(alloc, &mut root, &end, &paths)?;
-    let text = explain_all(alloc, &mut root, &mut runs, &end, &paths)?;
+    let text = explain_paths(alloc, &mut root, &end, &paths)?;
     said(alloc, text)
 }

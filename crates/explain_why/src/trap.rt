@@ -4,19 +4,20 @@ ghost use Rattle.space_model.specs.Space.{Space};
 ghost use Rattle.space_model.specs.Stop.{is_stopped};
 ghost use Rattle.explain_core.specs.declared.watching.Watched.TheVariants.{Register};
 ghost use Rattle.explain_core.specs.Instructions.{instruction_at_pc};
-ghost use Rattle.explain_core.specs.Lineage.{noted_link};
+ghost use Rattle.explain_core.specs.LastLines.{TellsLines};
+ghost use Rattle.explain_core.specs.Lineage.{events_told, noted_link};
 ghost use Rattle.explain_core.specs.Reached.{HasSoMany, IsTrace, TellsLastOf};
 ghost use Rattle.explain_core.specs.Watch.{noted_of};
 ghost use Rattle.explain_why.specs.Trapped.{TellsLastTwo};
-ghost use Rattle.explain_why.specs.Runs.{StillTell, TellRuns, TellsLineageOf};
+ghost use Rattle.explain_why.specs.Runs.{StillTell, TellRuns, TellsLineageOf, watched_by};
 ghost use Rattle.explain_why.specs.Why.{TellsRegister, TellsTrap, address_register, all_events, base_register};
 
 use crate::origin::{changed_origin, last_origin, lineage_origin};
-use crate::planning::{events_told, trap_watched};
-use crate::runs::{Runs, lineage_in, lines_in};
+use crate::runs::{Runs, events_told, lineage_in, lines_in};
 use crate::texts::{register_word, trap_text};
 use explain_core::{
-    Change, LastEvents, LineageLink, Watched, count_events, instruction_at_pc, last_events, trace,
+    Change, LastEvents, LineRun, LineageLink, Watched, count_events, instruction_at_pc,
+    last_events, trace,
 };
 use rv_decode::{Instr, Instruction};
 use space_tree::{Cause, Path, Space, Status, Top, copy_tree};
@@ -47,6 +48,16 @@ pub(crate) fn address_register(top: &Top) -> Option<u8>
             ..
         } => base_register(instruction_at_pc(top)),
         _ => None,
+    }
+}
+
+/// What is watched of a space that a trap has stopped: the register of the address, or x0, which never changes.
+pub(crate) fn trap_watched(register: Option<u8>) -> Watched
+    ensures { result ≡ watched_by register }
+{
+    match register {
+        Some(register) => Watched::Register(register),
+        None => Watched::Register(0),
     }
 }
 
@@ -192,7 +203,28 @@ fn register_lineage(
     lineage_origin(alloc, path, watched, value, lineage, &word)
 }
 
-// The last two own events of a space of a settled tree, and who changed a register, where one is asked for, by runs that answer for many spaces; none where they do not tell.
+// The last two own events of a space of a settled tree, and who changed a register, if one is asked for, by the lineage of the path; none if no run tells the events.
+fn told_by_lineage(
+    alloc: Global,
+    lines: &mut Option<LineRun>,
+    path: &Path,
+    top: &Top,
+    register: Option<u8>,
+    lineage: &[LineageLink],
+) -> Result<Option<(Vec<u8>, Vec<u8>)>, AllocError>
+    requires { IfSome register (λ r. r < 32) }
+    ensures told { (root : Space) → HasSoMany root path.now.items (events_told (map noted_link lineage.now)) → TellsLineageOf root path.now.items register (map noted_link lineage.now) → IfSome lines.old (TellsLines root) → IfOk result (λ o. IfSome o (λ v. TellsLastTwo root path.now.items top.now register v.0.items v.1.items)) }
+    ensures lines { IfOk result (λ _. (root : Space) → IfSome lines.old (TellsLines root) → IfSome lines.new (TellsLines root)) }
+{
+    let count = events_told(lineage);
+    let Some(events) = lines_in(alloc, lines, path, count)? else {
+        return Ok(None);
+    };
+    let source = register_lineage(alloc, path, top, register, lineage)?;
+    Ok(Some((events, source)))
+}
+
+// The same by runs that answer for many spaces; none if they do not tell.
 fn told_together(
     alloc: Global,
     runs: &mut Runs,
@@ -207,19 +239,13 @@ fn told_together(
     if runs.lines.is_none() {
         return Ok(None);
     }
-    let watched = trap_watched(register);
-    let Some(links) = lineage_in(alloc, &mut runs.lineages, path, watched)? else {
-        return Ok(None);
-    };
-    let count = events_told(&links);
-    let Some(events) = lines_in(alloc, &mut runs.lines, path, count)? else {
-        return Ok(None);
-    };
-    let source = register_lineage(alloc, path, top, register, &links)?;
-    Ok(Some((events, source)))
+    match lineage_in(alloc, &mut runs.lineages, path, trap_watched(register))? {
+        Some(links) => told_by_lineage(alloc, &mut runs.lines, path, top, register, &links),
+        None => Ok(None),
+    }
 }
 
-// The same in runs of its own where those do not tell.
+// The same, in runs of its own if those do not tell.
 fn told_of_trap(
     alloc: Global,
     root: &mut Space,
