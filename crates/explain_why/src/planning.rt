@@ -12,6 +12,10 @@ use explain_core::{LineRun, LineageRun, Wanted, WatchList, Watched};
 use space_tree::{Path, Space, Top, at, copy_tree};
 use std::alloc::{AllocError, Global};
 
+// How many lists watch bytes at most. Each has a run, and a run keeps a whole tree until all is told. A byte that no list watches is told by
+// a run of its own, which ends before the next begins.
+const MOST_LISTS: usize = 4;
+
 // What is asked of a path: who changed this.
 #[derive(Drop)]
 struct Asked {
@@ -58,16 +62,23 @@ fn push_files(
     Ok(())
 }
 
-// Adds a list that watches this to others, unless one of them can.
-fn watch(alloc: Global, lists: &mut Vec<WatchList>, asked: &Asked) -> Result<(), AllocError> {
+// Has one of the lists watch this, or else one that is added while there are fewer than `most`.
+fn watch(
+    alloc: Global,
+    lists: &mut Vec<WatchList>,
+    asked: &Asked,
+    most: usize,
+) -> Result<(), AllocError> {
     for index in 0..lists.len() {
         if lists[index].add(&asked.path, asked.watched)? {
             return Ok(());
         }
     }
-    let mut list = WatchList::new(alloc);
-    list.add(&asked.path, asked.watched)?;
-    lists.push(list)?;
+    if lists.len() < most {
+        let mut list = WatchList::new(alloc);
+        list.add(&asked.path, asked.watched)?;
+        lists.push(list)?;
+    }
     Ok(())
 }
 
@@ -99,10 +110,15 @@ fn all_asked(
     Ok((asked, traps))
 }
 
-// Lists that watch all that is asked, as few as there are things that are watched at one path.
-fn watch_all(alloc: Global, lists: &mut Vec<WatchList>, asked: &[Asked]) -> Result<(), AllocError> {
+// Has lists watch what is asked, as few as there are things that are watched at one path, and at most so many.
+fn watch_all(
+    alloc: Global,
+    lists: &mut Vec<WatchList>,
+    asked: &[Asked],
+    most: usize,
+) -> Result<(), AllocError> {
     for one in asked {
-        watch(alloc, lists, one)?;
+        watch(alloc, lists, one, most)?;
     }
     Ok(())
 }
@@ -160,15 +176,16 @@ fn line_run(
     LineRun::new(alloc, tree, wanted)
 }
 
-// Lists that watch what is asked of spaces, without the traps, and then of the traps.
+// Lists that watch what is asked of spaces, without the traps, and then of the traps. One more list has room for all traps, since no two of
+// them are of one path.
 fn all_lists(
     alloc: Global,
     asked: &[Asked],
     traps: &[Asked],
 ) -> Result<Vec<WatchList>, AllocError> {
     let mut lists = Vec::new(alloc);
-    watch_all(alloc, &mut lists, asked)?;
-    watch_all(alloc, &mut lists, traps)?;
+    watch_all(alloc, &mut lists, asked, MOST_LISTS)?;
+    watch_all(alloc, &mut lists, traps, MOST_LISTS + 1)?;
     Ok(lists)
 }
 
