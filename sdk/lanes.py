@@ -33,7 +33,7 @@ CHILDREN = 65536
 STARTS = ("put", "fork", "tfork", "qstart")
 MEETINGS = STARTS + ("get", "wait", "tjoin", "qcommit")
 # How many events of a run, times its traces, take about a second; and how many of them a space counts for.
-WORTH, EACH = 25000000, 100
+WORTH, EACH = 25000000, 400
 # How many traces are asked for before their answers are read: the same on every host.
 BATCH = 8
 
@@ -70,9 +70,9 @@ class Asked:
             raise Refused(lines[-1] if lines else f"det ends with {done.returncode}", done.returncode if done.returncode > 0 else 2)
         return done.returncode, [line.split(" ") for line in lines]
 
-    def ask(self, command, *rest, hook=None):
+    def ask(self, command, *rest, hook=None, before=()):
         """The lines of an answer of explain, or what the hook makes of each."""
-        words = [program("EXPLAIN", "explain"), command, "--json", *self.limit, *self.source, *self.files, *rest]
+        words = [program("EXPLAIN", "explain"), command, "--json", *self.limit, *self.source, *before, *self.files, *rest]
         done = self.run(words, subprocess.PIPE)
         if done.returncode:
             said = done.stderr.decode("ascii", "backslashreplace").rstrip("\n") or f"explain ends with {done.returncode}"
@@ -178,7 +178,7 @@ class Lanes:
         self.spaces = {}
         for line in lines:
             self.at(line[0]).told = line
-        self.trace(spaces or max(1, WORTH // (EACH * len(lines) + sum(int(line[4]) for line in lines))))
+        self.trace(spaces)
         self.happen()
 
     def at(self, path):
@@ -201,16 +201,22 @@ class Lanes:
 
     # ---- Traces ----
 
+    def budget(self, seen):
+        """How many traces take about a second: the more events and spaces are known, the fewer."""
+        known = sum(int(space.told[4]) if space.told else space.reading.count if space.reading else 0 for space in self.spaces.values())
+        return max(1, WORTH // (EACH * len(seen) + known))
+
     def trace(self, spaces):
-        """Traces the root, and then the spaces of which the report tells least."""
+        """Traces the root, and then the spaces of which the report tells least; so many at most, if it is said."""
         parents = {path.rpartition("/")[0] or "/" for path in self.spaces}
         waiting, seen = [(0, (), "/")], {"/"}
         for path in self.spaces:
             self.wait(waiting, seen, path, parents)
         with concurrent.futures.ThreadPoolExecutor(min(4, os.cpu_count() or 1)) as pool:
-            while waiting and spaces > 0:
-                batch = [heapq.heappop(waiting)[2] for _ in range(min(BATCH, spaces, len(waiting)))]
-                spaces -= len(batch)
+            done = 0
+            while waiting and done < (spaces or self.budget(seen)):
+                batch = [heapq.heappop(waiting)[2] for _ in range(min(BATCH, (spaces or self.budget(seen)) - done, len(waiting)))]
+                done += len(batch)
                 for path, reading in zip(batch, pool.map(self.read, batch)):
                     self.at(path).reading = reading
                     for child in self.started(path, reading):

@@ -1,4 +1,4 @@
-"""Which line of a source an address comes from, for sources of `det asm` and for executables with lines in them (-g)."""
+"""Which line of a source an address comes from, and which address a name has: of sources of `det asm`, and of executables (lines by -g)."""
 
 import bisect
 import collections
@@ -7,15 +7,22 @@ import pathlib
 import re
 import struct
 
+from elf32 import Refused
+
 # Of what an executable calls its sources these are read: an executable of a stranger may name any file of this machine.
 SUFFIXES = (".c", ".h", ".s", ".S")
 LONGEST = 4000000
 
 Row = collections.namedtuple("Row", "address file line is_end")
+Statement = collections.namedtuple("Statement", "address size line label")
+
+# A place: an address, or a name with bytes past it, as explain writes both.
+ADDRESS = re.compile(r"0[xX][0-9a-fA-F]{1,8}|[0-9a-f]{8}")
+NAMED = re.compile(r"([A-Za-z_.$][\w.$]*)(?:\+([0-9]{1,10}))?")
 
 # ---- Sources of det asm (docs/FORMATS.md, "Sources") ----
 
-LABEL = re.compile(r"[A-Za-z_]\w*\s*:")
+LABEL = re.compile(r"(?:([A-Za-z_]\w*)\s*:)?")
 SIZES = {"li": 8, ".dti2": 0, ".entry": 0, ".stack": 0, ".byte": 1}
 
 
@@ -26,21 +33,32 @@ def number(word):
         return 0
 
 
-def of_source(text, name):
-    """The rows of a source that det asm takes."""
+def statements(text):
+    """The lines of a source that det asm takes, each with its address and how many bytes it makes."""
     address = 0
     for at, line in enumerate(text.split("\n"), 1):
-        words = LABEL.sub("", re.split("[;#]", line)[0].strip(), count=1).split()
-        if not words:
-            continue
-        if words[0] == ".segment":
-            address = number(words[1]) if len(words) > 1 else 0
-            continue
-        size = number(words[1]) if words[0] == ".zero" and len(words) > 1 else SIZES.get(words[0], 4)
-        if size:
-            yield Row(address, name, at, False)
-            yield Row(address + size, name, at, True)
-        address += size
+        line = re.split("[;#]", line)[0].strip()
+        label = LABEL.match(line)
+        words = line[label.end() :].split()
+        size = 0
+        if words and words[0] not in (".segment", ".zero"):
+            size = SIZES.get(words[0], 4)
+        elif words[:1] == [".zero"] and len(words) > 1:
+            size = number(words[1])
+        yield Statement(address & 0xFFFFFFFF, size, at, label[1])
+        address = number(words[1]) if words[:1] == [".segment"] and len(words) > 1 else address + size
+
+
+def of_source(text, name):
+    """The rows of a source that det asm takes."""
+    for it in statements(text):
+        if it.size:
+            yield Row(it.address, name, it.line, False)
+            yield Row(it.address + it.size, name, it.line, True)
+
+
+def labels(text):
+    return [(it.label, it.address) for it in statements(text) if it.label]
 
 
 # ---- Executables (DWARF Debugging Information Format, version 5, "Line Number Information"; versions 2 to 4 too) ----
@@ -127,7 +145,7 @@ class LineTable:
 
     def newer_files(self):
         folders = [entry.get(1, b"") for entry in self.entries()]
-        return [os.path.join(folders[entry.get(2, 0)], entry.get(1, b"")) for entry in self.entries()]
+        return [os.path.join(folders[0], folders[entry.get(2, 0)], entry.get(1, b"")) for entry in self.entries()]
 
     def entries(self):
         forms = [(self.unit.leb(), self.unit.leb()) for _ in range(self.unit.number(1))]
@@ -207,7 +225,26 @@ def of_executable(elf):
         return
 
 
+def symbols(elf):
+    """The names of an executable (its symbol table), those that other files can use first."""
+    found = []
+    try:
+        there = sections(elf)
+        texts = there.get(b".strtab", b"")
+        for name, address, _, kind, _, section in struct.iter_unpack("<3I2BH", there.get(b".symtab", b"")):
+            if section and kind & 15 < 3:
+                found.append((kind < 16, Reader(texts, name).text().decode("utf-8", "backslashreplace"), address))
+    except (IndexError, KeyError, ValueError, struct.error):
+        pass
+    return [(name, address) for _, name, address in sorted(found, key=lambda it: it[0]) if name]
+
+
 # ---- Both ----
+
+
+def shown(path):
+    """A name of the host, which may have any bytes."""
+    return os.fsencode(path).decode("utf-8", "backslashreplace")
 
 
 def stored(path):
@@ -224,16 +261,31 @@ class SourceLines:
 
     def __init__(self, path):
         data = pathlib.Path(path).read_bytes()
-        self.texts = {}
-        rows = []
+        self.path, self.texts = path, {}
+        rows, names = [], []
         if data[:4] == b"\x7fELF":
-            rows = list(of_executable(data))
+            rows, names = list(of_executable(data)), symbols(data)
         elif data[:3] != b"DTI":
             name = os.fsencode(os.path.basename(path))
+            text = data.decode("utf-8", "replace")
             self.texts[name] = data
-            rows = list(of_source(data.decode("utf-8", "replace"), name))
+            rows, names = list(of_source(text, name)), labels(text)
+        self.names = {}
+        for name, address in names:
+            self.names.setdefault(name, address)
         self.rows = sorted(rows, key=lambda row: (row.address, not row.is_end))
         self.addresses = [row.address for row in self.rows]
+
+    def address(self, word):
+        """The address that a place has: itself, or that of a name."""
+        if ADDRESS.fullmatch(word):
+            return int(word, 16)
+        found = NAMED.fullmatch(word)
+        if not found:
+            raise Refused(f"{word}: neither an address nor a name")
+        if found[1] not in self.names:
+            raise Refused(f"{word}: {shown(self.path)} has no such name")
+        return (self.names[found[1]] + int(found[2] or 0)) & 0xFFFFFFFF
 
     def at(self, address):
         """The file and the line of an address, or None."""
@@ -243,8 +295,9 @@ class SourceLines:
         return self.rows[place].file, self.rows[place].line
 
     def text(self, file, line):
-        """A line of a source; empty if the source is not there any more, or is on another machine."""
+        """A line of a source, which is where the executable says, or next to it; empty if it is at neither place."""
         if file not in self.texts:
-            self.texts[file] = stored(pathlib.Path(os.fsdecode(file)))
+            named = pathlib.Path(os.fsdecode(file))
+            self.texts[file] = stored(named) or stored(pathlib.Path(self.path).parent / named.name)
         lines = self.texts[file].split(b"\n")
         return lines[line - 1] if line <= len(lines) else b""

@@ -9,25 +9,26 @@ from trying import run, same, stored
 
 CHROMIUM = next(filter(None, map(shutil.which, ("chromium", "chromium-browser", "google-chrome"))), None)
 # What a page says that was not opened.
-NOTHING = ("", "[]", "", "", [""], 0)
+NOTHING = ("", "[]", "", "", [""] * 9, 0, "", "[]")
 
 # Opens each page in a frame, presses its keys, and searches it. The second half of what is pressed undoes the first.
 FRAMES = """<!doctype html><meta charset="utf-8"><body><iframe id="frame" width="1300" height="700"></iframe><script>
 const frame = document.getElementById("frame"), pages = %s, said = {};
-const KEYS = ["ArrowDown", "ArrowDown", "ArrowRight", "ArrowLeft", "ArrowUp", "n", "PageDown", "End",
+const KEYS = ["Escape", "ArrowDown", "ArrowDown", "ArrowRight", "ArrowLeft", "ArrowUp", "n", "PageDown", "End",
   "z", "+", "[", "s", "t", "t", "s", "]", "-", "0", "Home", "?", "Escape"];
 frame.onload = () => {
   if (!pages.length) return;
   const page = frame.contentDocument, find = name => page.getElementById(name);
   const press = (key, box) => box.dispatchEvent(new frame.contentWindow.KeyboardEvent("keydown", {key, bubbles: true}));
-  const places = [];
+  const places = [], first = find("details").textContent.slice(0, 9000);
   for (const key of KEYS) { press(key, page); places.push(frame.contentWindow.location.hash); }
   const details = find("details").textContent.slice(0, 9000);
   find("search").value = "stops";
   find("search").dispatchEvent(new frame.contentWindow.Event("input"));
   const found = find("found").textContent;
   press("Enter", find("search"));
-  said[pages[0]] = [page.body.dataset.drawn, page.body.dataset.arrows, details, found, places, find("details").querySelectorAll(".chosen").length];
+  said[pages[0]] = [page.body.dataset.drawn, page.body.dataset.arrows, details, found, places,
+    find("details").querySelectorAll(".chosen").length, first, page.body.dataset.red];
   pages.shift();
   next();
 };
@@ -47,8 +48,10 @@ def opened(pages, room):
     return json.loads(html.unescape(found[1])) if found else None, console
 
 
-def compare(it, starts, counts, drawn, details, found, places, chosen):
+def compare(it, starts, counts, drawn, details, found, places, chosen, first, red):
     compare_drawn(it, starts, counts, drawn, details)
+    compare_moment(it, first)
+    same(json.loads(red), reds(it), f"{it.name}: lanes that are red")
     compare_pressed(it, found, places, chosen)
 
 
@@ -68,12 +71,25 @@ def compare_drawn(it, starts, counts, drawn, details):
     same([line for line in lines if line not in details], [], f"{it.name}: lines that the browser does not show")
 
 
+def reds(it):
+    """The spaces that a trap has stopped, or that have a file in conflict, as explain why tells it."""
+    paths = [line.split(" ")[1] for lines in it.data["why"].values() for line in lines if line.startswith(("trap ", "conflict "))]
+    return [row for row, path in enumerate(it.paths()) if path in paths]
+
+
+def compare_moment(it, first):
+    """A page that begins with an event has all that explain tells of it."""
+    if it.data["at"]:
+        said = [it.data["at"]["text"], *(f"{name} {value}" if name != "bytes" else value for name, value in it.data["at"]["after"])]
+        same([line for line in said if line not in first], [], f"{it.name}: lines of the event that the browser does not show")
+
+
 def compare_pressed(it, found, places, chosen):
     """What a search finds, and where the keys have led."""
     names = it.paths()
     second, last = "#" + names[min(1, len(names) - 1)], "#" + names[-1]
-    same(places[:2], ["#/", second], f"{it.name}: keys down")
-    same(places[7], last, f"{it.name}: the key End")
+    same(places[:3], ["", "#/", second], f"{it.name}: keys down")
+    same(places[8], last, f"{it.name}: the key End")
     same(places[-1], "", f"{it.name}: the key Escape")
     stops = sum(1 for row in it.data["spaces"] for event in row[9] if event[5] and "stops" in event[5] or it.data["kinds"][event[2]] == "stops")
     if stops:

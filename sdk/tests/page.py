@@ -30,6 +30,7 @@ class Run:
         self.out = ROOM / f"{name}.html"
 
     def made(self):
+        self.out.unlink(missing_ok=True)
         page.make(page.parsed([*self.words, *self.files, "-o", str(self.out)]))
         self.page = Parsed(self.out.read_text())
         self.data = self.page.data
@@ -373,6 +374,92 @@ def try_show():
     same((it.paths()[row], event), ("/1", 3), "what the page begins with")
 
 
+def state(*words):
+    """An answer of explain at: what of it a page shows."""
+    lines = [line.split(" ", 1) for line in lines_of(EXPLAIN, "at", *words)]
+    return [line for line in lines if line[0] not in ("space", "pages", "changed")]
+
+
+def try_any_event():
+    """Registers before and after an event, be it a call or not, and memory: where it stores, where it loads, at the stack, or what is asked for."""
+    image = example("wrong_number")
+    for name, memory in (("/2:208", "0x00013190:64"), ("/2:1", None), ("/:1", None), ("/2:491", None)):
+        path, number = name.split(":")
+        it = Run("any", image, os.devnull, "--show", name).made()
+        at = it.data["at"]
+        same([at["text"]], [lines_of(EXPLAIN, "trace", image, os.devnull, path, number, number)[0].split(" ", 1)[1]], f"the event {name}")
+        start, count = next(value for kind, value in at["after"] if kind == "bytes").split(" ")[0], 64
+        words = ["--bytes", memory or f"0x{start}:{count}", image, os.devnull]
+        same(at["after"], state(*words, name), f"the space after {name}")
+        without = lambda lines: [line for line in lines if line[0] != "bytes"]
+        want = state(image, os.devnull, f"{path}:{int(number) - 1}") if number != "1" else []
+        same(without(at["before"]), want, f"the space before {name}")
+        MADE["any" + name.replace("/", "_").replace(":", "_")] = it
+        it.out = it.out.rename(ROOM / f"any{name.replace('/', '_').replace(':', '_')}.html")
+    it = Run("asked", image, os.devnull, "--show", "/2:209", "--bytes", "results+88:44").made()
+    same(it.data["at"]["after"], state("--bytes", "0x00013180:44", image, os.devnull, "/2:209"), "bytes of a name")
+    same(it.data["lines"][str(it.data["at"]["pc"])][1], 29, "the line of the event")
+    it = Run("late", image, os.devnull, "--events", "5", "--traces", "1", "--show", "/2:208").made()
+    same((it.data["at"]["text"].split(" ")[2], it.data["show"]), ("main+352", [3, 208]), "an event of a space that was not traced")
+
+
+def try_loads_and_stacks():
+    """Memory around the address that an event loads from, and around sp for other events."""
+    image = example("wrong_number")
+    trace = lines_of(EXPLAIN, "trace", image, os.devnull, "/2", "1", "491")
+    load = next(line for line in trace if re.search(r" lw \w+, 40\(s0\)", line)).split(" ")[0]
+    other = next(line for line in trace if " addi " in line and int(line.split(" ")[0].split(":")[1]) > 1).split(" ")[0]
+    registers = lambda name: {words[1].split(" ")[0]: int(words[1].split(" ")[1], 16) for words in state(image, os.devnull, name) if words[0][0] == "x"}
+    before = load.split(":")[0] + ":" + str(int(load.split(":")[1]) - 1)
+    for name, address in ((load, registers(before)["s0"] + 40), (other, registers(other)["sp"])):
+        it = Run("around", image, os.devnull, "--show", name).made()
+        starts = [int(value.split(" ")[0], 16) for kind, value in it.data["at"]["after"] if kind == "bytes"]
+        same(starts[0], (address & ~15) - 16, f"memory at {name}")
+
+
+FILES = """
+.segment 0x1000 1
+        li a1, 0
+        jal ra, fork
+        li a1, 1
+        jal ra, fork
+        li a1, 0
+        li a7, 17
+        ecall
+        li a1, 1
+        li a7, 17
+        ecall
+        li a0, 0
+end:    li a7, 3
+        ecall
+fork:   li a7, 16
+        ecall
+        bne a0, zero, child
+        jalr zero, 0(ra)
+child:  li a1, name
+        li a2, 4
+        li a3, 0
+        li a7, 24
+        ecall
+        li a0, 0
+        jal zero, end
+.segment 0x2000 1
+name:   .word 0x65746f6e
+"""
+
+
+def try_files_in_conflict():
+    """A space that has a file in conflict and returned: explain names its WAIT, which the page has as a call of it."""
+    image = stored("files.img", run(DET, "asm", stored("files.s", FILES.encode()))[1])
+    it = Run("files", image, os.devnull).made()
+    compare_why(it)
+    lines = it.data["why"]["0"]
+    number = int(re.search(r"changed by /:([0-9]+) ", lines[1])[1])
+    same((lines[0], it.data["causes"][it.data["spaces"][0][2]]), ("conflict / file note slot 0", "ret"), "a file in conflict")
+    same([it.data["kinds"][event[2]] for event in it.data["spaces"][0][9] if event[0] == number], ["wait"], "the call that found it")
+    MADE[it.name] = it
+
+
 def refused(status, said, *words):
     """A line, a status, and no file."""
     out = ROOM / "refused.html"
@@ -385,13 +472,24 @@ def refused(status, said, *words):
 
 def try_refusals():
     hello, none = example("hello"), os.devnull
-    refused(4, "det: read fault", ROOM / "nothing.elf", none)
-    refused(2, "det: usage: run|walk|asm|bench", os.fsdecode(b"no \xff text"), none)
+    refused(2, f"sdk/page: image: {ROOM}/nothing.elf: No such file or directory", ROOM / "nothing.elf", none)
+    refused(2, f"sdk/page: image: {ROOM}: Is a directory", ROOM, none)
+    refused(2, f"sdk/page: script: {ROOM}/nothing: No such file or directory", hello, ROOM / "nothing")
+    strange = ROOM / os.fsdecode(b"no \xff text")
+    strange.write_bytes(hello.read_bytes())
+    refused(2, "det: usage: run|walk|asm|bench", strange, none)
     refused(3, "det: image: truncated at 0", stored("short", b"abc"), none)
     refused(3, "det: script: line 2", hello, stored("bad.script", b"in well\nout badly\n"))
-    refused(4, "det: read fault", hello, none, "--source", ROOM / "nothing.s")
+    refused(2, f"sdk/page: source: {ROOM}/nothing.s: No such file or directory", hello, none, "--source", ROOM / "nothing.s")
     refused(3, "det: source: line 1: word", hello, none, "--source", SDK / "tests/lines.c")
     refused(2, "sdk/page: show: /7: the run has no such space", hello, none, "--show", "/7")
+    wrong = example("wrong_number")
+    refused(2, "sdk/page: show: /2:492: the space has 491 events", wrong, none, "--show", "/2:492")
+    refused(2, "sdk/page: show: /2:492: the run has no such event", wrong, none, "--show", "/2:492", "--events", "5")
+    refused(2, "sdk/page: show: /2:492: the run has no such event", wrong, none, "--show", "/2:492", "--traces", "1")
+    refused(2, f"sdk/page: bytes: reslut: {wrong} has no such name", wrong, none, "--show", "/2:1", "--bytes", "reslut")
+    refused(2, "sdk/page: bytes: results:4097: neither PLACE nor PLACE:COUNT, with a COUNT of at most 4096", wrong, none, "--show", "/2:1", "--bytes", "results:4097")
+    refused(2, "sdk/page: bytes: --show names no event", wrong, none, "--show", "/2", "--bytes", "results")
     for words in ([], [hello], ["--limit", "0", hello, none], ["--show", "0", hello, none], ["--why", "-1", hello, none], [hello, none, none]):
         status, _, err = kit("page", *words, "-o", ROOM / "refused.html")
         same((status, b"usage: sdk/page" in err), (2, True), words)
@@ -405,7 +503,11 @@ def try_files_that_cannot_be_written():
         out = ROOM / name
         same(kit("page", *words, "-o", out), (2, b"", f"sdk/page: write: {out}: {said}\n".encode()), out)
     known = stored("known.html", b"known")
-    same((kit("page", ROOM / "nothing.elf", os.devnull, "-o", known)[0], known.read_bytes()), (4, b"known"), "a page that was there before")
+    said = f"sdk/page: write: {known}: File exists: --replace replaces it\n".encode()
+    same((kit("page", *words, "-o", known), known.read_bytes()), ((2, b"", said), b"known"), "a page that was there before")
+    bad = stored("bad.script", b"in well\nout badly\n")
+    same((kit("page", example("hello"), bad, "--replace", "-o", known)[0], known.read_bytes()), (3, b"known"), "a run that is refused")
+    same((kit("page", *words, "--replace", "-o", known), known.read_bytes()[:9]), ((0, b"", b""), b"<!doctype"), "a page that is replaced")
 
 
 def try_no_programs():
@@ -438,14 +540,25 @@ child:  li a7, 3
 
 
 def try_10000_threads():
-    """A page of 10,001 spaces has at most 2 MB, and takes one trace."""
-    image = stored("many.img", run(DET, "asm", stored("many.s", MANY.encode()))[1])
-    it = Run("many", image, os.devnull).made()
+    """A page of 10,001 spaces has at most 2 MB, and takes few traces."""
+    compare_arrows(many("many", MANY))
+
+
+def try_10000_processes():
+    """The same of processes, which are gone once they were waited for: no report tells of them."""
+    many("gone", MANY.replace("a7, 18", "a7, 16").replace("a7, 19", "a7, 17"))
+
+
+def many(name, text):
+    image = stored(f"{name}.img", run(DET, "asm", stored(f"{name}.s", text.encode()))[1])
+    it = Run(name, image, os.devnull).made()
+    same(sum(1 for row in it.data["spaces"] if row[7] & 2) <= 8, True, "the traces")
     same(len(it.data["spaces"]), 10001, "the spaces")
     same(it.out.stat().st_size <= 2000000, True, f"{it.out.stat().st_size} bytes")
-    for compare in (compare_report, compare_steps, compare_arrows):
-        compare(it)
+    compare_report(it)
+    compare_steps(it)
     MADE[it.name] = it
+    return it
 
 
 # ---- In a browser ----

@@ -219,6 +219,7 @@ function begin() {
   drawNow();
   window.onhashchange = goTo;
   document.body.dataset.drawn = `${spaces.length} spaces, ${arrows.length} arrows, ${count} events`;
+  document.body.dataset.red = JSON.stringify(spaces.filter(space => toneOf(space) === "bad").map(space => space.row));
   document.body.dataset.arrows = JSON.stringify(arrows.slice(0, 500).map(({from, start, to, end}) => [from, start, to, end]));
 }
 

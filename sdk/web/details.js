@@ -103,7 +103,32 @@ function about(space) {
     ["copied by", space.copies.length ? space.copies.map(([time, of]) => `copy of ${spaces[of].path} at step ${time} `) : null],
   ];
   const why = space.row in data.why ? [whyBox(space.row)] : isBad(space.cause) && space.isTold ? [make("p", "note", data.whyNote)] : [];
-  return [head, pairs(rows)].concat(why, eventsOf(space));
+  const moment = data.at && data.show[0] === space.row && state.event === data.show[1] ? momentBox(space) : [];
+  return [head, pairs(rows)].concat(moment, why, eventsOf(space));
+}
+
+// The space right after the event that --show names: what the event has changed is bold.
+function momentBox(space) {
+  const head = make("div", "mono"), box = make("div", "moment mono"), before = new Map(data.at.before), from = source(data.at.pc);
+  head.append(data.at.text);
+  if (from) head.append(from);
+  const isMemory = ([name]) => name === "bytes";
+  for (const [name, value] of [...data.at.after.filter(isMemory), ...data.at.after.filter(line => !isMemory(line))]) {
+    const old = before.get(name), one = make("div");
+    if (name === "bytes") momentBytes(one, value);
+    else one.append(name + " ", make(old !== undefined && old !== value ? "b" : "span", "", value));
+    box.append(one);
+  }
+  return [make("h3", "", `At ${space.path}:${state.event}`), head, box];
+}
+
+// A line of memory, in which bytes are bold that were others before the event.
+function momentBytes(box, value) {
+  const [address, ...now] = value.split(" ");
+  const line = data.at.before.find(([name, old]) => name === "bytes" && old.split(" ")[0] === address);
+  const old = line ? line[1].split(" ").slice(1) : now;
+  box.append(address);
+  now.forEach((byte, at) => box.append(" ", byte === old[at] ? byte : make("b", "", byte)));
 }
 
 // The events around the chosen one.

@@ -22,6 +22,9 @@ const rowOf = new Map(spaces.map(space => [space.path, space.row]));
 const isBad = cause => cause !== "" && !WAYS_OUT.includes(cause);
 const tone = cause => cause === "ret" ? "ok" : cause === "fuel" || cause === "limit" ? "warn" : isBad(cause) ? "bad" : "none";
 const isFault = space => isBad(space.cause) || space.row in data.why;
+// How many files of a space are in conflict, as explain why tells it.
+const filesOf = space => (data.why[space.row] || []).filter(line => /^conflict \S+ file /.test(line)).length;
+const toneOf = space => filesOf(space) ? "bad" : tone(space.isTold ? space.cause : "");
 for (const space of spaces) for (const part of space.parts) part.by = part.by < 0 ? null : spaces[space.parent].events[part.by];
 const count = spaces.reduce((sum, space) => sum + space.events.length, 0);
 for (const lines of Object.values(data.why)) for (const line of lines) addNamed(line);
@@ -39,18 +42,27 @@ function stepOf(space, number) {
 // An event that explain why names has a mark, as the store of a byte in conflict.
 function addNamed(line) {
   const found = line.match(/(\/[0-9/]*):([0-9]+) pc ([0-9a-f]{8}) (.*)$/), space = found && spaces[rowOf.get(found[1])], number = found && Number(found[2]);
-  if (!space || space.events.some(event => event.number === number)) return;
-  const time = stepOf(space, number), after = space.events.findIndex(event => event.number > number);
-  const event = {number, time, kind: "named", pc: parseInt(found[3], 16), pages: 0, text: found[4], met: []};
-  if (time !== null) space.events.splice(after < 0 ? space.events.length : after, 0, event);
+  if (space) addEvent(space, number, "named", parseInt(found[3], 16), found[4]);
 }
+
+// An event that is no call has a mark too, if it is named; a call that is named is red.
+function addEvent(space, number, kind, pc, text) {
+  const there = space.events.find(event => event.number === number);
+  if (there) {
+    there.isNamed = there.isNamed || kind === "named";
+    return;
+  }
+  const time = stepOf(space, number), after = space.events.findIndex(event => event.number > number);
+  if (time !== null) space.events.splice(after < 0 ? space.events.length : after, 0, {number, time, kind, pc, pages: 0, text, met: []});
+}
+if (data.at) addEvent(spaces[data.show[0]], data.show[1], "shown", data.at.pc, data.at.text.replace(/^pc [0-9a-f]{8} /, ""));
 
 // An arrow goes from a lane at a step to another lane at a step.
 const arrows = [];
 for (const space of spaces) for (const event of space.events) for (let at = 0; at < event.met.length; at += 2) {
   const child = spaces[event.met[at]], part = child.parts[event.met[at + 1]];
   if (STARTS.includes(event.kind)) arrows.push({kind: "fork", from: space.row, start: event.time, to: child.row, end: part.start});
-  else arrows.push({kind: event.kind === "stops" ? "conflict" : "join", from: child.row, start: part.end, to: space.row, end: event.time});
+  else arrows.push({kind: event.kind === "stops" || event.isNamed && filesOf(space) ? "conflict" : "join", from: child.row, start: part.end, to: space.row, end: event.time});
 }
 for (const space of spaces) for (const [time, of] of space.copies) arrows.push({kind: "fork", from: of, start: time, to: space.row, end: time});
 
@@ -145,7 +157,7 @@ function lane(view, space) {
   const {pen, high} = view, y = view.y(space.row), thick = Math.max(2, Math.min(high > 40 ? 14 : 10, high - 10));
   let at = 0;
   for (const [nth, part] of space.parts.entries()) {
-    const color = colors[isBad(part.cause) ? "bad" : nth === space.parts.length - 1 && tone(part.cause) === "warn" ? "warn" : "run"];
+    const color = colors[isBad(part.cause) || filesOf(space) && nth === space.parts.length - 1 ? "bad" : nth === space.parts.length - 1 && tone(part.cause) === "warn" ? "warn" : "run"];
     let time = part.start, number = part.first - 1;
     const run = (until, reached) => {
       bar(pen, toX(time), toX(Math.min(until, time + reached - number)), y, thick, color);
@@ -179,7 +191,7 @@ function ring(pen, x, y, size, color, isFull) {
 }
 
 function markColor(event) {
-  if (event.kind === "named") return colors.bad;
+  if (event.kind === "named" || event.isNamed) return colors.bad;
   if (event.kind === "stops") return colors[event.goesOn && tone(event.cause) === "warn" ? "quiet" : tone(event.cause)];
   return STARTS.includes(event.kind) ? colors.fork : MEETINGS.includes(event.kind) ? colors.join : colors.quiet;
 }
@@ -212,7 +224,7 @@ function marks(view, space, y) {
 }
 
 function wordOf(event) {
-  if (event.kind === "named") return (event.text.match(/stores [0-9a-f]+/) || ["changes it"])[0].replace(/ 0+(?=.)/, " ");
+  if (event.kind === "named" || event.kind === "shown") return (event.text.match(/stores [0-9a-f]+/) || [event.kind === "shown" ? event.text.split(" ")[0] : "changes it"])[0].replace(/ 0+(?=.)/, " ");
   return event.kind === "stops" ? event.cause : event.kind + (event.met.length === 2 ? " " + spaces[event.met[0]].number : "");
 }
 
@@ -307,8 +319,8 @@ function label(space, high, y) {
   line.setAttribute("aria-selected", String(state.chosen === space.row));
   line.style.cssText = `top:${y}px;height:${high}px;line-height:${high}px;font-size:${high < 20 ? 9 : 13}px`;
   const worth = isBad(space.cause) || parseInt(space.value, 16) ? " 0x" + space.value.replace(/^0+(?=.)/, "") : "";
-  const said = space.isTold ? space.cause + worth : "gone";
-  const cause = make("span", "dot " + tone(space.isTold ? space.cause : ""), said);
+  const said = space.isTold ? space.cause + worth + (filesOf(space) ? ", file conflict" : "") : "gone";
+  const cause = make("span", "dot " + toneOf(space), said);
   line.append(name, cause, make("span", "", space.used < 0 ? "" : short(space.used)), make("span", "", space.pages < 0 ? "" : String(space.pages)));
   line.onclick = () => choose(space.row, null);
   return line;
