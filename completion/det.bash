@@ -23,6 +23,8 @@ _det_words() {
 
 _det() {
     local word=${COMP_WORDS[COMP_CWORD]} program=${COMP_WORDS[0]##*/} commands
+    # A release calls explain det-explain.
+    program=${program#det-}
     case "$program" in
         explain) commands="at trace why --help --version" ;;
         *) commands="run walk asm bench" ;;
@@ -34,4 +36,4 @@ _det() {
     fi
 }
 
-complete -o filenames -F _det det explain
+complete -o filenames -F _det det explain det-explain
